@@ -1,0 +1,1 @@
+"""The oracle and the reference led through the same lists of calls, and compared."""

@@ -1,0 +1,2 @@
+pub mod Bep3Laws
+pub mod Bep3Cases

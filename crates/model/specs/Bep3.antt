@@ -1,0 +1,91 @@
+-- The geometry of a torrent and the order of the bits in a bitfield, as BEP 3 has them.
+-- Lengths and places are in bytes. `total` is the torrent's length, `size` the length of a whole piece; `i` is a piece, `j` a block of it.
+use Prim.Native.Nat.{ℕ, zero, suc, _+_, _-_, _*_, _/_, _%_, _^_, _≤_, _<_, min}
+use mathlib.Core.Bool.{Bool, true, false, not, _&&_}
+use mathlib.Core.List.{List, [], _∷_}
+use lib.ListN.{length, getD}
+use lib.Dec.{eqb}
+
+-- ---- a length cut into parts of one length, the last one shorter where the length is no multiple
+-- how many parts: the quotient rounded up
+unfoldable pub partsOf : ℕ → ℕ → ℕ
+partsOf whole part = (whole + part - 1) / part
+
+-- the length of part k: the lesser of a part and what is left
+unfoldable pub partLength : ℕ → ℕ → ℕ → ℕ
+partLength whole part k = min part (whole - k * part)
+
+-- f 0 + .. + f (n - 1)
+unfoldable pub sumTo : ℕ → (ℕ → ℕ) → ℕ
+sumTo zero f = 0
+sumTo (suc n) f = sumTo n f + f n
+
+-- ---- pieces
+-- the number of pieces
+unfoldable pub numPieces : ℕ → ℕ → ℕ
+numPieces total size = partsOf total size
+
+-- the length of piece i
+unfoldable pub pieceLength : ℕ → ℕ → ℕ → ℕ
+pieceLength total size i = partLength total size i
+
+-- ---- blocks
+-- the length of a whole block: 2^14, or the piece length if that is smaller
+unfoldable pub blockLength : ℕ → ℕ
+blockLength size = min 16384 size
+
+-- the number of blocks in a piece of `long` bytes
+unfoldable pub blocksIn : ℕ → ℕ → ℕ
+blocksIn long size = partsOf long (blockLength size)
+
+-- where block j starts in its piece
+unfoldable pub blockStart : ℕ → ℕ → ℕ
+blockStart size j = j * blockLength size
+
+-- the length of block j of piece i
+unfoldable pub blockLengthAt : ℕ → ℕ → ℕ → ℕ → ℕ
+blockLengthAt total size i j = partLength (pieceLength total size i) (blockLength size) j
+
+-- the number of blocks in a whole piece
+unfoldable pub blocksPerPiece : ℕ → ℕ
+blocksPerPiece size = blocksIn size size
+
+-- the number of blocks in piece i
+unfoldable pub blocksInPiece : ℕ → ℕ → ℕ → ℕ
+blocksInPiece total size i = blocksIn (pieceLength total size i) size
+
+-- ---- the bytes of the torrent
+-- byte number x of the torrent lies in block j of piece i
+pub record InBlock (total size x i j : ℕ) : Type 0 where
+  pub from : i * size + blockStart size j ≤ x
+  pub below : x < i * size + blockStart size j + blockLengthAt total size i j
+
+-- the piece of byte number x
+unfoldable pub pieceOfByte : ℕ → ℕ → ℕ
+pieceOfByte size x = x / size
+
+-- the block of byte number x in its piece
+unfoldable pub blockOfByte : ℕ → ℕ → ℕ
+blockOfByte size x = x % size / blockLength size
+
+-- ---- bitfields
+-- the number of bytes that hold so many bits
+unfoldable pub bitfieldBytes : ℕ → ℕ
+bitfieldBytes bits = partsOf bits 8
+
+-- bit k of a byte, counted from the lowest
+unfoldable pub bitOf : ℕ → ℕ → Bool
+bitOf byte k = eqb (byte / 2 ^ k % 2) 1
+
+-- bit i of a bitfield: the high bit of the first byte is bit 0; past the end no bit is set
+unfoldable pub bitAt : List ℕ → ℕ → Bool
+bitAt bytes i = bitOf (getD bytes (i / 8) 0) (7 - i % 8)
+
+-- none of the n bits from i on is set
+unfoldable pub noneSet : List ℕ → ℕ → ℕ → Bool
+noneSet bytes i zero = true
+noneSet bytes i (suc n) = not (bitAt bytes i) && noneSet bytes (suc i) n
+
+-- every bit from number `bits` to the end of the bytes is 0
+unfoldable pub spareZero : ℕ → List ℕ → Bool
+spareZero bits bytes = noneSet bytes bits (8 * length bytes - bits)

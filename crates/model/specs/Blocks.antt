@@ -1,0 +1,374 @@
+-- Blocks for a pick: which pieces may be picked, the run around a piece, and what a piece adds to the pick. Assumes nothing.
+use Prim.Native.Nat.{ℕ, zero, suc, _+_, _-_, _*_, _/_, _%_}
+use mathlib.Core.Bool.{Bool, true, false, cond, not, _&&_, _||_}
+use mathlib.Core.List.{List, [], _∷_, _++_}
+use mathlib.Core.Option.{Option, none, some}
+use lib.ListN.{take, drop, replicate}
+use lib.Dec.{eqb, ltb, leb}
+use Rattle.types.specs.declared.queue.DownloadQueue.the-variants.{Downloading}
+use Rattle.types.specs.declared.block.BlockState.the-variants.{None, Requested}
+use Rattle.types.specs.Queue.{plainOf}
+use Rattle.types.specs.Bits.{meets, union}
+use Rattle.model.specs.Lists.{least, from, range, filter, each, some?, at, put, size, unless, onlyIf, walk, walkUntil}
+use Rattle.model.specs.Bep3.{bitAt}
+use Rattle.model.specs.State.{Piece, Block, Partial, Picker, mostPieces, sameQueue, isOpen, sameState, samePeer, somebody, pieceAt, piecesIn, blocksPer, payloadAt}
+use Rattle.model.specs.Options.{onParole, prioritizePartials, alignExpandedPieces}
+use Rattle.model.specs.Partials.{partialOf, blockAt}
+
+-- ---- what a pick is asked
+-- `run` is document 01's P, the blocks wanted in a row; `bits` and `bytes` are the peer's bitfield
+pub record Ask : Type 0 where
+  pub options : ℕ
+  pub wanted : ℕ
+  pub run : ℕ
+  pub peers : ℕ
+  pub peer : Option ℕ
+  pub bits : ℕ
+  pub bytes : List ℕ
+  pub suggestions : List ℕ
+
+unfoldable pub option : ℕ → Ask → Bool
+option f a = meets (a .options) f
+
+-- the peer has piece i
+unfoldable pub hasBit : Ask → ℕ → Bool
+hasBit a i = ltb i (a .bits) && bitAt (a .bytes) i
+
+-- ---- what a pick has come to
+-- a run and the blocks that went towards it. The Rust keeps the difference, which may fall below 0
+pub record Run : Type 0 where
+  pub asked : ℕ
+  pub given : ℕ
+
+pub record PieceBlock : Type 0 where
+  pub piece : ℕ
+  pub block : ℕ
+
+-- `left` are the blocks still wanted: of a difference below 0 the Rust only asks whether it is 0 or less.
+-- `ignored` has a mark for each of 4,096 pieces, `backup` the blocks set aside
+pub record Work : Type 0 where
+  pub picker : Picker
+  pub used : ℕ
+  pub left : ℕ
+  pub run : Run
+  pub out : List PieceBlock
+  pub backup : List PieceBlock
+  pub ignored : List Bool
+  pub flags : ℕ
+  pub loops : List ℕ
+
+unfoldable pub begin : Picker → Ask → Work
+begin s a =
+    record {
+      picker = s;
+      used = 0;
+      left = a .wanted;
+      run = record { asked = a .run; given = 0 };
+      out = [];
+      backup = [];
+      ignored = replicate mostPieces false;
+      flags = 0;
+      loops = replicate 7 0;
+    }
+
+unfoldable pub spent : Work → Bool
+spent w = eqb (w .left) 0
+
+-- ---- a field changed
+unfoldable pub withOut : ℕ → Run → List PieceBlock → Work → Work
+withOut n r bs w =
+    record {
+      picker = w .picker;
+      used = w .used;
+      left = n;
+      run = r;
+      out = bs;
+      backup = w .backup;
+      ignored = w .ignored;
+      flags = w .flags;
+      loops = w .loops;
+    }
+
+unfoldable pub withRun : Run → Work → Work
+withRun r w = withOut (w .left) r (w .out) w
+
+unfoldable pub withBackup : List PieceBlock → Work → Work
+withBackup bs w =
+    record {
+      picker = w .picker;
+      used = w .used;
+      left = w .left;
+      run = w .run;
+      out = w .out;
+      backup = bs;
+      ignored = w .ignored;
+      flags = w .flags;
+      loops = w .loops;
+    }
+
+unfoldable pub withPicker : Picker → ℕ → Work → Work
+withPicker s t w =
+    record {
+      picker = s;
+      used = t;
+      left = w .left;
+      run = w .run;
+      out = w .out;
+      backup = w .backup;
+      ignored = w .ignored;
+      flags = w .flags;
+      loops = w .loops;
+    }
+
+-- piece i is ignored from here on
+unfoldable pub ignore : ℕ → Work → Work
+ignore i w =
+    record {
+      picker = w .picker;
+      used = w .used;
+      left = w .left;
+      run = w .run;
+      out = w .out;
+      backup = w .backup;
+      ignored = put i true (w .ignored);
+      flags = w .flags;
+      loops = w .loops;
+    }
+
+unfoldable pub flagged : ℕ → Work → Work
+flagged f w =
+    record {
+      picker = w .picker;
+      used = w .used;
+      left = w .left;
+      run = w .run;
+      out = w .out;
+      backup = w .backup;
+      ignored = w .ignored;
+      flags = union (w .flags) f;
+      loops = w .loops;
+    }
+
+-- n steps more on a counter
+unfoldable pub steps : ℕ → ℕ → Work → Work
+steps n counter w =
+    record {
+      picker = w .picker;
+      used = w .used;
+      left = w .left;
+      run = w .run;
+      out = w .out;
+      backup = w .backup;
+      ignored = w .ignored;
+      flags = w .flags;
+      loops = put counter (at 0 (w .loops) counter + n) (w .loops);
+    }
+
+unfoldable pub isIgnored : ℕ → Work → Bool
+isIgnored i w = at false (w .ignored) i
+
+-- ---- runs
+unfoldable pub runIsZero : Run → Bool
+runIsZero r = eqb (r .asked) (r .given)
+
+-- more than n are left of the run
+unfoldable pub runAbove : ℕ → Run → Bool
+runAbove n r = ltb (r .given + n) (r .asked)
+
+unfoldable pub shorter : Run → Run
+shorter r = record { asked = r .asked; given = suc (r .given) }
+
+-- pieces of b blocks that hold the run; none below 0, since it falls by less than b
+unfoldable pub wholePieces : ℕ → Run → ℕ
+wholePieces b r = (r .asked - r .given + b - 1) / b
+
+-- ---- which pieces
+-- the peer has it, it is not had, and it is wished for
+unfoldable pub isFree : Ask → Picker → ℕ → Bool
+isFree a s i = hasBit a i && (not (pieceAt s i .had) && not (eqb (pieceAt s i .wish) 0))
+
+unfoldable pub canPick : Ask → Picker → ℕ → Bool
+canPick a s i = isFree a s i && isOpen (pieceAt s i .state)
+
+-- down from piece i, by n at most, while pieces can be picked
+unfoldable pub downBy : Ask → Picker → ℕ → ℕ → ℕ
+downBy a s zero i = i
+downBy a s (suc n) i = cond (canPick a s (i - 1)) (downBy a s n (i - 1)) i
+
+-- up from piece k, by n at most
+unfoldable pub upBy : Ask → Picker → ℕ → ℕ → ℕ
+upBy a s zero k = k
+upBy a s (suc n) k = cond (canPick a s k) (upBy a s n (suc k)) k
+
+-- the pieces from `first` to `end`, without the end
+pub record Span : Type 0 where
+  pub first : ℕ
+  pub end : ℕ
+
+unfoldable pub alone : ℕ → Span
+alone i = record { first = i; end = suc i }
+
+-- the lowest piece that a run of n pieces around piece i may start at
+unfoldable pub lowestStart : Ask → ℕ → ℕ → ℕ
+lowestStart a i n = cond (option alignExpandedPieces a) (i - i % n) (suc i - n)
+
+unfoldable pub spanFrom : Ask → Picker → ℕ → ℕ → ℕ → ℕ → Span
+spanFrom a s i n lowest first =
+    let end = least (cond (option alignExpandedPieces a) lowest first + n) (piecesIn s) in
+    record { first = first; end = upBy a s (end - suc i) (suc i) }
+
+-- a run of n pieces around piece i, as far as pieces can be picked; of no pieces, the piece alone
+unfoldable pub spanOf : Ask → Picker → ℕ → ℕ → Span
+spanOf a s i zero = alone i
+spanOf a s i (suc n) =
+    let lowest = lowestStart a i (suc n) in
+    spanFrom a s i (suc n) lowest (downBy a s (i - lowest) i)
+
+unfoldable pub expandPiece : Ask → ℕ → Work → Span
+expandPiece a i w = spanOf a (w .picker) i (wholePieces (blocksPer (w .picker)) (w .run))
+
+unfoldable pub piecesOf : Span → List ℕ
+piecesOf x = range (x .first) (x .end)
+
+-- ---- blocks taken
+unfoldable pub pieceBlock : ℕ → ℕ → PieceBlock
+pieceBlock i j = record { piece = i; block = j }
+
+-- block j of piece i, towards the run
+unfoldable pub took : ℕ → ℕ → Work → Work
+took i j w = withOut (w .left - 1) (shorter (w .run)) (w .out ++ (pieceBlock i j ∷ [])) w
+
+-- the same, past the run
+unfoldable pub tookPast : ℕ → ℕ → Work → Work
+tookPast i j w = withOut (w .left - 1) (w .run) (w .out ++ (pieceBlock i j ∷ [])) w
+
+-- exactly the run has been given, and no block is wanted
+unfoldable pub runMet : Work → Bool
+runMet w = runIsZero (w .run) && spent w
+
+-- the same, or more than the run
+unfoldable pub runOver : Work → Bool
+runOver w = not (runAbove 0 (w .run)) && spent w
+
+-- the first n blocks of piece i, up to where `ends` holds
+unfoldable pub takePiece : (Work → Bool) → ℕ → ℕ → Work → Work
+takePiece ends i n w = walk (took i) ends (from 0 n) w
+
+-- a piece of a run: an ignored one only shortens it; another is ignored from here on, and its blocks are taken
+unfoldable pub runStep : (ℕ → Work → Work) → ℕ → Work → Work
+runStep takes k w = cond (isIgnored k w) (withRun (shorter (w .run)) w) (takes k (ignore k w))
+
+-- at an ignored piece the run may end
+unfoldable pub runHalt : ℕ → Work → Bool
+runHalt k w = isIgnored k w && runMet (withRun (shorter (w .run)) w)
+
+unfoldable pub takeRun : (ℕ → Work → Work) → List ℕ → Work → Work
+takeRun takes ks w = walkUntil (runStep takes) runHalt ks w
+
+-- ---- new pieces
+unfoldable pub takePayload : ℕ → Work → Work
+takePayload k w = takePiece runMet k (payloadAt (w .picker) k) w
+
+-- blocks of an Open piece: without a run as many as are wanted, else the whole run around it
+unfoldable pub addNewPiece : Ask → ℕ → Work → Work
+addNewPiece a i w =
+    cond (runIsZero (w .run))
+    (takePiece (λ t. false) i (least (payloadAt (w .picker) i) (w .left)) w)
+    (takeRun takePayload (piecesOf (expandPiece a i w)) w)
+
+-- ---- partials
+-- who works on a partial: `exclusive`, only this peer; `active`, another peer has a request; the longest run of free blocks, and its start
+pub record Held : Type 0 where
+  pub exclusive : Bool
+  pub active : Bool
+  pub longest : ℕ
+  pub first : ℕ
+
+-- the longest run of free blocks from block j on, where `now` free ones stand before j; the first of equals
+pub record Stretch : Type 0 where
+  pub longest : ℕ
+  pub first : ℕ
+
+unfoldable pub longer : ℕ → ℕ → Stretch → Stretch
+longer j now x = cond (ltb (x .longest) now) (record { longest = now; first = j - now }) x
+
+unfoldable pub longestFree : ℕ → ℕ → Stretch → List Block → Stretch
+longestFree j now x [] = longer j now x
+longestFree j now x (b ∷ bs) =
+    cond (sameState (b .state) None) (longestFree (suc j) (suc now) x bs) (longestFree (suc j) 0 (longer j now x) bs)
+
+-- a block at work that another peer value holds
+unfoldable pub byAnother : Option ℕ → Block → Bool
+byAnother peer b = not (sameState (b .state) None) && not (samePeer (b .peer) peer)
+
+unfoldable pub requestedFrom : Option ℕ → Partial → Held
+requestedFrom peer d =
+    let x = longestFree 0 0 (record { longest = 0; first = 0 }) (d .blocks) in
+    record {
+      exclusive = not (some? (byAnother peer) (d .blocks));
+      active = some? (λ b. byAnother peer b && (sameState (b .state) Requested && somebody (b .peer))) (d .blocks);
+      longest = x .longest;
+      first = x .first;
+    }
+
+-- the free blocks, from `first` round the piece
+unfoldable pub freeFrom : Partial → ℕ → List ℕ
+freeFrom d first =
+    filter (λ j. sameState (blockAt d j .state) None) (each (λ k. (k + first) % size (d .blocks)) (from 0 (size (d .blocks))))
+
+-- the free blocks kept as backup, unless as many as are wanted are there already
+unfoldable pub setAside : Partial → ℕ → Work → Work
+setAside d first w =
+    cond (leb (w .left) (size (w .backup))) w
+    (withBackup (w .backup ++ each (pieceBlock (d .piece)) (freeFrom d first)) w)
+
+-- a free block taken: towards the run while it lasts
+unfoldable pub freeStep : ℕ → ℕ → Work → Work
+freeStep i j w = cond (runAbove 0 (w .run)) (took i j w) (tookPast i j w)
+
+-- past the run the last wanted block ends it
+unfoldable pub freeHalt : ℕ → ℕ → Work → Bool
+freeHalt i j w = not (runAbove 0 (w .run)) && spent (tookPast i j w)
+
+unfoldable pub takeFree : Partial → ℕ → Work → Work
+takeFree d first w = walkUntil (freeStep (d .piece)) (freeHalt (d .piece)) (freeFrom d first) w
+
+-- the pick's own run stays as it is
+unfoldable pub keepingRun : (Work → Work) → Work → Work
+keepingRun f w = withRun (w .run) (f w)
+
+-- set aside where the run does not fit and another peer is at work; else taken
+unfoldable pub useFree : Ask → Partial → Held → Work → Work
+useFree a d h w =
+    let first = cond (runIsZero (w .run)) 0 (h .first) in
+    cond (runAbove (h .longest) (w .run) && (h .active && not (option onParole a))) (setAside d first w)
+    (keepingRun (takeFree d first) w)
+
+-- what a partial adds: none that the peer lacks, that is locked or, on parole, that another touched
+unfoldable pub addBlocksDownloading : Ask → Partial → Work → Work
+addBlocksDownloading a d w =
+    let h = requestedFrom (a .peer) d in
+    onlyIf (hasBit a (d .piece) && (not (d .locked) && (not (option onParole a) || h .exclusive))) (useFree a d h) w
+
+-- ---- a piece
+unfoldable pub addPartialOf : Ask → Option Partial → Work → Work
+addPartialOf a none w = w
+addPartialOf a (some d) w = addBlocksDownloading a d w
+
+-- partials were walked before under PRIORITIZE_PARTIALS
+unfoldable pub addStanding : Ask → ℕ → Work → Work
+addStanding a i w = unless (option prioritizePartials a) (addPartialOf a (partialOf (w .picker) i)) w
+
+-- what piece i adds: Open or Downloading, and not ignored
+unfoldable pub addBlocks : Ask → ℕ → Work → Work
+addBlocks a i w =
+    let q = pieceAt (w .picker) i .state in
+    unless (isIgnored i w)
+    (λ t. onlyIf (isOpen q) (keepingRun (addNewPiece a i)) (onlyIf (sameQueue (plainOf q) Downloading) (addStanding a i) t)) w
+
+-- ---- backup blocks
+-- as many as are wanted of the blocks set aside
+unfoldable pub appendBackup : Work → Work
+appendBackup w =
+    let n = least (size (w .backup)) (w .left) in
+    withBackup (drop n (w .backup)) (withOut (w .left - n) (w .run) (w .out ++ take n (w .backup)) w)

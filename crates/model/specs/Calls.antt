@@ -1,0 +1,223 @@
+-- Calls: every question, change and pick with all that is lent to it, the refusals in the table's order, a step, and lists of calls.
+-- Assumes nothing.
+use Prim.Native.Nat.{ℕ, zero, suc, _+_, _-_, _*_, _%_, _^_}
+use mathlib.Core.Bool.{Bool, true, false, cond, not, _&&_, _||_}
+use mathlib.Core.List.{List, [], _∷_, _++_}
+use mathlib.Core.Option.{Option, none, some}
+use lib.Dec.{eqb, ltb, leb}
+use Rattle.types.specs.declared.block.BlockState.the-variants.{Requested}
+use Rattle.model.specs.Lists.{least, some?, size}
+use Rattle.model.specs.Bep3.{bitfieldBytes}
+use Rattle.model.specs.State.{Piece, Block, Partial, Picker, Listing, stale, fresh, mostPeers, mostPartials, leastDraws, isOpen, sameState, validGeometry, new, pieceAt, piecesIn, blocksPer, blocksAt}
+use Rattle.model.specs.Options.{rarestFirst, sequential}
+use Rattle.model.specs.Order.{Led, led, on}
+use Rattle.model.specs.Partials.{partialOf}
+use Rattle.model.specs.Changes.{Change, quietly, incRefcount, decRefcount, incRefcountAll, decRefcountAll, setPiecePriority, markAsDownloading, markAsWriting, markAsFinished, abortDownload, lockPiece, piecePassed, received}
+use Rattle.model.specs.Questions.{ListOfPicker, get-availability-vec, piece-priorities, get-download-queue, Question, ofPicker, listOfPicker, ofPiece, listOfPiece, ofBlock, partial-at, recent-extent, list-place, Told, blockOf, blockTest, ask}
+use Rattle.model.specs.Blocks.{Ask, option, PieceBlock, Work}
+use Rattle.model.specs.Pick.{pickPieces}
+use Rattle.model.specs.Image.{image, Read, accepted, faultAt, readImage}
+
+-- ---- calls
+-- what a call does, with its arguments; `draws` are the lent words, `free` the output places that a pick finds free
+pub data Action : Type 0 where
+  question : Question → Action
+  inc-refcount dec-refcount : (piece : ℕ) → (draws : List ℕ) → Action
+  inc-refcount-all dec-refcount-all : Action
+  set-piece-priority : (piece wish : ℕ) → (draws : List ℕ) → Action
+  mark-as-downloading : (piece block : ℕ) → (peer : Option ℕ) → (options : ℕ) → (draws : List ℕ) → Action
+  mark-as-writing mark-as-finished abort-download : (piece block : ℕ) → (peer : Option ℕ) → (draws : List ℕ) → Action
+  lock-piece piece-passed : (piece : ℕ) → Action
+  pick-pieces : Ask → (free : ℕ) → (draws : List ℕ) → Action
+
+-- `lent` are the words of memory that the picker stands in
+pub record Call : Type 0 where
+  pub lent : ℕ
+  pub action : Action
+
+-- the table's number; a change done, or answered true or false, with the draws used; what a question is told; what a pick gives
+pub data Answer : Type 0 where
+  refused : ℕ → Answer
+  done : (used : ℕ) → Answer
+  said : Bool → (used : ℕ) → Answer
+  told : Told → Answer
+  picked : List PieceBlock → (flags : ℕ) → (loops : List ℕ) → (used : ℕ) → Answer
+
+-- ---- needs
+-- words of memory for a picker of n pieces of b blocks: a head, six fields of a piece, three of a partial and four of a block
+unfoldable pub wordsNeeded : ℕ → ℕ → ℕ
+wordsNeeded n b = 16 + 6 * n + least n mostPartials * (3 + 4 * b)
+
+unfoldable pub memoryNeeded : Picker → ℕ
+memoryNeeded s = wordsNeeded (piecesIn s) (blocksPer s)
+
+-- records of an answer
+unfoldable pub recordsNeeded : Picker → ListOfPicker → ℕ
+recordsNeeded s get-availability-vec = piecesIn s
+recordsNeeded s piece-priorities = piecesIn s
+recordsNeeded s get-download-queue = least (piecesIn s) mostPartials
+
+-- ---- refusals: the first of the table that holds
+unfoldable pub check : Bool → ℕ → Option ℕ → Option ℕ
+check true n r = some n
+check false n r = r
+
+unfoldable pub fewDraws : List ℕ → Option ℕ → Option ℕ
+fewDraws ds r = check (ltb (size ds) leastDraws) 4 r
+
+unfoldable pub noPiece : Picker → ℕ → Option ℕ → Option ℕ
+noPiece s i r = check (leb (piecesIn s) i) 5 r
+
+unfoldable pub noBlock : Picker → ℕ → ℕ → Option ℕ → Option ℕ
+noBlock s i j r = noPiece s i (check (leb (blocksAt s i) j) 5 r)
+
+-- no more peers of a piece, or requesters of a block
+unfoldable pub countFull : Picker → Piece → Bool
+countFull s p = leb mostPeers (p .count + s .seeds)
+
+unfoldable pub requestersFull : Block → Bool
+requestersFull b = not (received b) && leb mostPeers (b .requesters)
+
+unfoldable pub blockThere : Picker → ℕ → ℕ → Option Block
+blockThere s i j = blockOf (partialOf s i) j
+
+-- a partial more than may stand would be opened
+unfoldable pub noPartialLeft : Picker → ℕ → Bool
+noPartialLeft s i = isOpen (pieceAt s i .state) && (not (pieceAt s i .had) && leb mostPartials (size (s .partials)))
+
+unfoldable pub noPlace : Listing → ℕ → Bool
+noPlace stale k = false
+noPlace (fresh l) k = leb (size l) k
+
+unfoldable pub questionRefusal : Picker → Question → Option ℕ
+questionRefusal s (ofPicker q) = none
+questionRefusal s (listOfPicker q room) = check (ltb room (recordsNeeded s q)) 2 none
+questionRefusal s (ofPiece q i) = noPiece s i none
+questionRefusal s (listOfPiece q i room) = check (ltb room (blocksPer s)) 2 (noPiece s i none)
+questionRefusal s (ofBlock q i j) = noBlock s i j none
+questionRefusal s (partial-at k) = none
+questionRefusal s (recent-extent k) = none
+questionRefusal s (list-place k) = check (noPlace (s .listing) k) 5 none
+
+-- the bitfield has a bit for each piece, and the bytes that they need
+unfoldable pub bitfieldFits : Picker → Ask → Bool
+bitfieldFits s a = eqb (a .bits) (piecesIn s) && eqb (size (a .bytes)) (bitfieldBytes (a .bits))
+
+unfoldable pub askFits : Picker → Ask → Bool
+askFits s a =
+    leb 1 (a .wanted)
+    && (leb (a .wanted) 2048
+    && (leb (a .run) 2048
+    && (leb (a .peers) 1000
+    && (leb (size (a .suggestions)) 256 && (not (option rarestFirst a && option sequential a) && bitfieldFits s a)))))
+
+unfoldable pub refusal : Picker → Action → Option ℕ
+refusal s (question q) = questionRefusal s q
+refusal s (inc-refcount i ds) = fewDraws ds (noPiece s i (check (countFull s (pieceAt s i)) 6 none))
+refusal s (dec-refcount i ds) = fewDraws ds (noPiece s i (check (eqb (s .seeds) 0 && eqb (pieceAt s i .count) 0) 7 none))
+refusal s inc-refcount-all = check (some? (countFull s) (s .pieces)) 6 none
+refusal s dec-refcount-all = check (eqb (s .seeds) 0 && some? (λ p. eqb (p .count) 0) (s .pieces)) 7 none
+refusal s (set-piece-priority i wish ds) = fewDraws ds (noPiece s i (check (ltb 7 wish) 5 none))
+refusal s (mark-as-downloading i j peer options ds) =
+    fewDraws ds
+    (noBlock s i j
+    (check (blockTest requestersFull (blockThere s i j)) 6 (check (pieceAt s i .had) 8 (check (noPartialLeft s i) 10 none))))
+refusal s (mark-as-writing i j peer ds) = fewDraws ds (noBlock s i j (check (noPartialLeft s i) 10 none))
+refusal s (mark-as-finished i j peer ds) =
+    fewDraws ds
+    (noBlock s i j
+    (check (blockTest (λ b. sameState (b .state) Requested) (blockThere s i j)) 9 (check (noPartialLeft s i) 10 none)))
+refusal s (abort-download i j peer ds) = fewDraws ds (noBlock s i j none)
+refusal s (lock-piece i) = noPiece s i none
+refusal s (piece-passed i) = noPiece s i none
+refusal s (pick-pieces a free ds) =
+    fewDraws ds (check (not (askFits s a)) 11 (check (ltb free (a .wanted + a .run + 255)) 12 none))
+
+-- ---- a step
+pub record Step : Type 0 where
+  pub answer : Answer
+  pub after : Picker
+
+unfoldable pub answering : Answer → Picker → Step
+answering a s = record { answer = a; after = s }
+
+unfoldable pub changeAnswer : Option Bool → ℕ → Answer
+changeAnswer none n = done n
+changeAnswer (some b) n = said b n
+
+unfoldable pub changing : Change → Step
+changing c = answering (changeAnswer (c .answer) (c .after .used)) (c .after .picker)
+
+-- a change that answers nothing
+unfoldable pub doing : Led → Step
+doing w = changing (quietly w)
+
+-- a lent peer is a number of 64 bits
+unfoldable pub lentPeer : Option ℕ → Option ℕ
+lentPeer none = none
+lentPeer (some n) = some (n % 2 ^ 64)
+
+unfoldable pub picking : Work → Step
+picking w = answering (picked (w .out) (w .flags) (w .loops) (w .used)) (w .picker)
+
+-- what a call does that is not refused
+unfoldable pub act : Picker → Action → Step
+act s (question q) = answering (told (ask s q)) s
+act s (inc-refcount i ds) = doing (incRefcount ds i (led 0 s))
+act s (dec-refcount i ds) = doing (decRefcount ds i (led 0 s))
+act s inc-refcount-all = doing (led 0 (incRefcountAll s))
+act s dec-refcount-all = doing (led 0 (decRefcountAll s))
+act s (set-piece-priority i wish ds) = changing (setPiecePriority ds i wish (led 0 s))
+act s (mark-as-downloading i j peer options ds) = changing (markAsDownloading ds i j (lentPeer peer) options (led 0 s))
+act s (mark-as-writing i j peer ds) = changing (markAsWriting ds i j (lentPeer peer) (led 0 s))
+act s (mark-as-finished i j peer ds) = doing (markAsFinished ds i j (lentPeer peer) (led 0 s))
+act s (abort-download i j peer ds) = doing (abortDownload ds i j (lentPeer peer) (led 0 s))
+act s (lock-piece i) = doing (led 0 (lockPiece i s))
+act s (piece-passed i) = doing (led 0 (piecePassed i s))
+act s (pick-pieces a free ds) = picking (pickPieces ds s a)
+
+-- refused, the picker stays as it is
+unfoldable pub unlessRefused : Option ℕ → Picker → Action → Step
+unlessRefused none s a = act s a
+unlessRefused (some n) s a = answering (refused n) s
+
+unfoldable pub step : Picker → Call → Step
+step s c = unlessRefused (check (ltb (c .lent) (memoryNeeded s)) 2 (refusal s (c .action))) s (c .action)
+
+-- ---- lists of calls
+unfoldable pub answers : Picker → List Call → List Answer
+answers s [] = []
+answers s (c ∷ cs) = step s c .answer ∷ answers (step s c .after) cs
+
+unfoldable pub run : Picker → List Call → Picker
+run s [] = s
+run s (c ∷ cs) = run (step s c .after) cs
+
+-- ---- calls that make a picker, and the one that takes its image
+-- a picker, or the table's number with, for 13, the place of the fault
+pub data Made : Type 0 where
+  made : Picker → Made
+  notMade : (number : ℕ) → (place : Option ℕ) → Made
+
+unfoldable pub within : ℕ → Picker → Made
+within lent s = cond (ltb lent (memoryNeeded s)) (notMade 2 none) (made s)
+
+unfoldable pub newPicker : ℕ → ℕ → ℕ → Made
+newPicker lent total size = cond (validGeometry total size) (within lent (new total size)) (notMade 1 none)
+
+unfoldable pub readWithin : ℕ → Read Picker → Made
+readWithin lent (accepted s) = within lent s
+readWithin lent (faultAt k) = notMade 13 (some k)
+
+-- a reader of bytes looks at them before it looks at the memory
+unfoldable pub readPicker : ℕ → List ℕ → Made
+readPicker lent bs = readWithin lent (readImage bs)
+
+-- the image, or the table's number
+pub data Taken : Type 0 where
+  taken : List ℕ → Taken
+  notTaken : ℕ → Taken
+
+unfoldable pub takeImage : Picker → ℕ → ℕ → Taken
+takeImage s lent room =
+    cond (ltb lent (memoryNeeded s)) (notTaken 2) (cond (ltb room (size (image s))) (notTaken 2) (taken (image s)))

@@ -1,0 +1,16 @@
+pub mod Lists
+pub mod Bep3
+pub mod State
+pub mod Options
+pub mod Order
+pub mod Partials
+pub mod Changes
+pub mod Questions
+pub mod Blocks
+pub mod Pick
+pub mod Listed
+pub mod WellFormed
+pub mod Sound
+pub mod Image
+pub mod Calls
+pub mod Program

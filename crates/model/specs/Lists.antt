@@ -1,0 +1,126 @@
+-- Lists: what the definitions need beyond the library. Assumes nothing.
+use Prim.Native.Nat.{ℕ, zero, suc, _+_, _-_}
+use mathlib.Core.Bool.{Bool, true, false, cond, not, _&&_, _||_}
+use mathlib.Core.List.{List, [], _∷_, _++_}
+use lib.ListN.{length, getD, set, take, drop}
+use lib.Dec.{eqb, ltb, leb}
+
+-- 1 for a test that passes, 0 for one that does not
+abbrev pub bit : Bool → ℕ
+bit true = 1
+bit false = 0
+
+-- the lesser and the greater of two numbers
+unfoldable pub least : ℕ → ℕ → ℕ
+least a b = cond (leb a b) a b
+
+unfoldable pub most : ℕ → ℕ → ℕ
+most a b = cond (leb a b) b a
+
+-- n numbers, from k on
+unfoldable pub from : ℕ → ℕ → List ℕ
+from k zero = []
+from k (suc n) = k ∷ from (suc k) n
+
+-- the numbers from k up to and without `end`
+unfoldable pub range : ℕ → ℕ → List ℕ
+range k end = from k (end - k)
+
+-- the same numbers, the last one first
+unfoldable pub rangeDown : ℕ → ℕ → List ℕ
+rangeDown k zero = []
+rangeDown k (suc end) = cond (leb k end) (end ∷ rangeDown k end) []
+
+module _ {A : Type 0} where
+  -- how many pass the test
+  unfoldable pub tally : (A → Bool) → List A → ℕ
+  tally t [] = 0
+  tally t (x ∷ xs) = bit (t x) + tally t xs
+
+  -- those that pass the test
+  unfoldable pub filter : (A → Bool) → List A → List A
+  filter t [] = []
+  filter t (x ∷ xs) = cond (t x) (x ∷ filter t xs) (filter t xs)
+
+  -- each passes the test
+  unfoldable pub every : (A → Bool) → List A → Bool
+  every t [] = true
+  every t (x ∷ xs) = t x && every t xs
+
+  -- one passes the test
+  unfoldable pub some? : (A → Bool) → List A → Bool
+  some? t [] = false
+  some? t (x ∷ xs) = t x || some? t xs
+
+  -- the element at a place, or another where the list ends before
+  unfoldable pub at : A → List A → ℕ → A
+  at d l i = getD l i d
+
+  unfoldable pub size : List A → ℕ
+  size l = length l
+
+  -- the list with another element at a place
+  unfoldable pub put : ℕ → A → List A → List A
+  put i x l = set l i x
+
+  -- the list without its element at a place
+  unfoldable pub without : ℕ → List A → List A
+  without n [] = []
+  without zero (x ∷ xs) = xs
+  without (suc n) (x ∷ xs) = x ∷ without n xs
+
+  -- the last element, or another where there is none
+  unfoldable pub lastOf : A → List A → A
+  lastOf d [] = d
+  lastOf d (x ∷ xs) = lastOf x xs
+
+  -- one after another in the other order
+  unfoldable pub backwards : List A → List A
+  backwards [] = []
+  backwards (x ∷ xs) = backwards xs ++ (x ∷ [])
+
+-- x is an element
+unfoldable pub member : ℕ → List ℕ → Bool
+member x l = some? (eqb x) l
+
+-- the place of x, or the length where it is none
+unfoldable pub placeOf : ℕ → List ℕ → ℕ
+placeOf x [] = 0
+placeOf x (y ∷ ys) = cond (eqb x y) 0 (suc (placeOf x ys))
+
+module _ {A B : Type 0} where
+  unfoldable pub each : (A → B) → List A → List B
+  each f [] = []
+  each f (x ∷ xs) = f x ∷ each f xs
+
+  -- what each element gives, one after another
+  unfoldable pub joined : (A → List B) → List A → List B
+  joined f [] = []
+  joined f (x ∷ xs) = f x ++ joined f xs
+
+module _ {S : Type 0} where
+  -- a phase after another: none where the work is done
+  unfoldable pub unless : Bool → (S → S) → S → S
+  unless true f s = s
+  unless false f s = f s
+
+  -- a phase where a condition holds
+  unfoldable pub onlyIf : Bool → (S → S) → S → S
+  onlyIf true f s = f s
+  onlyIf false f s = s
+
+module _ {S : Type 0} where
+  -- at most n turns, and none once the work is done
+  unfoldable pub repeat : ℕ → (S → S) → (S → Bool) → S → S
+  repeat zero turn done s = s
+  repeat (suc n) turn done s = unless (done s) (λ t. repeat n turn done (turn t)) s
+
+module _ {A S : Type 0} where
+  -- a walk over a list: a step for each element. The step that `halt` names is made, and none after it
+  unfoldable pub walkUntil : (A → S → S) → (A → S → Bool) → List A → S → S
+  walkUntil step halt [] s = s
+  walkUntil step halt (x ∷ xs) s = unless (halt x s) (λ t. walkUntil step halt xs t) (step x s)
+
+  -- a walk up to the step after which the work is done
+  unfoldable pub walk : (A → S → S) → (S → Bool) → List A → S → S
+  walk step done xs s = walkUntil step (λ x t. done (step x t)) xs s

@@ -1,0 +1,64 @@
+-- The pick program of document 01: an image and one pick record, a bitfield of ones, every draw 0. Assumes nothing.
+use Prim.Native.Nat.{ℕ, zero, suc, _+_, _-_, _*_}
+use mathlib.Core.Bool.{Bool, true, false, cond, not, _&&_, _||_}
+use mathlib.Core.List.{List, [], _∷_, _++_}
+use mathlib.Core.Option.{Option, none, some}
+use lib.ListN.{replicate}
+use lib.Dec.{eqb, ltb, leb}
+use Rattle.model.specs.Lists.{size}
+use Rattle.model.specs.Bep3.{bitfieldBytes}
+use Rattle.model.specs.State.{Picker, leastDraws, piecesIn, blocksPer}
+use Rattle.model.specs.Blocks.{Ask}
+use Rattle.model.specs.Image.{pickKind, Reader, Got, ret, _>>=_, field, judged, obeying, peerFits, peerOf, Read, accepted, faultAt, whole, getPicker}
+use Rattle.model.specs.Calls.{Action, pick-pieces, Answer, refused, Step, unlessRefused, refusal}
+
+-- ---- the pick record
+-- options, N, P, peers, peer; the bitfield has a one for each of n pieces
+unfoldable pub askOf : ℕ → List ℕ → Ask
+askOf n b =
+    record {
+      options = field 0 2 b;
+      wanted = field 2 2 b;
+      run = field 4 2 b;
+      peers = field 6 2 b;
+      peer = peerOf (field 8 1 b) (field 9 8 b);
+      bits = n;
+      bytes = replicate (bitfieldBytes n) 255;
+      suggestions = [];
+    }
+
+unfoldable pub readAsk : ℕ → List ℕ → Option Ask
+readAsk n b = obeying (peerFits (field 8 1 b) (field 9 8 b)) (askOf n b)
+
+pub record Job : Type 0 where
+  pub picker : Picker
+  pub ask : Ask
+
+unfoldable pub getJob : Reader Job
+getJob = do
+  s ← getPicker
+  a ← judged pickKind (readAsk (piecesIn s))
+  ret (record { picker = s; ask = a })
+
+-- ---- what the program prints
+-- a pick's answer, or the number of a refusal with, for 13, the place of the fault
+pub data Printed : Type 0 where
+  shown : Answer → Printed
+  refusedAt : ℕ → Printed
+
+-- the program lends what the largest pick needs, to 64 pieces of 16 blocks
+unfoldable pub pickOf : Ask → Action
+pickOf a = pick-pieces a (2048 + 2048 + 255) (replicate leastDraws 0)
+
+unfoldable pub jobAnswer : Job → Answer
+jobAnswer x =
+    cond (leb (piecesIn (x .picker)) 64 && leb (blocksPer (x .picker)) 16)
+    (unlessRefused (refusal (x .picker) (pickOf (x .ask))) (x .picker) (pickOf (x .ask)) .answer)
+    (refused 2)
+
+unfoldable pub printed : Read Job → Printed
+printed (accepted x) = shown (jobAnswer x)
+printed (faultAt k) = refusedAt k
+
+unfoldable pub program : List ℕ → Printed
+program bs = printed (whole (size bs) (getJob bs))

@@ -1,0 +1,6 @@
+pub mod Signed
+pub mod Numbers
+pub mod QueueNumbers
+pub mod BlockNumbers
+pub mod Bits
+pub mod RefusalNumbers

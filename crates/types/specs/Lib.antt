@@ -1,0 +1,6 @@
+pub mod Numbers
+pub mod Piece
+pub mod Queue
+pub mod Block
+pub mod Bits
+pub mod Refusal
