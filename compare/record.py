@@ -1,6 +1,7 @@
 """`python3 -m compare.record`: writes recorded/calls.txt and recorded/outcomes.txt, the oracle's answers to a fixed list of calls on
 small geometries. With `--check` it compares instead of writing."""
 import argparse
+import glob
 import os
 import random
 import subprocess
@@ -43,12 +44,21 @@ def damaged(rng):
     return lines
 
 
+def kept_scripts():
+    """The scripts of the differences and those of the oracle's own tests, each on memory of zeros."""
+    lines = []
+    for path in sorted(glob.glob(os.path.join(TOP, "docs", "differences", "*.calls")) + glob.glob(os.path.join(TOP, "oracle", "tests", "*.calls"))):
+        with open(path, encoding="ascii") as f:
+            lines += ["zero"] + [line for line in f.read().split("\n") if line and line != "end" and not line.startswith("#")]
+    return lines
+
+
 def script_lines():
     rng = random.Random(SEED)
     lines = []
     while len(lines) < STEPS_WANTED or missing(lines):
         lines += [s.line for s in a_list(rng, tiny_geometry, 30)]
-    return lines + damaged(rng) + full_of_partials(rng)
+    return lines + kept_scripts() + damaged(rng) + full_of_partials(rng)
 
 
 def missing(lines):
