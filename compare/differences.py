@@ -6,6 +6,7 @@ import sys
 
 from compare.lists import follow
 from compare.run import TOP, Figures, Mismatch, compare
+from reference.script import Malformed
 
 DIFFERENCE = {"totals-given-back": "totals"}
 
@@ -22,6 +23,9 @@ def main():
         figures = Figures()
         try:
             compare(follow(["zero"] + lines_of(path)), figures)
+        except Malformed as why:
+            print(f"differences: {path}: {why}", file=sys.stderr)
+            return 2
         except Mismatch as why:
             print(f"differences: {name}: {why}", file=sys.stderr)
             return 1

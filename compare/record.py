@@ -69,7 +69,8 @@ def missing(lines):
 def answers(script):
     run = subprocess.run([ORACLE], input=script, capture_output=True, text=True)
     if run.returncode != 0:
-        sys.exit(f"record: the oracle ended with status {run.returncode}: {run.stderr.strip()}")
+        print(f"record: the oracle ended with status {run.returncode}: {run.stderr.strip()}", file=sys.stderr)
+        sys.exit(run.returncode)
     return run.stdout
 
 

@@ -3,12 +3,16 @@ import sys
 
 from compare.record import CALLS, OUTCOMES
 from reference.run import outcomes
-from reference.script import calls_of
+from reference.script import Malformed, calls_of
 
 
 def main():
-    with open(CALLS, encoding="ascii") as f:
-        calls = calls_of(f.read())
+    try:
+        with open(CALLS, encoding="ascii") as f:
+            calls = calls_of(f.read())
+    except (Malformed, OSError, UnicodeDecodeError) as why:
+        print(f"replay: {CALLS}: {why}", file=sys.stderr)
+        return 2
     with open(OUTCOMES, encoding="ascii") as f:
         due = [line for line in f.read().split("\n") if not line.startswith("difference ")]
     found = list(outcomes(calls)) + [f"end {len(calls)}", ""]

@@ -1,2 +1,1 @@
 pub mod CasesHold
-pub mod Told

@@ -11,7 +11,6 @@ pub mod ListedRebuild
 pub mod ListedLaws
 pub mod RankLaws
 pub mod ListingLaws
-pub mod ListingTest
 pub mod ListingChanges
 pub mod Truths
 pub mod FieldLaws
@@ -22,3 +21,4 @@ pub mod SoundPartials
 pub mod SoundListing
 pub mod SoundLaws
 pub mod NewSound
+pub mod Told

@@ -15,21 +15,24 @@ use Rattle.types.specs.declared.queue.DownloadQueue.{DownloadQueue}
 use Rattle.types.specs.declared.block.BlockState.{BlockState}
 use Rattle.types.specs.Queue.{queueNumber}
 use Rattle.types.specs.Block.{blockStateNumber}
 use Rattle.model.specs.Lists.{bit, size, each, at}
 use Rattle.model.specs.State.{Piece, Block, Partial, Picker, Listing, stale, fresh, noPiece, noBlock, sameQueue, isOpen, isStale, pieceAt, piecesIn, blocksAt}
 use Rattle.model.specs.Partials.{partialOf, blockAt}
 use Rattle.model.specs.Questions.{Question, ofPicker, ofPiece, ofBlock, recent-extent, list-place, total-size, full-piece-size, num-seeds, cursor?, reverse-cursor?, dirty, num-pieces, peer-count, download-state, piece-priority, is-piece-flushed, pad-bytes-in-piece, passed-hash-check, locked?, hashing?, block-state, block-num-peers, block-peer, OfPiece, OfBlock, Told, numbers, nothing, staleList, plain, one, flag, ask, askPicker, askPiece, askBlock, ofPartial, ofBlockThere, blockOf, placeIn, listPlace}
 use Rattle.model.specs.Calls.{noPiece as pieceRefusal, noBlock as blockRefusal, Call, question, Answer, refused, told, Step, step, answers, act, answering, unlessRefused, check, refusal, questionRefusal, noPlace, memoryNeeded}
 use Rattle.model.specs.Sound.{Sound, PartialSound}
 use Rattle.types.proofs.QueueNumbers.{queue-numbers}
 use Rattle.types.proofs.BlockNumbers.{block-state-numbers}
 use Rattle.model.proofs.PieceLaws.{pieceAt-beyond}
 use Rattle.model.proofs.PartialLaws.{partials-same}
 
 -- ---- what a telling tells
 one-eq : {a b : ℕ} → one a ≡ one b → a ≡ b
 unfolding one plain each
 one-eq e = cc
+
+peer-eq : {a b : Option ℕ} → numbers (a ∷ []) ≡ numbers (b ∷ []) → a ≡ b
+peer-eq e = cc
 
 bit-eq : (a b : Bool) → bit a ≡ bit b → a ≡ b
 bit-eq true true e = refl
@@ -201,10 +204,9 @@ module _ (s t : Picker) (same : (cs : List Call) → answers s cs ≡ answers t 
     block-same : (j : ℕ) → j < blocksAt s i → blockAt d j ≡ blockAt e j
     unfolding askBlock ofBlockThere
     block-same j k =
-        let a = block-state-numbers .distinct _ _ (one-eq (block-told block-state j k)) in
+        let a : blockAt d j .state ≡ blockAt e j .state = block-state-numbers .distinct _ _ (one-eq (block-told block-state j k)) in
         let b = one-eq (block-told block-num-peers j k) in
-        let f = block-told block-peer j k in
-        let c : blockAt d j .peer ≡ blockAt e j .peer = cc in
+        let c = peer-eq (block-told block-peer j k) in
         λ n. record { state = a n; requesters = b n; peer = c n }
 
     flag-told : (f : Partial → Bool) → ofPartial (λ p. flag (f p)) (partialOf s i) ≡ ofPartial (λ p. flag (f p)) (partialOf t i) → f d ≡ f e
