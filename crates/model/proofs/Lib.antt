@@ -22,3 +22,11 @@ pub mod SoundListing
 pub mod SoundLaws
 pub mod NewSound
 pub mod Told
+pub mod Bytes
+pub mod Codec
+pub mod Records
+pub mod Parts
+pub mod Same
+pub mod ImageLaws
+pub mod Steady
+pub mod Faults

@@ -1,8 +1,8 @@
 -- The geometry of a torrent and the order of the bits in a bitfield, as BEP 3 has them.
 -- Lengths and places are in bytes. `total` is the torrent's length, `size` the length of a whole piece; `i` is a piece, `j` a block of it.
 use Prim.Native.Nat.{ℕ, zero, suc, _+_, _-_, _*_, _/_, _%_, _^_, _≤_, _<_, min}
-use mathlib.Core.Bool.{Bool, true, false, not, _&&_}
-use mathlib.Core.List.{List, [], _∷_}
+use mathlib.Core.Bool.{Bool, true, not, _&&_}
+use mathlib.Core.List.{List}
 use lib.ListN.{length, getD}
 use lib.Dec.{eqb}
 

@@ -1,5 +1,5 @@
 -- Blocks for a pick: which pieces may be picked, the run around a piece, and what a piece adds to the pick. Assumes nothing.
-use Prim.Native.Nat.{ℕ, zero, suc, _+_, _-_, _*_, _/_, _%_}
+use Prim.Native.Nat.{ℕ, zero, suc, _+_, _-_, _/_, _%_}
 use mathlib.Core.Bool.{Bool, true, false, cond, not, _&&_, _||_}
 use mathlib.Core.List.{List, [], _∷_, _++_}
 use mathlib.Core.Option.{Option, none, some}
@@ -11,7 +11,7 @@ use Rattle.types.specs.Queue.{plainOf}
 use Rattle.types.specs.Bits.{meets, union}
 use Rattle.model.specs.Lists.{least, from, range, filter, each, some?, at, put, size, unless, onlyIf, walk, walkUntil}
 use Rattle.model.specs.Bep3.{bitAt}
-use Rattle.model.specs.State.{Piece, Block, Partial, Picker, mostPieces, sameQueue, isOpen, sameState, samePeer, somebody, pieceAt, piecesIn, blocksPer, payloadAt}
+use Rattle.model.specs.State.{Block, Partial, Picker, mostPieces, sameQueue, isOpen, sameState, samePeer, somebody, pieceAt, piecesIn, blocksPer, payloadAt}
 use Rattle.model.specs.Options.{onParole, prioritizePartials, alignExpandedPieces}
 use Rattle.model.specs.Partials.{partialOf, blockAt}
 

@@ -1,16 +1,16 @@
 -- Calls: every question, change and pick with all that is lent to it, the refusals in the table's order, a step, and lists of calls.
 -- Assumes nothing.
-use Prim.Native.Nat.{ℕ, zero, suc, _+_, _-_, _*_, _%_, _^_}
-use mathlib.Core.Bool.{Bool, true, false, cond, not, _&&_, _||_}
-use mathlib.Core.List.{List, [], _∷_, _++_}
+use Prim.Native.Nat.{ℕ, _+_, _*_, _%_, _^_}
+use mathlib.Core.Bool.{Bool, true, false, cond, not, _&&_}
+use mathlib.Core.List.{List, [], _∷_}
 use mathlib.Core.Option.{Option, none, some}
 use lib.Dec.{eqb, ltb, leb}
 use Rattle.types.specs.declared.block.BlockState.the-variants.{Requested}
 use Rattle.model.specs.Lists.{least, some?, size}
 use Rattle.model.specs.Bep3.{bitfieldBytes}
-use Rattle.model.specs.State.{Piece, Block, Partial, Picker, Listing, stale, fresh, mostPeers, mostPartials, leastDraws, isOpen, sameState, validGeometry, new, pieceAt, piecesIn, blocksPer, blocksAt}
+use Rattle.model.specs.State.{Piece, Block, Picker, Listing, stale, fresh, mostPeers, mostPartials, leastDraws, isOpen, sameState, validGeometry, new, pieceAt, piecesIn, blocksPer, blocksAt}
 use Rattle.model.specs.Options.{rarestFirst, sequential}
-use Rattle.model.specs.Order.{Led, led, on}
+use Rattle.model.specs.Order.{Led, led}
 use Rattle.model.specs.Partials.{partialOf}
 use Rattle.model.specs.Changes.{Change, quietly, incRefcount, decRefcount, incRefcountAll, decRefcountAll, setPiecePriority, markAsDownloading, markAsWriting, markAsFinished, abortDownload, lockPiece, piecePassed, received}
 use Rattle.model.specs.Questions.{ListOfPicker, get-availability-vec, piece-priorities, get-download-queue, Question, ofPicker, listOfPicker, ofPiece, listOfPiece, ofBlock, partial-at, recent-extent, list-place, Told, blockOf, blockTest, ask}

@@ -7,7 +7,6 @@ use lib.ListN.{drop}
 use lib.Dec.{eqb, ltb, leb}
 use Rattle.types.specs.declared.queue.DownloadQueue.{DownloadQueue}
 use Rattle.types.specs.declared.queue.DownloadQueue.the-variants.{Downloading, DownloadingReverse}
-use Rattle.types.specs.declared.block.BlockState.{BlockState}
 use Rattle.types.specs.declared.block.BlockState.the-variants.{None, Requested, Writing, Finished}
 use Rattle.types.specs.Queue.{plainOf, reverseOf, isReverse}
 use Rattle.types.specs.Bits.{meets}

@@ -6,10 +6,8 @@ use mathlib.Core.List.{List, [], _∷_, _++_}
 use mathlib.Core.Option.{Option, none, some}
 use lib.ListN.{take, drop}
 use lib.Dec.{eqb, ltb, leb}
-use Rattle.types.specs.declared.queue.DownloadQueue.{DownloadQueue}
-use Rattle.types.specs.declared.queue.DownloadQueue.the-variants.{Downloading, Full, Finished as FinishedQueue, ZeroPrio, Open, DownloadingReverse, FullReverse}
-use Rattle.types.specs.declared.block.BlockState.{BlockState}
-use Rattle.types.specs.declared.block.BlockState.the-variants.{None, Requested, Writing, Finished}
+use Rattle.types.specs.declared.queue.DownloadQueue.the-variants.{Open}
+use Rattle.types.specs.declared.block.BlockState.the-variants.{None}
 use Rattle.types.specs.Queue.{queueNumber, queues}
 use Rattle.types.specs.Block.{blockStateNumber, blockStates}
 use Rattle.model.specs.Lists.{bit, at, size, every, joined}

@@ -2,7 +2,7 @@
 -- `b` gives a piece's rank, 0 for a piece in no bucket; n is the number of pieces.
 use mathlib.Core.Path.{_≡_}
 use Prim.Native.Nat.{ℕ, _≤_, _<_}
-use mathlib.Core.Bool.{Bool, true, false, _&&_}
+use mathlib.Core.Bool.{Bool, true, _&&_}
 use mathlib.Core.List.{List, [], _∷_}
 use lib.Dec.{eqb, ltb, leb}
 use Rattle.model.specs.Lists.{bit, tally}

@@ -2,20 +2,17 @@
 use Prim.Native.Nat.{ℕ, zero, suc, _+_, _-_}
 use mathlib.Core.Bool.{Bool, true, false, cond, not, _&&_, _||_}
 use mathlib.Core.List.{List, [], _∷_, _++_}
-use lib.ListN.{length, getD, set, take, drop}
-use lib.Dec.{eqb, ltb, leb}
+use lib.ListN.{length, getD, set}
+use lib.Dec.{eqb, leb}
 
 -- 1 for a test that passes, 0 for one that does not
 abbrev pub bit : Bool → ℕ
 bit true = 1
 bit false = 0
 
--- the lesser and the greater of two numbers
+-- the lesser of two numbers
 unfoldable pub least : ℕ → ℕ → ℕ
 least a b = cond (leb a b) a b
-
-unfoldable pub most : ℕ → ℕ → ℕ
-most a b = cond (leb a b) b a
 
 -- n numbers, from k on
 unfoldable pub from : ℕ → ℕ → List ℕ

@@ -2,14 +2,14 @@
 -- `b` gives a piece's rank. A group is a run of pieces of one rank; ranks never fall along the list, so each rank is one group.
 -- Nothing stores where a group starts: that is the number of pieces of lower rank.
 use Prim.Native.Nat.{ℕ, zero, suc, _+_, _-_, _*_, _%_}
-use mathlib.Core.Bool.{Bool, true, false, cond, not, _&&_, _||_}
+use mathlib.Core.Bool.{Bool, cond, _||_}
 use mathlib.Core.List.{List, [], _∷_, _++_}
 use mathlib.Core.Option.{Option, none, some}
 use lib.ListN.{take, drop}
 use lib.Seq.{slice}
-use lib.Dec.{eqb, ltb, leb}
+use lib.Dec.{eqb, ltb}
 use Rattle.types.specs.declared.queue.DownloadQueue.{DownloadQueue}
-use Rattle.types.specs.declared.queue.DownloadQueue.the-variants.{Full, Finished as FinishedQueue, Open}
+use Rattle.types.specs.declared.queue.DownloadQueue.the-variants.{Full, Finished as FinishedQueue}
 use Rattle.types.specs.Queue.{isReverse}
 use Rattle.model.specs.Lists.{bit, tally, filter, at, put, each, size, placeOf, from}
 use Rattle.model.specs.State.{Piece, Picker, Listing, stale, fresh, sameQueue, isOpen, pieceAt, piecesIn, withListing}

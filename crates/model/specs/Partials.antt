@@ -1,16 +1,16 @@
 -- Partials and their blocks: finding, opening, closing, the state that the blocks give, the four queues. Assumes nothing.
-use Prim.Native.Nat.{ℕ, zero, suc, _+_, _-_}
-use mathlib.Core.Bool.{Bool, true, false, cond, not, _&&_, _||_}
-use mathlib.Core.List.{List, [], _∷_, _++_}
+use Prim.Native.Nat.{ℕ, _+_, _-_}
+use mathlib.Core.Bool.{false, cond, not, _||_}
+use mathlib.Core.List.{List, [], _∷_}
 use mathlib.Core.Option.{Option, none, some}
-use lib.Dec.{eqb, ltb, leb}
+use lib.Dec.{eqb, ltb}
 use Rattle.types.specs.declared.queue.DownloadQueue.{DownloadQueue}
 use Rattle.types.specs.declared.queue.DownloadQueue.the-variants.{Downloading, Full, Finished as FinishedQueue, ZeroPrio, Open}
 use Rattle.types.specs.declared.block.BlockState.{BlockState}
 use Rattle.types.specs.declared.block.BlockState.the-variants.{None, Requested, Finished}
 use Rattle.types.specs.Queue.{plainOf, reverseOf, isReverse}
 use Rattle.model.specs.Lists.{bit, tally, filter, each, from, at, put, size, unless}
-use Rattle.model.specs.State.{Piece, Block, Partial, Picker, noBlock, sameQueue, isOpen, sameState, withBlocks, withPartials, withPiece, withState, pieceAt, blocksAt, payloadAt}
+use Rattle.model.specs.State.{Block, Partial, Picker, noBlock, sameQueue, isOpen, sameState, withBlocks, withPartials, withPiece, withState, pieceAt, blocksAt, payloadAt}
 use Rattle.model.specs.Order.{Led, on, moved}
 
 -- ---- finding

@@ -1,5 +1,5 @@
 -- One pick: partials, suggestions, sequential, rarest or random, backup blocks, end game. A spent N stops it. Assumes nothing.
-use Prim.Native.Nat.{ℕ, zero, suc, _+_, _-_, _*_, _/_, _%_}
+use Prim.Native.Nat.{ℕ, suc, _-_, _*_, _/_}
 use mathlib.Core.Bool.{Bool, true, false, cond, not, _&&_, _||_}
 use mathlib.Core.List.{List, [], _∷_, _++_}
 use mathlib.Core.Option.{Option, none, some}
@@ -9,11 +9,11 @@ use Rattle.types.specs.declared.queue.DownloadQueue.the-variants.{Downloading, 
 use Rattle.types.specs.declared.block.BlockState.the-variants.{Requested}
 use Rattle.types.specs.Bits.{union}
 use Rattle.model.specs.Lists.{tally, from, range, rangeDown, filter, each, every, at, put, size, without, lastOf, backwards, unless, onlyIf, repeat, walk}
-use Rattle.model.specs.State.{Piece, Block, Partial, Picker, noBlock, isOpen, sameState, samePeer, orderOf, withExtents, pieceAt, piecesIn, blocksPer, blocksAt, extentStart, extentEnd}
+use Rattle.model.specs.State.{Partial, Picker, isOpen, sameState, samePeer, orderOf, withExtents, pieceAt, piecesIn, blocksPer, blocksAt, extentStart, extentEnd}
 use Rattle.model.specs.Options.{rarestFirst, reverse, onParole, prioritizePartials, sequential, pieceExtentAffinity, partialRatio, prioritizedPartials, rarestFirstPartials, rarestFirstPieces, reverseRarestFirst, suggestedPieces, prioSequentialPieces, sequentialPieces, randomPieces, preferContiguous, reverseSequential, backup1, endGame, extentAffinity, partialLoops, suggestLoops, reverseRareLoops, rareLoops, randStartLoops, randLoops, busyLoops}
-use Rattle.model.specs.Order.{Led, led, draw, refresh}
+use Rattle.model.specs.Order.{led, draw, refresh}
 use Rattle.model.specs.Partials.{blockAt, progress, inQueue}
-use Rattle.model.specs.Blocks.{Ask, option, hasBit, Run, PieceBlock, Work, begin, spent, withOut, withPicker, ignore, flagged, steps, isIgnored, runAbove, isFree, Span, expandPiece, piecesOf, pieceBlock, took, runOver, takeRun, addBlocksDownloading, addBlocks, appendBackup}
+use Rattle.model.specs.Blocks.{Ask, option, hasBit, Work, begin, spent, withOut, withPicker, ignore, flagged, steps, isIgnored, runAbove, isFree, expandPiece, piecesOf, pieceBlock, took, runOver, takeRun, addBlocksDownloading, addBlocks, appendBackup}
 
 -- ---- the forcing rule
 -- too many partials for the peers, or too many blocks in them

@@ -1,16 +1,16 @@
 -- The pick program of document 01: an image and one pick record, a bitfield of ones, every draw 0. Assumes nothing.
-use Prim.Native.Nat.{ℕ, zero, suc, _+_, _-_, _*_}
-use mathlib.Core.Bool.{Bool, true, false, cond, not, _&&_, _||_}
-use mathlib.Core.List.{List, [], _∷_, _++_}
-use mathlib.Core.Option.{Option, none, some}
+use Prim.Native.Nat.{ℕ, _+_}
+use mathlib.Core.Bool.{cond, _&&_}
+use mathlib.Core.List.{List, []}
+use mathlib.Core.Option.{Option}
 use lib.ListN.{replicate}
-use lib.Dec.{eqb, ltb, leb}
+use lib.Dec.{leb}
 use Rattle.model.specs.Lists.{size}
 use Rattle.model.specs.Bep3.{bitfieldBytes}
 use Rattle.model.specs.State.{Picker, leastDraws, piecesIn, blocksPer}
 use Rattle.model.specs.Blocks.{Ask}
-use Rattle.model.specs.Image.{pickKind, Reader, Got, ret, _>>=_, field, judged, obeying, peerFits, peerOf, Read, accepted, faultAt, whole, getPicker}
-use Rattle.model.specs.Calls.{Action, pick-pieces, Answer, refused, Step, unlessRefused, refusal}
+use Rattle.model.specs.Image.{pickKind, Reader, ret, _>>=_, field, judged, obeying, peerFits, peerOf, Read, accepted, faultAt, whole, getPicker}
+use Rattle.model.specs.Calls.{Action, pick-pieces, Answer, refused, unlessRefused, refusal}
 
 -- ---- the pick record
 -- options, N, P, peers, peer; the bitfield has a one for each of n pieces

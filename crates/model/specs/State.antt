@@ -1,17 +1,17 @@
 -- The picker's state: exactly the fields of its image, and nothing that can be computed from others. Assumes nothing.
-use Prim.Native.Nat.{ℕ, zero, suc, _+_, _-_, _*_, _/_}
-use mathlib.Core.Bool.{Bool, true, false, cond, not, _&&_, _||_}
-use mathlib.Core.List.{List, [], _∷_, _++_}
+use Prim.Native.Nat.{ℕ, _+_, _-_, _*_, _/_}
+use mathlib.Core.Bool.{Bool, true, false, cond, _&&_}
+use mathlib.Core.List.{List, []}
 use mathlib.Core.Option.{Option, none, some}
-use lib.ListN.{length, replicate}
-use lib.Dec.{eqb, ltb, leb}
+use lib.ListN.{replicate}
+use lib.Dec.{eqb, leb}
 use Rattle.types.specs.declared.queue.DownloadQueue.{DownloadQueue}
-use Rattle.types.specs.declared.queue.DownloadQueue.the-variants.{Downloading, Full, Finished as FinishedQueue, ZeroPrio, Open, DownloadingReverse, FullReverse}
+use Rattle.types.specs.declared.queue.DownloadQueue.the-variants.{Open}
 use Rattle.types.specs.declared.block.BlockState.{BlockState}
-use Rattle.types.specs.declared.block.BlockState.the-variants.{None, Requested, Writing, Finished}
+use Rattle.types.specs.declared.block.BlockState.the-variants.{None}
 use Rattle.types.specs.Queue.{queueNumber}
 use Rattle.types.specs.Block.{blockStateNumber}
-use Rattle.model.specs.Lists.{least, at, size, put, each}
+use Rattle.model.specs.Lists.{least, at, size, put}
 use Rattle.model.specs.Bep3.{numPieces, pieceLength, blockLength, blocksPerPiece, blocksInPiece}
 
 -- ---- limits of document 01

@@ -1,15 +1,14 @@
 -- The rules of a well-formed picker, each on one record of the image with those before it, and all of them together. Assumes nothing.
-use Prim.Native.Nat.{ℕ, zero, suc, _+_, _-_, _*_, _^_}
+use Prim.Native.Nat.{ℕ, suc, _+_, _^_}
 use mathlib.Core.Bool.{Bool, true, false, cond, not, _&&_, _||_}
 use mathlib.Core.List.{List, [], _∷_, _++_}
 use mathlib.Core.Option.{Option, none, some}
 use lib.Dec.{eqb, ltb, leb}
-use Rattle.types.specs.declared.queue.DownloadQueue.{DownloadQueue}
 use Rattle.types.specs.declared.queue.DownloadQueue.the-variants.{Open}
 use Rattle.types.specs.Queue.{plainOf}
 use Rattle.model.specs.Lists.{every, size, member, lastOf}
 use Rattle.model.specs.Bep3.{numPieces}
-use Rattle.model.specs.State.{Piece, Block, Partial, Picker, Listing, stale, fresh, mostPeers, mostPartials, mostExtents, sameQueue, isOpen, validGeometry, pieceAt, piecesIn, lengthAt, blocksPer, blocksAt, extentsOf}
+use Rattle.model.specs.State.{Piece, Block, Partial, Picker, Listing, stale, fresh, mostPeers, mostPartials, mostExtents, sameQueue, isOpen, validGeometry, piecesIn, lengthAt, blocksPer, blocksAt, extentsOf}
 use Rattle.model.specs.Order.{rank, withBucket}
 use Rattle.model.specs.Partials.{progress, stateDue}
 
