@@ -1,0 +1,45 @@
+-- What a picker needs of memory, and how long its image is. Assumes nothing.
+-- `n` is the number of pieces, `b` the number of blocks of a whole piece.
+use mathlib.Core.Bool.{cond}
+use mathlib.Core.List.{List, [], _∷_}
+use Prim.Native.Nat.{ℕ, _+_, _*_, _≤_}
+use Rattle.model.specs.Lists.{least, size}
+use Rattle.model.specs.Bep3.{numPieces, blocksPerPiece}
+use Rattle.model.specs.State.{Partial, validGeometry, mostPieces, mostPartials, mostExtents, extentBlocks}
+use Rattle.model.specs.Calls.{wordsNeeded}
+
+-- ---- limits
+-- what every valid geometry keeps to
+pub record Small (n b : ℕ) : Type 0 where
+  pub pieces-most : n ≤ mostPieces
+  pub blocks-most : b ≤ extentBlocks
+
+-- what the parts of every image keep to
+pub record Parts (n partials blocks extents places : ℕ) : Type 0 where
+  pub pieces-most : n ≤ mostPieces
+  pub partials-most : partials ≤ mostPartials
+  pub blocks-most : blocks ≤ mostPartials * extentBlocks
+  pub extents-most : extents ≤ mostExtents
+  pub places-most : places ≤ mostPieces
+
+-- ---- bytes
+-- a head, and records of a piece, a partial, a block, an extent and a list place; `blocks` are those of all partials together
+unfoldable pub imageLength : ℕ → ℕ → ℕ → ℕ → ℕ → ℕ
+imageLength n partials blocks extents places =
+    24 + 10 * n + 6 * partials + 13 * blocks + 5 * extents + 5 * places
+
+-- the blocks of all partials together
+unfoldable pub blocksOf : List Partial → ℕ
+blocksOf [] = 0
+blocksOf (d ∷ ds) = size (d .blocks) + blocksOf ds
+
+-- with as many of each as there can be
+unfoldable pub largestImage : ℕ → ℕ → ℕ
+largestImage n b = imageLength n (least n mostPartials) (least n mostPartials * b) mostExtents n
+
+-- ---- of a geometry, 0 where it is not valid
+unfoldable pub wordsFor : ℕ → ℕ → ℕ
+wordsFor total size = cond (validGeometry total size) (wordsNeeded (numPieces total size) (blocksPerPiece size)) 0
+
+unfoldable pub bytesFor : ℕ → ℕ → ℕ
+bytesFor total size = cond (validGeometry total size) (largestImage (numPieces total size) (blocksPerPiece size)) 0

@@ -1,0 +1,49 @@
+// Blocks: how long they are, and how many of them a piece has.
+use crate::parts::part_length;
+use crate::parts::parts_of;
+use crate::pieces::piece_size;
+ghost use mathlib.Core.Path.{_≡_};
+ghost use Prim.Native.Nat.{_<_};
+ghost use Rattle.model.specs.Bep3.{numPieces, blockLength, blockLengthAt, blocksPerPiece, blocksInPiece};
+ghost use Rattle.geometry.specs.Numbers.{payloadBlocks};
+
+// The length of a whole block.
+pub fn block_size(size: u64) -> u64
+    ensures { λ r. ⌜ r ≡ blockLength size ⌝ }
+{
+    if 16384 < size { 16384 } else { size }
+}
+
+// The number of blocks of a whole piece.
+pub fn blocks_per_piece(size: u64) -> u64
+    ensures { λ r. ⌜ r ≡ blocksPerPiece size ⌝ }
+{
+    parts_of(size, block_size(size))
+}
+
+// The number of blocks of piece p.
+pub fn blocks_in_piece(total: u64, size: u64, p: u64) -> u64
+    requires { ⌜ p < numPieces total size ⌝ }
+    ensures { λ r. ⌜ r ≡ blocksInPiece total size p ⌝ }
+{
+    parts_of(piece_size(total, size, p), block_size(size))
+}
+
+// The blocks of piece p without those that `pad` bytes fill whole; 0 where pads would fill more than there are.
+pub fn payload_blocks_in_piece(total: u64, size: u64, p: u64, pad: u64) -> u64
+    requires { ⌜ p < numPieces total size ⌝ }
+    ensures { λ r. ⌜ r ≡ payloadBlocks total size p pad ⌝ }
+{
+    let blocks = blocks_in_piece(total, size, p);
+    let pads = pad / block_size(size);
+    if pads < blocks { blocks - pads } else { 0 }
+}
+
+// The length of block j of piece p.
+pub fn block_length(total: u64, size: u64, p: u64, j: u64) -> u64
+    requires { ⌜ p < numPieces total size ⌝ }
+    requires { ⌜ j < blocksInPiece total size p ⌝ }
+    ensures { λ r. ⌜ r ≡ blockLengthAt total size p j ⌝ }
+{
+    part_length(piece_size(total, size, p), block_size(size), j)
+}

@@ -1,0 +1,62 @@
+// Extents: runs of 256 / b pieces, where b is the number of blocks of a piece. There are none where that is 256.
+use crate::parts::parts_of;
+ghost use mathlib.Core.Path.{_≡_};
+ghost use Prim.Native.Nat.{_<_};
+ghost use Rattle.model.specs.State.{extentSize, extentsOf};
+ghost use Rattle.geometry.specs.Numbers.{extentOf, extentBegin, extentEnd};
+
+// The pieces from `begin` up to and without `end`.
+pub struct PieceRange {
+    pub begin: u64,
+    pub end: u64,
+}
+
+// How many pieces an extent has; 0 where a piece has no block, or more than an extent has.
+pub fn extent_size(b: u64) -> u64
+    ensures { λ r. ⌜ r ≡ extentSize b ⌝ }
+{
+    if b == 0 {
+        return 0;
+    }
+    256 / b
+}
+
+// How many extents n pieces have.
+pub fn num_extents(n: u64, b: u64) -> u64
+    ensures { λ r. ⌜ r ≡ extentsOf n b ⌝ }
+{
+    if b == 256 {
+        return 0;
+    }
+    parts_of(n, extent_size(b))
+}
+
+// The extent of piece p.
+pub fn extent_for(b: u64, p: u64) -> u64
+    ensures { λ r. ⌜ r ≡ extentOf b p ⌝ }
+{
+    let long = extent_size(b);
+    if long == 0 {
+        return 0;
+    }
+    p / long
+}
+
+// The pieces of extent e, of n pieces in all: the last extent may be shorter.
+pub fn extent_pieces(n: u64, b: u64, e: u64) -> PieceRange
+    requires { ⌜ e < extentsOf n b ⌝ }
+    ensures { λ r. ⌜ (r .begin ≡ extentBegin b e) × (r .end ≡ extentEnd n b e) ⌝ }
+{
+    let long = extent_size(b);
+    let begin = e * long;
+    if n - begin < long {
+        return PieceRange {
+            begin: begin,
+            end: n,
+        };
+    }
+    PieceRange {
+        begin: begin,
+        end: begin + long,
+    }
+}

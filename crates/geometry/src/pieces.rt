@@ -1,0 +1,38 @@
+// Pieces: which geometries are valid, how many pieces there are, and how long each is.
+use crate::parts::part_length;
+use crate::parts::parts_of;
+ghost use mathlib.Core.Path.{_≡_};
+ghost use Prim.Native.Nat.{_<_};
+ghost use Rattle.model.specs.Bep3.{numPieces, pieceLength};
+ghost use Rattle.model.specs.State.{validGeometry};
+
+// A picker can be made of it. The limit on the number of pieces is tested as one on the total, so that nothing wraps.
+pub fn valid_geometry(total: u64, size: u64) -> bool
+    ensures { λ r. ⌜ r ≡ validGeometry total size ⌝ }
+{
+    if total < 1 {
+        return false;
+    }
+    if size < 1 {
+        return false;
+    }
+    if size > 4194304 {
+        return false;
+    }
+    total <= 4096 * size
+}
+
+// The number of pieces.
+pub fn num_pieces(total: u64, size: u64) -> u64
+    ensures { λ r. ⌜ r ≡ numPieces total size ⌝ }
+{
+    parts_of(total, size)
+}
+
+// The length of piece p: the last one may be shorter.
+pub fn piece_size(total: u64, size: u64, p: u64) -> u64
+    requires { ⌜ p < numPieces total size ⌝ }
+    ensures { λ r. ⌜ r ≡ pieceLength total size p ⌝ }
+{
+    part_length(total, size, p)
+}
