@@ -30,3 +30,17 @@ pub mod Same
 pub mod ImageLaws
 pub mod Steady
 pub mod Faults
+pub mod Phases
+pub mod SoundBody
+pub mod SoundFields
+pub mod KeepCounts
+pub mod KeepCursors
+pub mod KeepExtents
+pub mod KeepState
+pub mod KeepBlocks
+pub mod KeepClose
+pub mod KeepOpen
+pub mod KeepTurn
+pub mod KeepMarks
+pub mod KeepWish
+pub mod KeepCalls

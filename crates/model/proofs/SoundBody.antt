@@ -1,0 +1,202 @@
+-- A well-formed picker in parts: what holds of the whole, of each piece with its partial, and of the list.
+use mathlib.Core.Path.{_≡_, refl, sym, _∙_}
+use mathlib.Core.Logic.{_≢_}
+use Prim.Native.Nat.{ℕ, _+_, _≤_, _<_}
+use native.Mathlib.Decide.{decLe}
+use native.Mathlib.Omega.{arith}
+use mathlib.Core.Bool.{Bool, true, false, not, _&&_, _||_, true≢false}
+use mathlib.Core.List.{[]}
+use mathlib.Core.Option.{Option, none, some, Option·some-injective, Option·none-ne-some}
+use lib.Dec.{leb}
+use borrow.Author.Tests.{leb-true, le-leb}
+use Rattle.model.specs.Lists.{every, size, at}
+use Rattle.model.specs.Bep3.{numPieces}
+use Rattle.model.specs.State.{Piece, Partial, Picker, mostPieces, mostPieceSize, mostPeers, mostPartials, isOpen, noPiece, sameQueue, pieceAt, piecesIn, lengthAt, blocksAt, validGeometry}
+use Rattle.model.specs.Partials.{partialOf}
+use Rattle.model.specs.WellFormed.{headOk, pieceOk, blockOk, stateOk, extentsOk}
+use Rattle.model.specs.Listed.{ListingOk}
+use Rattle.model.specs.Sound.{partialsFrom, PartialSound, Sound}
+use Rattle.model.proofs.Truths.{both-true}
+use Rattle.model.proofs.Bep3Laws.{numPieces-pos, blocksInPiece-pos}
+use Rattle.model.proofs.PieceLaws.{pieceAt-beyond}
+
+-- ---- four tests
+four-true : (a b c d : Bool) → (a && (b && (c && d))) ≡ true → (a ≡ true) × (b ≡ true) × (c ≡ true) × (d ≡ true)
+four-true a b c d h =
+    let f = both-true a (b && (c && d)) h in
+    let g = both-true b (c && d) (f .1) in
+    let k = both-true c d (g .1) in
+    (f .0, g .0, k .0, k .1)
+
+true-four : (a b c d : Bool) → a ≡ true → b ≡ true → c ≡ true → d ≡ true → (a && (b && (c && d))) ≡ true
+true-four a b c d p q r u = rw (p, q, r) u
+
+-- ---- the parts
+-- the whole, whatever the states of the pieces
+pub record Frame (s : Picker) : Type 0 where
+  pub head : headOk s ≡ true
+  pub many : piecesIn s ≡ numPieces (s .total) (s .size)
+  pub piece : (i : ℕ) → i < piecesIn s → pieceOk s i (pieceAt s i) ≡ true
+  pub rising : partialsFrom 0 (s .partials) ≡ true
+  pub few : size (s .partials) ≤ mostPartials
+  pub extents : extentsOk s [] (s .extents) ≡ true
+
+-- piece i is Open and has no partial, or is not Open and has one, whose blocks and whose state are right
+pub data At (s : Picker) (i : ℕ) : Type 0 where
+  free : isOpen (pieceAt s i .state) ≡ true → partialOf s i ≡ none → At s i
+  taken : (d : Partial) → isOpen (pieceAt s i .state) ≡ false → partialOf s i ≡ some d → PartialSound s i d → At s i
+
+-- all but the list
+pub record Body (s : Picker) : Type 0 where
+  pub frame : Frame s
+  pub all : (i : ℕ) → At s i
+
+-- the partial of piece i, which has n blocks; nothing is said of its state
+pub record Fits (n i : ℕ) (d : Partial) : Type 0 where
+  pub piece : d .piece ≡ i
+  pub blocks : size (d .blocks) ≡ n
+  pub each : every blockOk (d .blocks) ≡ true
+
+-- all but the list and the state of piece i, whose partial is d
+pub record BodyBut (i : ℕ) (d : Partial) (s : Picker) : Type 0 where
+  pub frame : Frame s
+  pub others : (k : ℕ) → k ≢ i → At s k
+  pub standing : isOpen (pieceAt s i .state) ≡ false
+  pub found : partialOf s i ≡ some d
+  pub fits : Fits (blocksAt s i) i d
+
+-- ---- taken apart and put together
+sound-at : (s : Picker) → Sound s → (i : ℕ) → At s i
+sound-at s v i = go (partialOf s i) refl (isOpen (pieceAt s i .state)) refl
+  where
+    go : (o : Option Partial) → partialOf s i ≡ o → (b : Bool) → isOpen (pieceAt s i .state) ≡ b → At s i
+    go none e b h = free (v .standing i e) e
+    go (some d) e true h = absurd (Option·none-ne-some d (sym (v .vacant i h) ∙ e))
+    go (some d) e false h = taken d h e (v .partial i d e)
+
+-- all but the list
+pub sound-body : (s : Picker) → Sound s → Body s
+sound-body s v = record {
+  frame = record { head = v .head; many = v .many; piece = v .piece; rising = v .rising; few = v .few; extents = v .extents };
+  all = sound-at s v;
+}
+
+at-vacant : (s : Picker) (i : ℕ) → At s i → isOpen (pieceAt s i .state) ≡ true → partialOf s i ≡ none
+at-vacant s i (free o n) h = n
+at-vacant s i (taken d o n g) h = absurd (true≢false (sym h ∙ o))
+
+at-standing : (s : Picker) (i : ℕ) → At s i → partialOf s i ≡ none → isOpen (pieceAt s i .state) ≡ true
+at-standing s i (free o n) h = o
+at-standing s i (taken d o n g) h = absurd (Option·none-ne-some d (sym h ∙ n))
+
+at-partial : (s : Picker) (i : ℕ) (d : Partial) → At s i → partialOf s i ≡ some d → PartialSound s i d
+at-partial s i d (free o n) h = absurd (Option·none-ne-some d (sym n ∙ h))
+at-partial s i d (taken e o n g) h = rw (Option·some-injective e d (sym n ∙ h)) at g
+
+-- all of it
+pub body-sound : (s : Picker) → Body s → ListingOk s → Sound s
+body-sound s b l = record {
+  head = b .frame .head;
+  many = b .frame .many;
+  piece = b .frame .piece;
+  rising = b .frame .rising;
+  few = b .frame .few;
+  vacant = λ i. at-vacant s i (b .all i);
+  standing = λ i. at-standing s i (b .all i);
+  partial = λ i d. at-partial s i d (b .all i);
+  extents = b .frame .extents;
+  list = l;
+}
+
+-- the partial of a well-formed picker fits
+pub partial-fits : (s : Picker) (i : ℕ) (d : Partial) → PartialSound s i d → Fits (blocksAt s i) i d
+partial-fits s i d g = record { piece = g .piece; blocks = g .blocks; each = g .each }
+
+-- and one that fits is right if the piece's state is
+pub fits-partial : (s : Picker) (i : ℕ) (d : Partial) → Fits (blocksAt s i) i d → stateOk (pieceAt s i) d ≡ true → PartialSound s i d
+fits-partial s i d g o = record { piece = g .piece; blocks = g .blocks; each = g .each; state = o }
+
+-- a piece that is not Open is one of the picker's
+pub within : (s : Picker) (i : ℕ) → isOpen (pieceAt s i .state) ≡ false → i < piecesIn s
+unfolding isOpen sameQueue noPiece
+within s i o = elim (decLe (piecesIn s) i) [ yes h ↦ absurd (true≢false (sym (past h) ∙ o)) | no h ↦ omega arith ]
+  where
+    past : piecesIn s ≤ i → isOpen (pieceAt s i .state) ≡ true
+    past h = rw (pieceAt-beyond s i h)
+
+-- where a partial stands the piece is not Open
+pub sound-standing : (s : Picker) (i : ℕ) (d : Partial) → Sound s → partialOf s i ≡ some d → isOpen (pieceAt s i .state) ≡ false
+sound-standing s i d v e = go (isOpen (pieceAt s i .state)) refl
+  where
+    go : (b : Bool) → isOpen (pieceAt s i .state) ≡ b → isOpen (pieceAt s i .state) ≡ false
+    go true h = absurd (Option·none-ne-some d (sym (v .vacant i h) ∙ e))
+    go false h = h
+
+-- ---- ranges as facts
+-- the head
+pub record HeadIn (s : Picker) : Type 0 where
+  pub geometry : validGeometry (s .total) (s .size) ≡ true
+  pub seeds : s .seeds ≤ mostPeers
+  pub cursor : s .cursor ≤ numPieces (s .total) (s .size)
+  pub reverseCursor : s .reverseCursor ≤ numPieces (s .total) (s .size)
+
+-- what the test on the head says
+pub head-in : (s : Picker) → headOk s ≡ true → HeadIn s
+unfolding headOk
+head-in s h =
+    let n = numPieces (s .total) (s .size) in
+    let g = four-true (validGeometry (s .total) (s .size)) (leb (s .seeds) mostPeers) (leb (s .cursor) n) (leb (s .reverseCursor) n) h in
+    record { geometry = g .0; seeds = leb-true _ _ (g .1); cursor = leb-true _ _ (g .2); reverseCursor = leb-true _ _ (g .3) }
+
+-- and the other way
+pub in-head : (s : Picker) → HeadIn s → headOk s ≡ true
+unfolding headOk
+in-head s h =
+    true-four _ _ _ _ (h .geometry) (le-leb _ _ (h .seeds)) (le-leb _ _ (h .cursor)) (le-leb _ _ (h .reverseCursor))
+
+-- the geometry
+pub record GeometryIn (s : Picker) : Type 0 where
+  pub total : 1 ≤ s .total
+  pub size : 1 ≤ s .size
+  pub short : s .size ≤ mostPieceSize
+  pub few : numPieces (s .total) (s .size) ≤ mostPieces
+
+-- what the test on the head says of the geometry
+pub geometry-in : (s : Picker) → headOk s ≡ true → GeometryIn s
+unfolding validGeometry
+geometry-in s h =
+    let n = numPieces (s .total) (s .size) in
+    let g = four-true (leb 1 (s .total)) (leb 1 (s .size)) (leb (s .size) mostPieceSize) (leb n mostPieces) (head-in s h .geometry) in
+    record { total = leb-true _ _ (g .0); size = leb-true _ _ (g .1); short = leb-true _ _ (g .2); few = leb-true _ _ (g .3) }
+
+-- piece i of the picker
+pub record PieceIn (s : Picker) (i : ℕ) (p : Piece) : Type 0 where
+  pub peers : p .count + s .seeds ≤ mostPeers
+  pub wish : p .wish ≤ 7
+  pub had : (not (p .had) || isOpen (p .state)) ≡ true
+  pub pad : p .pad ≤ lengthAt s i
+
+-- what the test on a piece says
+pub piece-in : (s : Picker) (i : ℕ) (p : Piece) → pieceOk s i p ≡ true → PieceIn s i p
+unfolding pieceOk
+piece-in s i p h =
+    let open-had = not (p .had) || isOpen (p .state) in
+    let g = four-true (leb (p .count + s .seeds) mostPeers) (leb (p .wish) 7) open-had (leb (p .pad) (lengthAt s i)) h in
+    record { peers = leb-true _ _ (g .0); wish = leb-true _ _ (g .1); had = g .2; pad = leb-true _ _ (g .3) }
+
+-- and the other way
+pub in-piece : (s : Picker) (i : ℕ) (p : Piece) → PieceIn s i p → pieceOk s i p ≡ true
+unfolding pieceOk
+in-piece s i p h = true-four _ _ _ _ (le-leb _ _ (h .peers)) (le-leb _ _ (h .wish)) (h .had) (le-leb _ _ (h .pad))
+
+-- ---- none is empty
+-- a picker has a piece
+pub some-piece : (s : Picker) → Frame s → 1 ≤ piecesIn s
+some-piece s f =
+    let g = geometry-in s (f .head) in
+    omega (arith, f .many, numPieces-pos (s .total) (s .size) (g .total) (g .size))
+
+-- and a piece has a block
+pub some-block : (s : Picker) (i : ℕ) → Frame s → i < piecesIn s → 1 ≤ blocksAt s i
+unfolding blocksAt
+some-block s i f h = blocksInPiece-pos (s .total) (s .size) i (geometry-in s (f .head) .size) (omega (arith, f .many))
