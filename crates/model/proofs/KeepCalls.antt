@@ -1,13 +1,13 @@
 -- Every call keeps a picker well-formed.
-use mathlib.Core.Path.{_≡_, refl, sym, ap, _∙_}
+use mathlib.Core.Path.{_≡_, refl, sym}
 use Prim.Native.Nat.{ℕ, zero, suc, _+_, _%_, _^_, _≤_, _<_}
 use native.Mathlib.Nat.{mod-lt, le-of-suc-le-suc}
 use native.Mathlib.Omega.{arith}
-use mathlib.Core.Bool.{Bool, true, false, _&&_, _||_, true≢false}
+use mathlib.Core.Bool.{Bool, true, false, not, _&&_, _||_, true≢false}
 use mathlib.Core.List.{List, [], _∷_}
 use mathlib.Core.Option.{Option, none, some, Option·none-ne-some}
 use lib.Dec.{eqb, ltb, leb}
-use borrow.Author.Tests.{leb-false, ltb-false, lt-ltb}
+use borrow.Author.Tests.{leb-false, ltb-false, lt-ltb, not-false}
 use Rattle.types.specs.declared.block.BlockState.the-variants.{Requested}
 use Rattle.model.specs.Lists.{some?, at, size}
 use Rattle.model.specs.State.{Piece, Partial, Picker, mostPeers, sameState, leastDraws, noPiece, pieceAt, piecesIn, blocksAt}
@@ -15,15 +15,14 @@ use Rattle.model.specs.Order.{led}
 use Rattle.model.specs.Partials.{partialOf, blockAt}
 use Rattle.model.specs.Changes.{quietly}
 use Rattle.model.specs.Questions.{blockOf, blockTest}
-use Rattle.model.specs.Blocks.{Ask}
-use Rattle.model.specs.Pick.{pickPieces}
 use Rattle.model.specs.WellFormed.{peerOk}
 use Rattle.model.specs.Sound.{Sound}
-use Rattle.model.specs.Calls.{Action, question, inc-refcount, dec-refcount, inc-refcount-all, dec-refcount-all, set-piece-priority, mark-as-downloading, mark-as-writing, mark-as-finished, abort-download, lock-piece, piece-passed, pick-pieces, Call, check, fewDraws, noPiece as pastPieces, noBlock as pastBlocks, countFull, requestersFull, blockThere, noPartialLeft, refusal, memoryNeeded, answering, changing, doing, lentPeer, picking, act, unlessRefused, step, run}
+use Rattle.model.specs.Calls.{Action, question, inc-refcount, dec-refcount, inc-refcount-all, dec-refcount-all, set-piece-priority, mark-as-downloading, mark-as-writing, mark-as-finished, abort-download, lock-piece, piece-passed, pick-pieces, Call, check, fewDraws, noPiece as pastPieces, noBlock as pastBlocks, countFull, requestersFull, blockThere, noPartialLeft, askFits, refusal, memoryNeeded, answering, changing, doing, lentPeer, picking, act, unlessRefused, step, run}
 use Rattle.model.proofs.KeepCounts.{incRefcount-keeps, decRefcount-keeps, incRefcountAll-keeps, decRefcountAll-keeps}
 use Rattle.model.proofs.KeepBlocks.{lockPiece-keeps}
 use Rattle.model.proofs.KeepClose.{piecePassed-keeps}
 use Rattle.model.proofs.KeepMarks.{markAsDownloading-keeps, markAsWriting-keeps, markAsFinished-keeps, abortDownload-keeps}
+use Rattle.model.proofs.SoundPick.{pick-sound}
 use Rattle.model.proofs.KeepWish.{setPiecePriority-keeps}
 
 -- ---- what a call that is not refused knows
@@ -82,93 +81,62 @@ not-asked-full : (s : Picker) (i j : ℕ) → blockTest requestersFull (blockThe
 unfolding blockTest blockThere blockOf
 not-asked-full s i j e d f = rw f at e
 
--- ---- what a call does that is not refused
--- where a pick, if it is one, keeps the picker well-formed
-act-with : (s : Picker) (x : Action) → Sound s → refusal s x ≡ none
-    → ((a : Ask) (free : ℕ) (ds : List ℕ) → x ≡ pick-pieces a free ds → Sound (pickPieces ds s a .picker)) → Sound (act s x .after)
+-- ---- all calls
+-- what a call does that is not refused keeps a picker well-formed
+pub act-keeps : (s : Picker) (x : Action) → Sound s → refusal s x ≡ none → Sound (act s x .after)
 unfolding refusal act answering doing changing quietly picking led pieceAt piecesIn
-act-with s (question q) v e p = v
-act-with s (inc-refcount i ds) v e p =
+act-keeps s (question q) v e = v
+act-keeps s (inc-refcount i ds) v e =
     let c = here s i _ (drawn ds _ e) in
     let full = check-none (countFull s (pieceAt s i)) 6 none (c .1) in
     incRefcount-keeps ds i (led 0 s) (c .0) (not-full s (pieceAt s i) (full .0)) v
-act-with s (dec-refcount i ds) v e p =
+act-keeps s (dec-refcount i ds) v e =
     let c = here s i _ (drawn ds _ e) in
     let gone = check-none (eqb (s .seeds) 0 && eqb (pieceAt s i .count) 0) 7 none (c .1) in
     decRefcount-keeps ds i (led 0 s) (c .0) (some-peer (pieceAt s i .count) (s .seeds) (gone .0)) v
-act-with s inc-refcount-all v e p =
+act-keeps s inc-refcount-all v e =
     let full = check-none (some? (countFull s) (s .pieces)) 6 none e in
     incRefcountAll-keeps s (λ i h. not-full s (pieceAt s i) (none-passes (countFull s) noPiece (s .pieces) (full .0) i h)) v
-act-with s dec-refcount-all v e p = decRefcountAll-keeps s v
-act-with s (set-piece-priority i wish ds) v e p =
+act-keeps s dec-refcount-all v e = decRefcountAll-keeps s v
+act-keeps s (set-piece-priority i wish ds) v e =
     let c = here s i _ (drawn ds _ e) in
     let high = check-none (ltb 7 wish) 5 none (c .1) in
     setPiecePriority-keeps ds i wish (led 0 s) (c .0) (ltb-false 7 wish (high .0)) v
-act-with s (mark-as-downloading i j peer options ds) v e p =
+act-keeps s (mark-as-downloading i j peer options ds) v e =
     let c = here-block s i j _ (drawn ds _ e) in
     let full = check-none (blockTest requestersFull (blockThere s i j)) 6 _ (c .1) in
     let had = check-none (pieceAt s i .had) 8 _ (full .1) in
     let room = check-none (noPartialLeft s i) 10 none (had .1) in
     markAsDownloading-keeps ds i j (lentPeer peer) (led 0 s) v options (c .0) (lent-right peer)
     (not-asked-full s i j (full .0)) (had .0) (room .0)
-act-with s (mark-as-writing i j peer ds) v e p =
+act-keeps s (mark-as-writing i j peer ds) v e =
     let c = here-block s i j _ (drawn ds _ e) in
     let room = check-none (noPartialLeft s i) 10 none (c .1) in
     markAsWriting-keeps ds i j (lentPeer peer) (led 0 s) v (c .0) (lent-right peer) (room .0)
-act-with s (mark-as-finished i j peer ds) v e p =
+act-keeps s (mark-as-finished i j peer ds) v e =
     let c = here-block s i j _ (drawn ds _ e) in
     let asked = check-none (blockTest (λ b. sameState (b .state) Requested) (blockThere s i j)) 9 _ (c .1) in
     let room = check-none (noPartialLeft s i) 10 none (asked .1) in
     markAsFinished-keeps ds i j (lentPeer peer) (led 0 s) v (c .0) (lent-right peer) (room .0)
-act-with s (abort-download i j peer ds) v e p = abortDownload-keeps ds i j (lentPeer peer) (led 0 s) v
-act-with s (lock-piece i) v e p = lockPiece-keeps i s v
-act-with s (piece-passed i) v e p = piecePassed-keeps i s v
-act-with s (pick-pieces a free ds) v e p = p a free ds refl
+act-keeps s (abort-download i j peer ds) v e = abortDownload-keeps ds i j (lentPeer peer) (led 0 s) v
+act-keeps s (lock-piece i) v e = lockPiece-keeps i s v
+act-keeps s (piece-passed i) v e = piecePassed-keeps i s v
+act-keeps s (pick-pieces a free ds) v e =
+    let bad = check-none (not (askFits s a)) 11 _ (drawn ds _ e) in
+    pick-sound ds s a v (not-false (askFits s a) (bad .0))
 
--- ---- changes
--- the call is a pick
-abbrev pub isPick : Action → Bool
-isPick (question q) = false
-isPick (inc-refcount i ds) = false
-isPick (dec-refcount i ds) = false
-isPick inc-refcount-all = false
-isPick dec-refcount-all = false
-isPick (set-piece-priority i wish ds) = false
-isPick (mark-as-downloading i j peer options ds) = false
-isPick (mark-as-writing i j peer ds) = false
-isPick (mark-as-finished i j peer ds) = false
-isPick (abort-download i j peer ds) = false
-isPick (lock-piece i) = false
-isPick (piece-passed i) = false
-isPick (pick-pieces a free ds) = true
+-- a call, refused or not
+pub step-keeps : (s : Picker) (c : Call) → Sound s → Sound (step s c .after)
+unfolding step unlessRefused answering
+step-keeps s c v = go (check (ltb (c .lent) (memoryNeeded s)) 2 (refusal s (c .action))) refl
+  where
+    go : (r : Option ℕ) → check (ltb (c .lent) (memoryNeeded s)) 2 (refusal s (c .action)) ≡ r
+        → Sound (unlessRefused r s (c .action) .after)
+    go none e = act-keeps s (c .action) v (check-none (ltb (c .lent) (memoryNeeded s)) 2 (refusal s (c .action)) e .1)
+    go (some n) e = v
 
--- a question leaves a picker as it is, and a change that is not refused keeps it well-formed
-pub change-keeps : (s : Picker) (x : Action) → Sound s → refusal s x ≡ none → isPick x ≡ false → Sound (act s x .after)
-change-keeps s x v e n = act-with s x v e (λ a free ds q. absurd (true≢false (sym (ap isPick q) ∙ n)))
-
--- ---- all calls
--- a pick that is not refused keeps a picker well-formed
-abbrev pub PicksKeep : Type 0
-PicksKeep =
-    (s : Picker) (a : Ask) (free : ℕ) (ds : List ℕ) → Sound s → refusal s (pick-pieces a free ds) ≡ none → Sound (pickPieces ds s a .picker)
-
-module _ (picks : PicksKeep) where
-  -- whatever a call does that is not refused
-  pub act-keeps : (s : Picker) (x : Action) → Sound s → refusal s x ≡ none → Sound (act s x .after)
-  act-keeps s x v e = act-with s x v e (λ a free ds q. picks s a free ds v (rw q at e))
-
-  -- a call, refused or not
-  pub step-keeps : (s : Picker) (c : Call) → Sound s → Sound (step s c .after)
-  unfolding step unlessRefused answering
-  step-keeps s c v = go (check (ltb (c .lent) (memoryNeeded s)) 2 (refusal s (c .action))) refl
-    where
-      go : (r : Option ℕ) → check (ltb (c .lent) (memoryNeeded s)) 2 (refusal s (c .action)) ≡ r
-          → Sound (unlessRefused r s (c .action) .after)
-      go none e = act-keeps s (c .action) v (check-none (ltb (c .lent) (memoryNeeded s)) 2 (refusal s (c .action)) e .1)
-      go (some n) e = v
-
-  -- any calls, one after another
-  pub run-keeps : (s : Picker) (cs : List Call) → Sound s → Sound (run s cs)
-  unfolding run
-  run-keeps s [] v = v
-  run-keeps s (c ∷ cs) v = run-keeps (step s c .after) cs (step-keeps s c v)
+-- any calls, one after another
+pub run-keeps : (s : Picker) (cs : List Call) → Sound s → Sound (run s cs)
+unfolding run
+run-keeps s [] v = v
+run-keeps s (c ∷ cs) v = run-keeps (step s c .after) cs (step-keeps s c v)

@@ -13,7 +13,6 @@ pub mod RankLaws
 pub mod ListingLaws
 pub mod ListingChanges
 pub mod Truths
-pub mod FieldLaws
 pub mod PieceLaws
 pub mod PartialLaws
 pub mod SoundPieces
@@ -44,3 +43,19 @@ pub mod KeepTurn
 pub mod KeepMarks
 pub mod KeepWish
 pub mod KeepCalls
+pub mod WalkLaws
+pub mod FrameLaws
+pub mod PhaseLaws
+pub mod CounterLaws
+pub mod PickerLaws
+pub mod SoundPick
+pub mod SpanLaws
+pub mod BoundLaws
+pub mod OutputLaws
+pub mod TraceLaws
+pub mod RoundLaws
+pub mod RingLaws
+pub mod RandLoops
+pub mod LoopFrame
+pub mod LoopCount
+pub mod LoopLaws

@@ -8,10 +8,9 @@ use mathlib.Core.List.{List, [], _∷_}
 use lib.ListN.{List·getD-eq-default}
 use lib.Seq.{set-out}
 use Rattle.model.specs.Lists.{at, size, put, each}
-use Rattle.model.specs.State.{Piece, Picker, stale, noPiece, withPieces, withPiece, withListing, outdated, pieceAt, piecesIn}
+use Rattle.model.specs.State.{Piece, Picker, noPiece, withPieces, withPiece, pieceAt, piecesIn}
 use Rattle.model.specs.Changes.{allPieces}
-use Rattle.model.proofs.FieldLaws.{fields}
-use Rattle.model.proofs.RankLaws.{piecesIn-withPiece, pieceAt-same, pieceAt-other}
+use Rattle.model.proofs.RankLaws.{pieceAt-same, pieceAt-other}
 
 -- ---- a function on each element
 module _ {A B : Type 0} (f : A → B) where
@@ -91,12 +90,3 @@ module _ {A : Type 0} (g : Piece → A) (f : Piece → Piece) (keeps : (p : Piec
     | yes h ↦ rw (pieceAt-allPieces-beyond f s k h, pieceAt-beyond s k h)
     | no h ↦ rw (pieceAt-allPieces f s k (omega arith)) (keeps (pieceAt s k))
   ]
-
--- ---- lists for a tactic
--- a picker with its list made stale
-pub outdated-is : (s : Picker) → outdated s ≡ withListing stale s
-unfolding outdated
-outdated-is s = refl
-
--- what is read without asking which piece was changed
-pub ruleset reads = (fields, outdated-is, piecesIn-withPiece, pieceAt-withPieces, piecesIn-withPieces, piecesIn-allPieces)

@@ -1,19 +1,19 @@
 -- Term 3 holds.
-use mathlib.Core.Path.{_≡_, refl, sym, ap, _∙_, subst}
-use mathlib.Core.Logic.{_↔_}
+use mathlib.Core.Path.{_≡_, refl, ap, _∙_, subst}
 use Prim.Native.Nat.{ℕ, _≤_}
 use native.Mathlib.Omega.{arith}
 use mathlib.Core.Bool.{Bool, true, false, cond}
-use mathlib.Core.List.{List, [], _∷_}
-use mathlib.Core.Option.{Option, none, some}
+use mathlib.Core.List.{List}
+use mathlib.Core.Option.{none}
 use lib.Dec.{ltb}
 use borrow.Author.Tests.{le-ltb}
 use Rattle.model.specs.State.{Picker, validGeometry, new}
 use Rattle.model.specs.WellFormed.{wellFormed}
 use Rattle.model.specs.Sound.{Sound}
 use Rattle.model.specs.Image.{image, Read, accepted, faultAt, readImage}
-use Rattle.model.specs.Calls.{Call, step, answers, run, memoryNeeded, Made, made, notMade, within, newPicker, readWithin, readPicker}
+use Rattle.model.specs.Calls.{answers, run, memoryNeeded, made, notMade, within, newPicker, readWithin, readPicker}
 use Rattle.model.proofs.NewSound.{new-sound}
+use Rattle.model.proofs.KeepCalls.{run-keeps}
 use Rattle.model.proofs.SoundLaws.{wellFormed-sound, sound-wellFormed}
 use Rattle.model.proofs.ImageLaws.{image-accepted, accepted-image, image-injective}
 use Rattle.agreement.specs.Term3.{Begun, fromNew, fromImage, Reached, led, Term3}
@@ -56,13 +56,8 @@ begun-sound (fromNew lent total size s e) =
     subst Sound (m .1) (new-sound total size (m .0))
 begun-sound (fromImage lent bytes s e) = wellFormed-sound s (accepted-image bytes s (made-read lent bytes s e) .1)
 
-run-sound : (s : Picker) (calls : List Call) → Sound s → Sound (run s calls)
-unfolding run
-run-sound s [] h = h
-run-sound s (c ∷ cs) h = run-sound (step s c .after) cs (step-keeps s c h)
-
 reached-sound : {s : Picker} → Reached s → Sound s
-reached-sound (led b calls) = run-sound _ calls (begun-sound b)
+reached-sound (led b calls) = run-keeps _ calls (begun-sound b)
 
 reached-well : {s : Picker} → Reached s → wellFormed s ≡ true
 reached-well r = sound-wellFormed _ (reached-sound r)
@@ -76,7 +71,7 @@ term-3 = record {
     (λ f. ap image (pickers-same s t f (reached-sound p) (reached-sound q))),
   );
   stay = λ s t p q e calls.
-    ap (λ (x : Picker). image (run x calls)) (image-injective s t (reached-well p) (reached-well q) e);
+      ap (λ (x : Picker). image (run x calls)) (image-injective s t (reached-well p) (reached-well q) e);
   back = λ lent bytes s e. accepted-image bytes s (made-read lent bytes s e) .0;
   there = λ s p lent h. ap (readWithin lent) (image-accepted s (reached-well p)) ∙ within-enough lent s h;
 }

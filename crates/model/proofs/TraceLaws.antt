@@ -1,0 +1,295 @@
+-- What a lap of the random walk leaves behind: blocks appended, blocks set aside and pieces ignored never grow fewer, and a number bounded
+-- by 8,191 rises with each change of theirs. Assumes nothing.
+use mathlib.Core.Path.{_≡_, refl, sym, ap, _∙_}
+use mathlib.Core.Logic.{_⊎_, inl, inr, ⊎-elim}
+use Prim.Native.Nat.{ℕ, zero, suc, _+_, _≤_, _<_, min}
+use native.Mathlib.Decide.{ℕ-discrete}
+use native.Mathlib.Omega.{arith}
+use mathlib.Core.Bool.{Bool, true, false, _&&_, true≢false}
+use mathlib.Core.List.{List, [], _∷_, _++_}
+use lib.ListN.{length, getD, set, length-append, length-set}
+use lib.Seq.{getD-set-other}
+use lib.Dec.{eqb, leb}
+use borrow.Author.Tests.{eq-eqb, ne-eqb, leb-false}
+use Rattle.model.specs.Lists.{bit, tally, from, each, at, put, size, some?, member, walk, walkUntil}
+use Rattle.model.specs.State.{Partial, blocksAt}
+use Rattle.model.specs.Options.{randomPieces, randLoops}
+use Rattle.model.specs.Blocks.{Ask, Run, PieceBlock, Work, spent, withOut, withRun, withBackup, ignore, flagged, steps, isIgnored, runIsZero, shorter, pieceBlock, took, tookPast, runMet, runOver, runStep, runHalt, takeRun, freeFrom, setAside, addBlocks}
+use Rattle.model.specs.Pick.{Trace, trace, sameTrace, randStep, takeAll}
+use Rattle.model.proofs.WalkLaws.{and-left, and-right, and-both, cond-keeps, unless-keeps, walkUntil-keeps, walkUntil-ends}
+use Rattle.model.proofs.FrameLaws.{Closed, run-keeps, blocks-keeps, all-keeps}
+use Rattle.model.proofs.Tallies.{tally-le}
+use Rattle.model.proofs.BoundLaws.{Tight, tight-unspent}
+
+-- ---- the number that rises
+-- blocks set aside count up to 2,048, since none is set aside beyond that
+unfoldable pub weight : Trace → ℕ
+weight x = x .taken + min (x .aside) 2048 + x .ignored
+
+-- nothing of it changed
+pub record Stays (x y : Trace) : Type 0 where
+  pub taken : y .taken ≡ x .taken
+  pub aside : y .aside ≡ x .aside
+  pub ignored : y .ignored ≡ x .ignored
+
+-- nothing changed, or the number rose
+abbrev pub Rises : Trace → Trace → Type 0
+Rises x y = Stays x y ⊎ (weight x < weight y)
+
+stays-weight : (x y : Trace) → Stays x y → weight y ≡ weight x
+unfolding weight
+stays-weight x y h = rw (h .taken, h .aside, h .ignored)
+
+-- the number never falls
+pub rises-weight : (x y : Trace) → Rises x y → weight x ≤ weight y
+rises-weight x y (inl h) = omega (arith, stays-weight x y h)
+rises-weight x y (inr h) = omega arith
+
+-- no change is none
+pub rises-same : (x : Trace) → Rises x x
+rises-same x = inl (record { taken = refl; aside = refl; ignored = refl })
+
+-- one change after another
+pub rises-then : (x y z : Trace) → Rises x y → Rises y z → Rises x z
+rises-then x y z (inl h) (inl g) = inl (record { taken = g .taken ∙ h .taken; aside = g .aside ∙ h .aside; ignored = g .ignored ∙ h .ignored })
+rises-then x y z (inl h) (inr g) = inr (omega (arith, stays-weight x y h))
+rises-then x y z (inr h) (inl g) = inr (omega (arith, stays-weight y z g))
+rises-then x y z (inr h) (inr g) = inr (omega arith)
+
+-- where the two traces differ it rose
+pub rises-differ : (x y : Trace) → sameTrace y x ≡ false → Rises x y → weight x < weight y
+unfolding sameTrace
+rises-differ x y d (inr h) = h
+rises-differ x y d (inl h) =
+    absurd (true≢false (sym (and-both (eqb (y .taken) (x .taken)) (eqb (y .aside) (x .aside) && eqb (y .ignored) (x .ignored)) (eq-eqb (y .taken) (x .taken) (h .taken))
+    (and-both (eqb (y .aside) (x .aside)) (eqb (y .ignored) (x .ignored)) (eq-eqb (y .aside) (x .aside) (h .aside)) (eq-eqb (y .ignored) (x .ignored) (h .ignored)))) ∙ d))
+
+-- ---- marks
+set-tally : (l : List Bool) (i : ℕ) → (tally (λ b. b) (set l i true) ≡ tally (λ b. b) l) ⊎ (tally (λ b. b) l < tally (λ b. b) (set l i true))
+unfolding tally
+set-tally [] i = inl refl
+set-tally (true ∷ l) zero = inl refl
+set-tally (false ∷ l) zero = inr (omega arith)
+set-tally (b ∷ l) (suc i) = ⊎-elim (λ h. inl (ap (λ (n : ℕ). bit b + n) h)) (λ h. inr (omega arith)) (set-tally l i)
+
+set-mark : (l : List Bool) (i : ℕ) → i < length l → getD l i false ≡ false → tally (λ b. b) l < tally (λ b. b) (set l i true)
+unfolding tally
+set-mark [] i h e = absurd (omega arith)
+set-mark (true ∷ l) zero h e = absurd (true≢false e)
+set-mark (false ∷ l) zero h e = omega arith
+set-mark (b ∷ l) (suc i) h e = omega (arith, set-mark l i (omega arith) e)
+
+-- ---- the work grows
+-- from w to v: the trace rises, the picker stays; v has 4,096 marks, and no more blocks are wanted than may be
+pub record Grows (w v : Work) : Type 0 where
+  pub rises : Rises (trace w) (trace v)
+  pub left : v .left ≤ 2048
+  pub marks : length (v .ignored) ≡ 4096
+  pub picker : v .picker ≡ w .picker
+
+took-rises : (i j : ℕ) (w : Work) → weight (trace w) < weight (trace (took i j w))
+unfolding weight trace took withOut size
+took-rises i j w = omega (arith, length-append (w .out) (pieceBlock i j ∷ []))
+
+past-rises : (i j : ℕ) (w : Work) → weight (trace w) < weight (trace (tookPast i j w))
+unfolding weight trace tookPast withOut size
+past-rises i j w = omega (arith, length-append (w .out) (pieceBlock i j ∷ []))
+
+mark-rises : (i : ℕ) (w : Work) → Rises (trace w) (trace (ignore i w))
+unfolding weight trace ignore put
+mark-rises i w =
+    ⊎-elim (λ h. inl (record { taken = refl; aside = refl; ignored = h })) (λ h. inr (omega arith)) (set-tally (w .ignored) i)
+
+more-rises : (bs : List PieceBlock) (w : Work) → size (w .backup) < 2048 → Rises (trace w) (trace (withBackup (w .backup ++ bs) w))
+unfolding weight trace withBackup size
+more-rises [] w h = inl (record { taken = refl; aside = omega (arith, length-append (w .backup) []); ignored = refl })
+more-rises (x ∷ bs) w h = inr (omega (arith, length-append (w .backup) (x ∷ bs)))
+
+aside-rises : (d : Partial) (first : ℕ) (w : Work) → w .left ≤ 2048 → Rises (trace w) (trace (setAside d first w))
+unfolding setAside
+aside-rises d first w l =
+    let bs = each (pieceBlock (d .piece)) (freeFrom d first) in
+    cond-keeps (λ v. Rises (trace w) (trace v)) (leb (w .left) (size (w .backup))) w (withBackup (w .backup ++ bs) w)
+    (λ e. rises-same (trace w)) (λ e. more-rises bs w (omega (arith, leb-false (w .left) (size (w .backup)) e)))
+
+aside-same : (d : Partial) (first : ℕ) (w : Work)
+    → (setAside d first w .left ≡ w .left) × (setAside d first w .ignored ≡ w .ignored) × (setAside d first w .picker ≡ w .picker)
+unfolding setAside withBackup
+aside-same d first w =
+    cond-keeps (λ v. (v .left ≡ w .left) × (v .ignored ≡ w .ignored) × (v .picker ≡ w .picker)) (leb (w .left) (size (w .backup))) w
+    (withBackup (w .backup ++ each (pieceBlock (d .piece)) (freeFrom d first)) w) (λ e. (refl, refl, refl)) (λ e. (refl, refl, refl))
+
+module _ (u : Work) where
+  -- one more change
+  grows-by : (w v : Work) → Rises (trace w) (trace v) → v .left ≤ w .left → length (v .ignored) ≡ length (w .ignored) → v .picker ≡ w .picker
+      → Grows u w → Grows u v
+  grows-by w v r l m p h = record {
+    rises = rises-then (trace u) (trace w) (trace v) (h .rises) r;
+    left = omega (arith, h .left);
+    marks = m ∙ h .marks;
+    picker = p ∙ h .picker;
+  }
+
+  grows-run : (r : Run) (w : Work) → Grows u w → Grows u (withRun r w)
+  unfolding withRun withOut trace
+  grows-run r w h = record { rises = h .rises; left = h .left; marks = h .marks; picker = h .picker }
+
+  grows-took : (i j : ℕ) (w : Work) → Grows u w → Grows u (took i j w)
+  unfolding took withOut
+  grows-took i j w h = grows-by w (took i j w) (inr (took-rises i j w)) (omega arith) refl refl h
+
+  grows-past : (i j : ℕ) (w : Work) → Grows u w → Grows u (tookPast i j w)
+  unfolding tookPast withOut
+  grows-past i j w h = grows-by w (tookPast i j w) (inr (past-rises i j w)) (omega arith) refl refl h
+
+  grows-mark : (i : ℕ) (w : Work) → Grows u w → Grows u (ignore i w)
+  unfolding ignore put
+  grows-mark i w h = grows-by w (ignore i w) (mark-rises i w) (omega arith) (length-set (w .ignored) i true) refl h
+
+  grows-aside : (d : Partial) (first : ℕ) (w : Work) → Grows u w → Grows u (setAside d first w)
+  grows-aside d first w h =
+      let e = aside-same d first w in
+      grows-by w (setAside d first w) (aside-rises d first w (h .left)) (omega (arith, e .0)) (ap length (e .1)) (e .2) h
+
+  grows-closed : Closed (Grows u)
+  grows-closed = record { run = grows-run; takes = grows-took; past = grows-past; marks = grows-mark; aside = grows-aside }
+
+  -- a flag
+  pub grows-flag : (f : ℕ) (w : Work) → Grows u w → Grows u (flagged f w)
+  unfolding flagged trace
+  grows-flag f w h = record { rises = h .rises; left = h .left; marks = h .marks; picker = h .picker }
+
+  -- steps on a counter
+  pub grows-step : (n c : ℕ) (w : Work) → Grows u w → Grows u (steps n c w)
+  unfolding steps trace
+  grows-step n c w h = record { rises = h .rises; left = h .left; marks = h .marks; picker = h .picker }
+
+  -- what a piece adds
+  pub blocks-grow : (a : Ask) (i : ℕ) (w : Work) → Grows u w → Grows u (addBlocks a i w)
+  blocks-grow a i w h = blocks-keeps (Grows u) grows-closed a i w h
+
+  -- a whole piece in the random walk
+  pub all-grow : (i : ℕ) (w : Work) → Grows u w → Grows u (takeAll i w)
+  all-grow i w h = all-keeps (Grows u) grows-closed (grows-step 1 randLoops) grows-flag i w h
+
+  -- a run of them
+  pub run-grow : (is : List ℕ) (w : Work) → Grows u w → Grows u (takeRun takeAll is w)
+  run-grow is w h = run-keeps (Grows u) grows-closed takeAll all-grow is w h
+
+-- ---- a run in the random walk ignores its piece and takes a block of it
+-- the marks stay while blocks are taken
+all-marks : (i : ℕ) (w : Work) → takeAll i w .ignored ≡ w .ignored
+unfolding takeAll walk randStep took withOut steps flagged
+all-marks i w =
+    walkUntil-keeps (λ v. v .ignored ≡ w .ignored) (randStep i) (λ x t. runOver (randStep i x t)) (λ j t g. g) (from 0 (blocksAt (w .picker) i)) (flagged randomPieces w) refl
+
+-- a work that has grown may grow on
+pub grows-self : (u w : Work) → Grows u w → Grows w w
+grows-self u w h = record { rises = rises-same (trace w); left = h .left; marks = h .marks; picker = refl }
+
+rand-grows : (u : Work) (i j : ℕ) (w : Work) → Grows u w → Grows u (randStep i j w)
+unfolding randStep
+rand-grows u i j w h = grows-took u i j (steps 1 randLoops w) (grows-step u 1 randLoops w h)
+
+rand-rises : (i j f : ℕ) (w : Work) → weight (trace w) < weight (trace (randStep i j (flagged f w)))
+unfolding randStep weight trace flagged steps took withOut size
+rand-rises i j f w = omega (arith, length-append (w .out) (pieceBlock i j ∷ []))
+
+-- a piece with a block: the number rises
+all-rises : (i : ℕ) (w : Work) → 1 ≤ blocksAt (w .picker) i → Grows w w → weight (trace w) < weight (trace (takeAll i w))
+unfolding takeAll walk walkUntil from
+all-rises i w h g = go (blocksAt (w .picker) i) h
+  where
+    go : (n : ℕ) → 1 ≤ n → weight (trace w) < weight (trace (walk (randStep i) runOver (from 0 n) (flagged randomPieces w)))
+    go zero l = absurd (omega arith)
+    go (suc n) l =
+        let halt : ℕ → Work → Bool = λ x t. runOver (randStep i x t) in
+        let v = randStep i 0 (flagged randomPieces w) in
+        let s = grows-self w v (rand-grows w i 0 (flagged randomPieces w) (grows-flag w randomPieces w g)) in
+        let m = unless-keeps (Grows v) (halt 0 (flagged randomPieces w)) (λ t. walkUntil (randStep i) halt (from 1 n) t) v s
+        (λ e. walkUntil-keeps (Grows v) (randStep i) halt (rand-grows v i) (from 1 n) v s) in
+        omega (arith, rand-rises i 0 randomPieces w, rises-weight _ _ (m .rises))
+
+mark-weight : (i : ℕ) (w : Work) → i < length (w .ignored) → isIgnored i w ≡ false → weight (trace w) < weight (trace (ignore i w))
+unfolding weight trace ignore put isIgnored at
+mark-weight i w l e = omega (arith, set-mark (w .ignored) i l e)
+
+-- piece i ignored and taken: the number rises by 2
+visit-rises : (i : ℕ) (u w : Work) → i < 4096 → isIgnored i w ≡ false → 1 ≤ blocksAt (w .picker) i → Grows u w
+    → weight (trace w) + 2 ≤ weight (trace (takeAll i (ignore i w)))
+unfolding ignore
+visit-rises i u w l e h g =
+    let m = mark-weight i w (omega (arith, g .marks)) e in
+    omega (arith, all-rises i (ignore i w) h (grows-self u (ignore i w) (grows-mark u i w g)))
+
+-- ---- a run over pieces
+run-step-grows : (u : Work) (x : ℕ) (w : Work) → Grows u w → Grows u (runStep takeAll x w)
+unfolding runStep
+run-step-grows u x w h =
+    cond-keeps (Grows u) (isIgnored x w) (withRun (shorter (w .run)) w) (takeAll x (ignore x w))
+    (λ e. grows-run u (shorter (w .run)) w h) (λ e. all-grow u x (ignore x w) (grows-mark u x w h))
+
+-- another piece's mark stays
+run-unmarked : (i : ℕ) (r : Run) (w : Work) → isIgnored i w ≡ false → isIgnored i (withRun r w) ≡ false
+unfolding isIgnored withRun withOut
+run-unmarked i r w h = h
+
+other-unmarked : (i x : ℕ) (w : Work) → (i ≡ x → ⊥) → isIgnored i w ≡ false → isIgnored i (takeAll x (ignore x w)) ≡ false
+unfolding isIgnored ignore put at
+other-unmarked i x w n h = rw (all-marks x (ignore x w)) (getD-set-other (w .ignored) x i true false n ∙ h)
+
+run-step-other : (i x : ℕ) (w : Work) → (i ≡ x → ⊥) → isIgnored i w ≡ false → isIgnored i (runStep takeAll x w) ≡ false
+unfolding runStep
+run-step-other i x w n h =
+    cond-keeps (λ v. isIgnored i v ≡ false) (isIgnored x w) (withRun (shorter (w .run)) w) (takeAll x (ignore x w))
+    (λ e. run-unmarked i (shorter (w .run)) w h) (λ e. other-unmarked i x w n h)
+
+-- where the run ends no block is wanted
+run-halt-spent : (x : ℕ) (w : Work) → runHalt x w ≡ true → spent (runStep takeAll x w) ≡ true
+unfolding runHalt runStep runMet
+run-halt-spent x w h =
+    let v = withRun (shorter (w .run)) w in
+    let e = and-left (isIgnored x w) (runMet v) h in
+    let g = and-right (isIgnored x w) (runMet v) h in
+    rw e (and-right (runIsZero (v .run)) (spent v) g)
+
+module _ (i : ℕ) (u : Work) (inside : i < 4096) (some : 1 ≤ blocksAt (u .picker) i) where
+  -- piece i is taken already, or still to come
+  Coming : List ℕ → Work → Type 0
+  Coming ys w = Grows u w × ((weight (trace u) + 2 ≤ weight (trace w)) ⊎ ((isIgnored i w ≡ false) × (member i ys ≡ true)))
+
+  coming-here : (w : Work) → Grows u w → isIgnored i w ≡ false → weight (trace u) + 2 ≤ weight (trace (runStep takeAll i w))
+  unfolding runStep
+  coming-here w g e =
+      rw e (omega (arith, rises-weight (trace u) (trace w) (g .rises), visit-rises i u w inside e (rw (g .picker) some) g))
+
+  coming-next : (x : ℕ) (ys : List ℕ) (w : Work) → Coming (x ∷ ys) w → Coming ys (runStep takeAll x w)
+  unfolding Coming member some?
+  coming-next x ys w h = (
+    run-step-grows u x w (h .0),
+    ⊎-elim
+        (λ l. inl (let r = rises-weight (trace w) (trace (runStep takeAll x w)) (run-step-grows w x w (grows-self u w (h .0)) .rises) in omega arith))
+        (λ c. elim (ℕ-discrete i x) [
+          | yes e ↦ inl (rw e at (coming-here w (h .0) (c .0)))
+          | no n ↦ inr (run-step-other i x w n (c .0), rw (ne-eqb i x n) at (c .1))
+        ]) (h .1),
+  )
+
+  -- a run over pieces of which i is one: no block is wanted after it, or the number rose by 2
+  pub run-rises : (is : List ℕ) → member i is ≡ true → isIgnored i u ≡ false → Grows u u
+      → (spent (takeRun takeAll is u) ≡ true) ⊎ (weight (trace u) + 2 ≤ weight (trace (takeRun takeAll is u)))
+  unfolding takeRun Coming member some?
+  run-rises is m e g =
+      walkUntil-ends Coming (λ v. (spent v ≡ true) ⊎ (weight (trace u) + 2 ≤ weight (trace v))) (runStep takeAll) runHalt
+      (λ x ys t h q. coming-next x ys t h) (λ x ys t h q. inl (run-halt-spent x t q))
+      (λ t h. inr (⊎-elim (λ l. l) (λ c. absurd (true≢false (sym (c .1)))) (h .1))) is u (g, inr (e, m))
+
+-- ---- the bound
+-- where blocks are wanted the number is at most 8,191
+pub weight-most : (b N R m : ℕ) (w : Work) → N ≤ 2048 → spent w ≡ false → length (w .ignored) ≡ 4096 → Tight b N R m w → weight (trace w) ≤ 8191
+unfolding Tight weight trace
+weight-most b N R m w most z l h =
+    let u = tight-unspent b N R m w z h in
+    let f = u .1 .1 .few in
+    let p = u .0 in
+    omega (arith, tally-le (λ b. b) (w .ignored))
