@@ -27,12 +27,12 @@ use Rattle.model.proofs.KeepWish.{setPiecePriority-keeps}
 
 -- ---- what a call that is not refused knows
 -- a check that does not refuse failed, and so did those after it
-check-none : (b : Bool) (n : ℕ) (r : Option ℕ) → check b n r ≡ none → (b ≡ false) × (r ≡ none)
+pub check-none : (b : Bool) (n : ℕ) (r : Option ℕ) → check b n r ≡ none → (b ≡ false) × (r ≡ none)
 unfolding check
 check-none true n r e = absurd (Option·none-ne-some n (sym e))
 check-none false n r e = (refl, e)
 
-drawn : (ds : List ℕ) (r : Option ℕ) → fewDraws ds r ≡ none → r ≡ none
+pub drawn : (ds : List ℕ) (r : Option ℕ) → fewDraws ds r ≡ none → r ≡ none
 unfolding fewDraws
 drawn ds r e = check-none (ltb (size ds) leastDraws) 4 r e .1
 
