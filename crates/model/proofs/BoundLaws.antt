@@ -23,9 +23,11 @@ use Rattle.model.specs.Pick.{randStep, takeAll}
 use Rattle.model.specs.Sound.{partialsFrom, Sound}
 use Rattle.model.proofs.Bep3Laws.{blocksPerPiece-pos, blocksPerPiece-le, blocksInPiece-le}
 use Rattle.model.proofs.Tallies.{length-from, length-filter, tally-le}
-use Rattle.model.proofs.WalkLaws.{and-left, and-right, and-both, cond-keeps, unless-keeps, onlyIf-keeps, walkUntil-counts, walk-counts}
+use Rattle.model.proofs.WalkLaws.{unless-keeps, onlyIf-keeps, walkUntil-counts, walk-counts}
 use Rattle.model.proofs.SpanLaws.{least-left, least-right, span-blocks}
 use Rattle.model.proofs.SoundPick.{sound-sized}
+use Rattle.model.proofs.Truths.{and-left, and-right, true-both}
+use Rattle.model.proofs.Phases.{cond-arms}
 
 -- ---- the geometry
 -- at most 256 blocks
@@ -64,7 +66,7 @@ unfolding partialsFrom findIn every
 every-found ok lo [] h f = refl
 every-found ok lo (d ∷ ds) h f =
     let r = and-right (ltb lo (suc (d .piece))) (partialsFrom (suc (d .piece)) ds) h in
-    and-both (ok d) (every ok ds) (f (d .piece) d (rw (eq-eqb (d .piece) (d .piece) refl)))
+    true-both (ok d) (every ok ds) (f (d .piece) d (rw (eq-eqb (d .piece) (d .piece) refl)))
     (every-found ok (suc (d .piece)) ds r
     (λ i e g. let l = found-from (suc (d .piece)) i e ds r g in f i e (rw (ne-eqb (d .piece) i (λ q. omega arith)) g)))
 
@@ -234,7 +236,7 @@ module _ (b N R : ℕ) where
   unfolding takeRun runStep shorter
   takeRun-tight takes f is m w h =
       walkUntil-counts (Tight b N R) tight-more (runStep takes) b runHalt
-      (λ k i t g. cond-keeps (Tight b N R (k + b)) (isIgnored i t) (withRun (shorter (t .run)) t) (takes i (ignore i t))
+      (λ k i t g. cond-arms (Tight b N R (k + b)) (isIgnored i t) (withRun (shorter (t .run)) t) (takes i (ignore i t))
       (λ e. tight-more k (k + b) (withRun (shorter (t .run)) t) (omega arith) (run-tight k (shorter (t .run)) t (asked-le k t g) g))
       (λ e. f k i (ignore i t) (mark-tight k i t g)))
       is m w h
@@ -268,7 +270,7 @@ module _ (b N R : ℕ) where
   new-tight a i w p h =
       let n = least (payloadAt (w .picker) i) (w .left) in
       let is = piecesOf (expandPiece a i w) in
-      cond-keeps (Tight b N R (N + R + 255)) (runIsZero (w .run)) (takePiece (λ t. false) i n w) (takeRun takePayload is w)
+      cond-arms (Tight b N R (N + R + 255)) (runIsZero (w .run)) (takePiece (λ t. false) i n w) (takeRun takePayload is w)
       (λ e. tight-more (size (w .out) + n) (N + R + 255) (takePiece (λ t. false) i n w)
       (omega (arith, left-le (N - 1) w h (omega arith), least-right (payloadAt (w .picker) i) (w .left)))
       (piece-tight (λ t. false) i n (size (w .out)) w (tight-now (N - 1) w h)))
@@ -284,7 +286,7 @@ module _ (b N R : ℕ) where
   free-tight d first w o p h =
       tight-more (N - 1 + size (freeFrom d first) * 1) (N + R + 255) (takeFree d first w) (omega (arith, free-size d first, small-le d o))
       (walkUntil-counts (Tight b N R) tight-more (freeStep (d .piece)) 1 (freeHalt (d .piece))
-      (λ k j t g. cond-keeps (Tight b N R (k + 1)) (runAbove 0 (t .run)) (took (d .piece) j t) (tookPast (d .piece) j t)
+      (λ k j t g. cond-arms (Tight b N R (k + 1)) (runAbove 0 (t .run)) (took (d .piece) j t) (tookPast (d .piece) j t)
       (λ e. took-tight k (d .piece) j t g) (λ e. past-tight k (d .piece) j t g))
       (freeFrom d first) (N - 1) w h)
 
@@ -297,7 +299,7 @@ module _ (b N R : ℕ) where
         let e2 = length-each (pieceBlock (d .piece)) (freeFrom d first) in
         let l = free-size d first in
         let k = small-le d o in
-        cond-keeps (Tight b N R m) (leb (w .left) (size (w .backup))) w (withBackup bs w) (λ e. h)
+        cond-arms (Tight b N R m) (leb (w .left) (size (w .backup))) w (withBackup bs w) (λ e. h)
         (λ e. (
           h .0,
           record {
@@ -313,7 +315,7 @@ module _ (b N R : ℕ) where
     unfolding useFree keepingRun
     use-tight a d held w o p h =
         let first = cond (runIsZero (w .run)) 0 (held .first) in
-        cond-keeps (Tight b N R (N + R + 255)) (runAbove (held .longest) (w .run) && (held .active && not (option onParole a))) (setAside d first w)
+        cond-arms (Tight b N R (N + R + 255)) (runAbove (held .longest) (w .run) && (held .active && not (option onParole a))) (setAside d first w)
         (withRun (w .run) (takeFree d first w))
         (λ e. tight-more (N - 1) (N + R + 255) (setAside d first w) (omega arith) (aside-tight d first (N - 1) w o h))
         (λ e. run-tight (N + R + 255) (w .run) (takeFree d first w) (asked-le (N - 1) w h) (free-tight d first w o p h))

@@ -1,6 +1,6 @@
 -- Laws of the bytes of an image: a number and its bytes give each other back, and a field of a body gives the number written there.
 use mathlib.Core.Path.{_≡_, refl, sym, ap, ap₂, _∙_}
-use mathlib.Core.Bool.{Bool, true, false, _&&_}
+use mathlib.Core.Bool.{Bool, true}
 use mathlib.Core.List.{List, [], _∷_, _++_, append-nil}
 use Prim.Native.Nat.{ℕ, zero, suc, _+_, _*_, _/_, _%_, _^_, _≤_, _<_}
 use native.Mathlib.Nat.{mod-lt, mod-eq-of-lt, pow-succ', one-le-pow, add-mul-div-right, add-mul-mod-self-right}
@@ -12,23 +12,9 @@ use lib.Dec.{ltb}
 use borrow.Author.Tests.{ltb-true, lt-ltb}
 use Rattle.model.specs.Lists.{size, every}
 use Rattle.model.specs.Image.{bytesOf, numberOf, field}
+use Rattle.model.proofs.Truths.{both, true-both}
 
 -- ---- tests
--- two tests that both pass, one after the other
-pub both : (a b : Bool) → {X : Type 0} → a && b ≡ true → (a ≡ true → b ≡ true → X) → X
-both true b e k = k refl e
-both false b e k = let z : _≡_ {A = ℕ} 0 1 = cc in absurd (omega arith)
-
--- tests that pass, both together
-pub and-both : (a b : Bool) → a ≡ true → b ≡ true → a && b ≡ true
-and-both true b p q = q
-and-both false b p q = p
-
--- a test, either way
-pub by-test : {X : Type 0} (t : Bool) → (t ≡ true → X) → (t ≡ false → X) → X
-by-test true f g = f refl
-by-test false f g = g refl
-
 module _ {A : Type 0} where
   -- the size of lists one after another
   pub size-append : (xs ys : List A) → size (xs ++ ys) ≡ size xs + size ys
@@ -40,13 +26,13 @@ module _ {A : Type 0} where
   unfolding every
   every-append t [] ys p q = q
   every-append t (x ∷ xs) ys p q =
-      both (t x) (every t xs) p λ a b. and-both (t x) (every t (xs ++ ys)) a (every-append t xs ys b q)
+      both (t x) (every t xs) p λ a b. true-both (t x) (every t (xs ++ ys)) a (every-append t xs ys b q)
 
   every-take : (t : A → Bool) (n : ℕ) (xs : List A) → every t xs ≡ true → every t (take n xs) ≡ true
   unfolding every
   every-take t zero xs p = refl
   every-take t (suc n) [] p = refl
-  every-take t (suc n) (x ∷ xs) p = both (t x) (every t xs) p λ a b. and-both (t x) (every t (take n xs)) a (every-take t n xs b)
+  every-take t (suc n) (x ∷ xs) p = both (t x) (every t xs) p λ a b. true-both (t x) (every t (take n xs)) a (every-take t n xs b)
 
   every-drop : (t : A → Bool) (n : ℕ) (xs : List A) → every t xs ≡ true → every t (drop n xs) ≡ true
   unfolding every
@@ -77,7 +63,7 @@ pub bytesOf-bytes : (w n : ℕ) → Bytes (bytesOf w n)
 unfolding bytesOf every
 bytesOf-bytes zero n = refl
 bytesOf-bytes (suc w) n =
-    and-both (ltb (n / 256 ^ w % 256) 256) (every (λ c. ltb c 256) (bytesOf w n)) (lt-ltb (n / 256 ^ w % 256) 256 (mod-lt (n / 256 ^ w) (omega arith)))
+    true-both (ltb (n / 256 ^ w % 256) 256) (every (λ c. ltb c 256) (bytesOf w n)) (lt-ltb (n / 256 ^ w % 256) 256 (mod-lt (n / 256 ^ w) (omega arith)))
     (bytesOf-bytes w n)
 
 numberOf-bytesOf : (w a n : ℕ) → numberOf a (bytesOf w n) ≡ a * 256 ^ w + n % 256 ^ w

@@ -11,7 +11,8 @@ use lib.Dec.{eqb, leb, ltb}
 use borrow.Author.Tests.{eqb-true, eq-eqb, leb-true, le-leb}
 use Rattle.model.specs.Lists.{size, every}
 use Rattle.model.specs.Image.{bodyLength, Got, got, fault, Reader, next, startsWith, given, judged, obeying}
-use Rattle.model.proofs.Bytes.{both, and-both, Bytes}
+use Rattle.model.proofs.Bytes.{Bytes}
+use Rattle.model.proofs.Truths.{both, true-both}
 
 -- `get` reads what `put` writes, and nothing else; Ok says which values
 pub record Codec {A : Type 0} (put : A → List ℕ) (get : Reader A) (Ok : A → Type 0) : Type 0 where
@@ -69,9 +70,9 @@ module _ {A : Type 0} (kind : ℕ) (f : List ℕ → Option A) where
   unfolding startsWith size
   starts body rest h v =
       let e : take (bodyLength kind) (body ++ rest) ≡ body = take-at body rest (bodyLength kind) h in
-      and-both (eqb kind kind) (leb (bodyLength kind) (length (body ++ rest)) && every (λ c. ltb c 256) (take (bodyLength kind) (body ++ rest)))
+      true-both (eqb kind kind) (leb (bodyLength kind) (length (body ++ rest)) && every (λ c. ltb c 256) (take (bodyLength kind) (body ++ rest)))
       (eq-eqb kind kind refl)
-      (and-both (leb (bodyLength kind) (length (body ++ rest))) (every (λ c. ltb c 256) (take (bodyLength kind) (body ++ rest)))
+      (true-both (leb (bodyLength kind) (length (body ++ rest))) (every (λ c. ltb c 256) (take (bodyLength kind) (body ++ rest)))
       (le-leb (bodyLength kind) (length (body ++ rest)) (omega (arith, length-append body rest)))
       (rw e v))
 

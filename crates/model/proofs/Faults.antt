@@ -14,10 +14,11 @@ use Rattle.model.specs.State.{Piece, Block, Picker, Listing, stale, fres
 use Rattle.model.specs.Order.{withBucket}
 use Rattle.model.specs.WellFormed.{stateOk, wellFormed}
 use Rattle.model.specs.Image.{headKind, pieceKind, partialKind, blockKind, extentKind, placeKind, image, Got, got, fault, next, startsWith, judged, readHead, readPiece, readBlock, readLastBlock, readPartial, readExtent, readPlace, getPieces, getBlocks, partialWith, getPartial, getPartials, getExtents, getOrder, getListing, getPicker, Read, accepted, faultAt, whole, readImage}
-use Rattle.model.proofs.Bytes.{by-test, size-append}
+use Rattle.model.proofs.Bytes.{size-append}
 use Rattle.model.proofs.Parts.{open-read, shut-read, extents-end, extents-full, extents-more}
 use Rattle.model.proofs.ImageLaws.{image-accepted}
 use Rattle.model.proofs.Steady.{Whole, frontLength, SameFront, first, same-first, Ended, ends-got, ends-fault, Steady, empty, steady-same, steady-ret, steady-next, steady-judged, steady-where}
+use Rattle.model.proofs.Truths.{by-test}
 
 -- ---- every reader is steady
 pieces-steady : (s : Picker) (i n : ℕ) → Steady (getPieces s i n)

@@ -13,7 +13,8 @@ use Rattle.model.specs.Options.{onParole, prioritizePartials, randomPiec
 use Rattle.model.specs.Partials.{partialOf}
 use Rattle.model.specs.Blocks.{Ask, option, hasBit, Run, PieceBlock, Work, withOut, withRun, withBackup, ignore, flagged, steps, isIgnored, runIsZero, runAbove, shorter, expandPiece, piecesOf, pieceBlock, took, tookPast, runMet, runOver, takePiece, runStep, runHalt, takeRun, takePayload, addNewPiece, Held, requestedFrom, freeFrom, setAside, freeStep, freeHalt, takeFree, keepingRun, useFree, addBlocksDownloading, addPartialOf, addStanding, addBlocks, appendBackup}
 use Rattle.model.specs.Pick.{randStep, takeAll}
-use Rattle.model.proofs.WalkLaws.{cond-keeps, unless-keeps, onlyIf-keeps, walkUntil-keeps}
+use Rattle.model.proofs.WalkLaws.{unless-keeps, onlyIf-keeps, walkUntil-keeps}
+use Rattle.model.proofs.Phases.{cond-arms}
 
 -- a block taken, another run, a mark and a partial set aside keep I
 pub record Closed (I : Work → Type 0) : Type 0 where
@@ -38,14 +39,14 @@ module _ (I : Work → Type 0) (k : Closed I) where
   unfolding takeRun runStep
   run-keeps takes f is w h =
       walkUntil-keeps I (runStep takes) runHalt
-      (λ i t g. cond-keeps I (isIgnored i t) (withRun (shorter (t .run)) t) (takes i (ignore i t))
+      (λ i t g. cond-arms I (isIgnored i t) (withRun (shorter (t .run)) t) (takes i (ignore i t))
       (λ e. k .run (shorter (t .run)) t g) (λ e. f i (ignore i t) (k .marks i t g)))
       is w h
 
   new-blind : (a : Ask) (i : ℕ) (w : Work) → I w → I (addNewPiece a i w)
   unfolding addNewPiece takePayload
   new-blind a i w h =
-      cond-keeps I (runIsZero (w .run)) (takePiece (λ t. false) i (least (payloadAt (w .picker) i) (w .left)) w)
+      cond-arms I (runIsZero (w .run)) (takePiece (λ t. false) i (least (payloadAt (w .picker) i) (w .left)) w)
       (takeRun takePayload (piecesOf (expandPiece a i w)) w)
       (λ e. piece-blind (λ t. false) i (least (payloadAt (w .picker) i) (w .left)) w h)
       (λ e. run-keeps takePayload (λ j t g. piece-blind runMet j (payloadAt (t .picker) j) t g) (piecesOf (expandPiece a i w)) w h)
@@ -54,7 +55,7 @@ module _ (I : Work → Type 0) (k : Closed I) where
   unfolding takeFree freeStep
   free-blind d first w h =
       walkUntil-keeps I (freeStep (d .piece)) (freeHalt (d .piece))
-      (λ j t g. cond-keeps I (runAbove 0 (t .run)) (took (d .piece) j t) (tookPast (d .piece) j t)
+      (λ j t g. cond-arms I (runAbove 0 (t .run)) (took (d .piece) j t) (tookPast (d .piece) j t)
       (λ e. k .takes (d .piece) j t g) (λ e. k .past (d .piece) j t g))
       (freeFrom d first) w h
 
@@ -62,7 +63,7 @@ module _ (I : Work → Type 0) (k : Closed I) where
   unfolding useFree
   use-blind a d held w h =
       let first = cond (runIsZero (w .run)) 0 (held .first) in
-      cond-keeps I (runAbove (held .longest) (w .run) && (held .active && not (option onParole a))) (setAside d first w)
+      cond-arms I (runAbove (held .longest) (w .run) && (held .active && not (option onParole a))) (setAside d first w)
       (keepingRun (takeFree d first) w)
       (λ e. k .aside d first w h) (λ e. keepingRun-keeps I (k .run) (takeFree d first) w (free-blind d first w h))
 
@@ -121,7 +122,7 @@ module _ (I : Work → Type 0) (k : Blind I) where
     past = λ i j w h. k .out (w .left - 1) (w .run) (w .out ++ (pieceBlock i j ∷ [])) w h;
     marks = k .marks;
     aside = λ d first w h. let bs = w .backup ++ each (pieceBlock (d .piece)) (freeFrom d first) in
-        cond-keeps I (leb (w .left) (size (w .backup))) w (withBackup bs w) (λ e. h) (λ e. k .backup bs w h);
+        cond-arms I (leb (w .left) (size (w .backup))) w (withBackup bs w) (λ e. h) (λ e. k .backup bs w h);
   }
 
   -- the blocks set aside, appended

@@ -12,8 +12,9 @@ use lib.Dec.{eqb, ltb, leb}
 use borrow.Author.Tests.{leb-true, le-leb}
 use Rattle.model.specs.Lists.{tally, without}
 use Rattle.model.specs.Listed.{risingFrom, rising}
-use Rattle.model.proofs.Tallies.{two-true, three, lt-bit, ge-bit, eq-bit, ne-bit}
+use Rattle.model.proofs.Tallies.{three, lt-bit, ge-bit, eq-bit, ne-bit}
 use Rattle.model.proofs.GroupTurns.{entered}
+use Rattle.model.proofs.Truths.{both-true}
 
 -- how many ranks are below k
 unfoldable pub below : ℕ → List ℕ → ℕ
@@ -33,7 +34,7 @@ from-test : (b : ℕ → ℕ) (lo : ℕ) (l : List ℕ) → risingFrom b lo l �
 unfolding risingFrom
 from-test b lo [] h = tt
 from-test b lo (x ∷ xs) h =
-    let e = two-true (leb lo (b x)) (risingFrom b (b x) xs) h in (leb-true lo (b x) (e .0), from-test b (b x) xs (e .1))
+    let e = both-true (leb lo (b x)) (risingFrom b (b x) xs) h in (leb-true lo (b x) (e .0), from-test b (b x) xs (e .1))
 
 to-test : (b : ℕ → ℕ) (lo : ℕ) (l : List ℕ) → Rising lo (map b l) → risingFrom b lo l ≡ true
 unfolding risingFrom

@@ -11,11 +11,11 @@ use Rattle.model.specs.Bep3.{numPieces}
 use Rattle.model.specs.State.{Piece, Partial, Picker, Listing, fresh, mostPieces, isStale, orderOf, withPieces, withPartials, withExtents, withListing, piecesIn}
 use Rattle.model.specs.WellFormed.{headOk, piecesOk, partialsOk, extentsOk, listingOk, wellFormed}
 use Rattle.model.specs.Image.{extentKind, placeKind, headRecord, pieceRecord, partialRecords, numberRecord, image, Got, got, fault, Reader, next, comes, getExtents, getListing, getPicker, accepted, whole, readImage}
-use Rattle.model.proofs.Bytes.{both, and-both}
 use Rattle.model.proofs.Codec.{got-value, got-rest, next-back, seq-there, seq-back}
 use Rattle.model.proofs.Records.{bare, head-bare, bare-bare, bare-ok, HeadFits, head-fits, head-codec}
 use Rattle.model.proofs.Parts.{pieces-codec, partials-codec, extents-there, extents-back, listing-there, listing-back}
 use Rattle.model.proofs.Same.{SameHead, pieces-same, partials-same, SamePieces, extents-same, listing-same}
+use Rattle.model.proofs.Truths.{both, true-both}
 
 next-there : {A B : Type 0} {g : Got A} (f : A → Reader B) (a : A) (m : List ℕ) → g ≡ got a m → next g f ≡ f a m
 unfolding next
@@ -52,11 +52,11 @@ well-formed s v =
 pub well-formed-back : (s : Picker) → WellFormed s → wellFormed s ≡ true
 unfolding wellFormed
 well-formed-back s w =
-    and-both (headOk s) _ (w .head)
-    (and-both (eqb (piecesIn s) (numPieces (s .total) (s .size))) _ (eq-eqb (piecesIn s) (numPieces (s .total) (s .size)) (w .counted))
-    (and-both (piecesOk s 0 (s .pieces)) _ (w .pieces-ok)
-    (and-both (partialsOk s 0 0 (s .pieces) (s .partials)) _ (w .partials-ok)
-    (and-both (extentsOk s [] (s .extents)) (listingOk s (s .listing)) (w .extents-ok) (w .listing-ok)))))
+    true-both (headOk s) _ (w .head)
+    (true-both (eqb (piecesIn s) (numPieces (s .total) (s .size))) _ (eq-eqb (piecesIn s) (numPieces (s .total) (s .size)) (w .counted))
+    (true-both (piecesOk s 0 (s .pieces)) _ (w .pieces-ok)
+    (true-both (partialsOk s 0 0 (s .pieces) (s .partials)) _ (w .partials-ok)
+    (true-both (extentsOk s [] (s .extents)) (listingOk s (s .listing)) (w .extents-ok) (w .listing-ok)))))
 
 -- the bytes of the list
 abbrev pub listed : Picker → List ℕ

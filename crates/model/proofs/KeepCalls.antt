@@ -3,7 +3,7 @@ use mathlib.Core.Path.{_≡_, refl, sym}
 use Prim.Native.Nat.{ℕ, zero, suc, _+_, _%_, _^_, _≤_, _<_}
 use native.Mathlib.Nat.{mod-lt, le-of-suc-le-suc}
 use native.Mathlib.Omega.{arith}
-use mathlib.Core.Bool.{Bool, true, false, not, _&&_, _||_, true≢false}
+use mathlib.Core.Bool.{Bool, true, false, not, _&&_, true≢false}
 use mathlib.Core.List.{List, [], _∷_}
 use mathlib.Core.Option.{Option, none, some, Option·none-ne-some}
 use lib.Dec.{eqb, ltb, leb}
@@ -24,6 +24,7 @@ use Rattle.model.proofs.KeepClose.{piecePassed-keeps}
 use Rattle.model.proofs.KeepMarks.{markAsDownloading-keeps, markAsWriting-keeps, markAsFinished-keeps, abortDownload-keeps}
 use Rattle.model.proofs.SoundPick.{pick-sound}
 use Rattle.model.proofs.KeepWish.{setPiecePriority-keeps}
+use Rattle.model.proofs.Truths.{or-no-left, or-no-right}
 
 -- ---- what a call that is not refused knows
 -- a check that does not refuse failed, and so did those after it
@@ -58,16 +59,12 @@ not-full : (s : Picker) (p : Piece) → countFull s p ≡ false → p .count + s
 unfolding countFull
 not-full s p e = leb-false mostPeers (p .count + s .seeds) e
 
-both-false : (a b : Bool) → (a || b) ≡ false → (a ≡ false) × (b ≡ false)
-both-false true b h = absurd (true≢false h)
-both-false false b h = (refl, h)
-
 -- a test that none of a list passes fails at each place
 none-passes : (t : Piece → Bool) (e : Piece) (l : List Piece) → some? t l ≡ false → (i : ℕ) → i < size l → t (at e l i) ≡ false
 unfolding some? at size
 none-passes t e [] h i k = absurd (omega arith)
-none-passes t e (x ∷ xs) h zero k = both-false (t x) (some? t xs) h .0
-none-passes t e (x ∷ xs) h (suc i) k = none-passes t e xs (both-false (t x) (some? t xs) h .1) i (le-of-suc-le-suc k)
+none-passes t e (x ∷ xs) h zero k = or-no-left (t x) (some? t xs) h
+none-passes t e (x ∷ xs) h (suc i) k = none-passes t e xs (or-no-right (t x) (some? t xs) h) i (le-of-suc-le-suc k)
 
 -- a peer or a seed is there to be taken away
 some-peer : (c n : ℕ) → (eqb n 0 && eqb c 0) ≡ false → 1 ≤ c + n

@@ -25,6 +25,7 @@ use Rattle.model.proofs.Phases.{unless-arms}
 use Rattle.model.proofs.RankLaws.{pieceAt-same}
 use Rattle.model.proofs.SoundBody.{Frame, At, taken, Body, BodyBut, fits-partial, partial-fits, piece-in, in-piece, sound-body, body-sound, sound-standing, within}
 use Rattle.model.proofs.SoundFields.{frame-piece, at-piece, alone-piece, moved-sound}
+use Rattle.model.proofs.Truths.{or-no-right}
 
 -- ---- queues
 -- queues with the same number are one
@@ -165,10 +166,6 @@ either : (a b : Bool) → (a || b) ≡ true → (a ≡ true) ⊎ (b ≡ true)
 either true b h = inl refl
 either false b h = inr h
 
-neither : (a b : Bool) → (a || b) ≡ false → b ≡ false
-neither true b h = absurd (true≢false h)
-neither false b h = h
-
 -- ---- the update
 -- whatever the state of piece i was, after it all is right
 pub update-keeps : (ds : List ℕ) (i : ℕ) (d : Partial) (w : Led)
@@ -186,7 +183,7 @@ update-keeps ds i d w b l =
     new : (sameQueue q (p .state) || isOpen q) ≡ false → Sound (setState ds i q w .picker)
     new e =
         moved-sound ds i (withPiece i (withState q)) w (alone-piece i (withState q) (w .picker)) l
-        (set-body i d (w .picker) q (neither (sameQueue q (p .state)) (isOpen q) e) refl b)
+        (set-body i d (w .picker) q (or-no-right (sameQueue q (p .state)) (isOpen q) e) refl b)
 
     right : (sameQueue q (p .state) ≡ true) ⊎ (isOpen q ≡ true) → stateOk p d ≡ true
     right (inl e) = due-right d p (p .state) (sym (same-queue q (p .state) e))

@@ -1,8 +1,15 @@
+-- ---- cases
 pub mod Everything
 pub mod Examples
+-- ---- geometry
 pub mod Bep3Laws
 pub mod Bep3Cases
+-- ---- tests, tallies, walks
+pub mod Truths
+pub mod Phases
 pub mod Tallies
+pub mod WalkLaws
+-- ---- the list
 pub mod GroupTurns
 pub mod GroupRise
 pub mod GroupMoves
@@ -11,8 +18,7 @@ pub mod ListedRebuild
 pub mod ListedLaws
 pub mod RankLaws
 pub mod ListingLaws
-pub mod ListingChanges
-pub mod Truths
+-- ---- well-formedness, by records and by fields
 pub mod PieceLaws
 pub mod PartialLaws
 pub mod SoundPieces
@@ -20,16 +26,7 @@ pub mod SoundPartials
 pub mod SoundListing
 pub mod SoundLaws
 pub mod NewSound
-pub mod Told
-pub mod Bytes
-pub mod Codec
-pub mod Records
-pub mod Parts
-pub mod Same
-pub mod ImageLaws
-pub mod Steady
-pub mod Faults
-pub mod Phases
+-- ---- every change keeps it
 pub mod SoundBody
 pub mod SoundFields
 pub mod KeepCounts
@@ -42,8 +39,7 @@ pub mod KeepOpen
 pub mod KeepTurn
 pub mod KeepMarks
 pub mod KeepWish
-pub mod KeepCalls
-pub mod WalkLaws
+-- ---- picks: what they leave, and their bounds
 pub mod FrameLaws
 pub mod PhaseLaws
 pub mod CounterLaws
@@ -59,4 +55,16 @@ pub mod RandLoops
 pub mod LoopFrame
 pub mod LoopCount
 pub mod LoopLaws
+-- ---- every call
+pub mod KeepCalls
 pub mod CallDraws
+pub mod Told
+-- ---- the image
+pub mod Bytes
+pub mod Codec
+pub mod Records
+pub mod Parts
+pub mod Same
+pub mod ImageLaws
+pub mod Steady
+pub mod Faults

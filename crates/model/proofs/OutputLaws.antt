@@ -14,11 +14,12 @@ use Rattle.model.specs.Blocks.{Ask, option, Work, begin, spent, withOut,
 use Rattle.model.specs.Pick.{asked, startPick, partialsDone, forgetExtent, takeAll, pickRandom, pickEndGame, refreshed, pickListed, pickMain, pickRest, phases, pickPieces}
 use Rattle.model.specs.Sound.{Sound}
 use Rattle.model.specs.Calls.{askFits}
-use Rattle.model.proofs.WalkLaws.{fork-keeps, unless-keeps, or-no-left}
+use Rattle.model.proofs.WalkLaws.{fork-keeps, unless-keeps}
 use Rattle.model.proofs.PhaseLaws.{flag-spent, Kept, pickListed-keeps, ring-keeps, pickEndGame-keeps, phases-keeps, startPick-keeps, asked-wanted, asked-run, start-more}
 use Rattle.model.proofs.ListingLaws.{OnlyListing, refresh-only}
 use Rattle.model.proofs.SoundPick.{ask-fits}
 use Rattle.model.proofs.BoundLaws.{small, Fits, sound-fits, Tight, tight-more, tight-unspent, mark-tight, flag-tight, step-tight, all-tight, span-tight, downloading-tight, blocks-tight, backup-tight}
+use Rattle.model.proofs.Truths.{or-no-left}
 
 only-of : (ds : List ℕ) (t : ℕ) (s : Picker) → OnlyListing s (refresh ds (led t s) .picker)
 unfolding led

@@ -15,9 +15,10 @@ use Rattle.model.specs.Order.{withBucket}
 use Rattle.model.specs.WellFormed.{pieceOk, piecesOk, blockOk, stateOk, partialOk, partialsOk, extentOk, extentsOk, placeOk, orderOk, listingOk}
 use Rattle.model.specs.Image.{bodyLength, partialKind, extentKind, placeKind, bytesOf, pieceRecord, blockRecord, flagsOf, partialRecords, numberRecord, Got, got, fault, ret, next, judged, getPieces, getBlocks, partialWith, getPartial, getPartials, readExtent, comes, getExtents, readPlace, getOrder, getListing}
 use Rattle.model.proofs.Bep3Laws.{blocksInPiece-pos}
-use Rattle.model.proofs.Bytes.{both, and-both, by-test, size-append}
+use Rattle.model.proofs.Bytes.{size-append}
 use Rattle.model.proofs.Codec.{Codec, got-value, got-rest, next-back, seq-there, seq-back}
 use Rattle.model.proofs.Records.{piece-codec, block-codec, last-codec, partial-codec, number-codec, unread, HeadFits}
+use Rattle.model.proofs.Truths.{both, by-test, true-both}
 
 -- ---- the pieces
 pieces-there : (s : Picker) → s .size ≤ mostPieceSize → (n i : ℕ) (ps : List Piece) (rest : List ℕ) → size ps ≡ n → piecesOk s i ps ≡ true
@@ -44,7 +45,7 @@ pieces-back s lim (suc n) i bs ps rest e =
     subst (λ (l : List Piece). (bs ≡ joined pieceRecord l ++ rest) × ((size l ≡ suc n) × (piecesOk s i l ≡ true))) (got-value q₂) (
       p₁ ∙ ap (λ (l : List ℕ). pieceRecord p ++ l) (h .0 ∙ ap (λ (l : List ℕ). joined pieceRecord qs ++ l) (got-rest q₂))
           ∙ sym (append-assoc (pieceRecord p) (joined pieceRecord qs) rest),
-      (ap suc (h .1 .0), and-both (pieceOk s i p) (piecesOk s (suc i) qs) v₁ (h .1 .1)),
+      (ap suc (h .1 .0), true-both (pieceOk s i p) (piecesOk s (suc i) qs) v₁ (h .1 .1)),
     )
 
 -- n pieces, from piece i on
@@ -104,7 +105,7 @@ blocks-back fits (suc zero) before bytes all rest e =
       joins = sym (got-value q);
       written = p ∙ ap (λ (l : List ℕ). blockRecord b ++ l) (got-rest q) ∙ sym (append-assoc (blockRecord b) [] rest);
       counted = refl;
-      ok = and-both (blockOk b) true (v .0) refl;
+      ok = true-both (blockOk b) true (v .0) refl;
       judged-last = λ h. ap fits (sym (got-value q)) ∙ v .1;
     }
 blocks-back fits (suc (suc n)) before bytes all rest e =
@@ -115,7 +116,7 @@ blocks-back fits (suc (suc n)) before bytes all rest e =
       joins = h .joins ∙ append-assoc before (b ∷ []) (h .new);
       written = p ∙ ap (λ (l : List ℕ). blockRecord b ++ l) (h .written) ∙ sym (append-assoc (blockRecord b) (joined blockRecord (h .new)) rest);
       counted = ap suc (h .counted);
-      ok = and-both (blockOk b) (every blockOk (h .new)) v (h .ok);
+      ok = true-both (blockOk b) (every blockOk (h .new)) v (h .ok);
       judged-last = λ k. h .judged-last (omega arith);
     }
 
@@ -190,10 +191,10 @@ partial-whole s i n p f bytes bs m m₂ rest e fit room r q some = (
       ∙ ap₂ (λ (k : ℕ) (l : List ℕ). (partialKind ∷ (bytesOf 4 i ++ bytesOf 1 k)) ++ l) (sym (flags-forth i f bs fit))
       (r .written ∙ ap₂ (λ (x : List Block) (l : List ℕ). joined blockRecord x ++ l) (sym (r .joins)) q)
       ∙ sym (partial-split (partialWith i f bs) rest),
-  and-both (eqb i i) _ (eq-eqb i i refl)
-      (and-both (ltb n mostPartials) _ room
-      (and-both (eqb (size bs) (blocksAt s i)) _ (eq-eqb (size bs) (blocksAt s i) (ap size (r .joins) ∙ r .counted))
-      (and-both (every blockOk bs) _ (ap (every blockOk) (r .joins) ∙ r .ok) (r .judged-last some)))),
+  true-both (eqb i i) _ (eq-eqb i i refl)
+      (true-both (ltb n mostPartials) _ room
+      (true-both (eqb (size bs) (blocksAt s i)) _ (eq-eqb (size bs) (blocksAt s i) (ap size (r .joins) ∙ r .counted))
+      (true-both (every blockOk bs) _ (ap (every blockOk) (r .joins) ∙ r .ok) (r .judged-last some)))),
 )
 
 partial-back : (s : Picker) (i n : ℕ) (p : Piece) (bytes : List ℕ) (d : Partial) (rest : List ℕ) → i < 4294967296 → 1 ≤ blocksAt s i
@@ -290,7 +291,7 @@ module _ (s : Picker) (f : HeadFits s) where
       subst (λ (l : List Partial). (bs ≡ joined partialRecords l ++ rest) × (partialsOk s i n (p ∷ ps) l ≡ true)) (got-value q₂) (
         p₁ ∙ ap (λ (l : List ℕ). partialRecords d ++ l) (r .0 ∙ ap (λ (l : List ℕ). joined partialRecords es ++ l) (got-rest q₂))
             ∙ sym (append-assoc (partialRecords d) (joined partialRecords es) rest),
-        shut-ok s i n p ps o d es ∙ and-both (partialOk s i n p d) (partialsOk s (suc i) (suc n) ps es) v₁ (r .1),
+        shut-ok s i n p ps o d es ∙ true-both (partialOk s i n p d) (partialsOk s (suc i) (suc n) ps es) v₁ (r .1),
       ))
 
 -- the partials of the pieces from i on, where n partials stand before them
@@ -396,7 +397,7 @@ module _ (s : Picker) (lim : piecesIn s ≤ mostPieces) where
         written =
             p ∙ ap (λ (l : List ℕ). numberRecord extentKind x ++ l) (h .written)
             ∙ sym (append-assoc (numberRecord extentKind x) (joined (numberRecord extentKind) (h .new)) rest);
-        ok = and-both (extentOk s before x) (extentsOk s (before ++ (x ∷ [])) (h .new)) v (h .ok);
+        ok = true-both (extentOk s before x) (extentsOk s (before ++ (x ∷ [])) (h .new)) v (h .ok);
         ends = h .ends;
       })
       (λ c. extents-none before bs all rest c (sym (extents-end s (suc n) before bs c) ∙ e))
@@ -452,7 +453,7 @@ module _ (s : Picker) (lim : piecesIn s ≤ mostPieces) where
             p ∙ ap (λ (l : List ℕ). numberRecord placeKind i ++ l) (h .written)
             ∙ sym (append-assoc (numberRecord placeKind i) (joined (numberRecord placeKind) (h .new)) rest);
         counted = ap suc (h .counted);
-        ok = and-both (placeOk s before i) (orderOk s (before ++ (i ∷ [])) (h .new)) v (h .ok);
+        ok = true-both (placeOk s before i) (orderOk s (before ++ (i ∷ [])) (h .new)) v (h .ok);
       }
 
   -- the list, stale or not; the head has told which
@@ -478,7 +479,7 @@ module _ (s : Picker) (lim : piecesIn s ≤ mostPieces) where
       subst (λ (x : Listing). (bs ≡ joined (numberRecord placeKind) (orderOf x) ++ rest) × ((listingOk s x ≡ true) × (isStale x ≡ false))) (got-value q) (
         h .written ∙ ap₂ (λ (x y : List ℕ). joined (numberRecord placeKind) x ++ y) (sym (h .joins)) (got-rest q),
         (
-          and-both (eqb (size is) (size (withBucket s))) (orderOk s [] is) (eq-eqb (size is) (size (withBucket s)) (ap size (h .joins) ∙ h .counted))
+          true-both (eqb (size is) (size (withBucket s))) (orderOk s [] is) (eq-eqb (size is) (size (withBucket s)) (ap size (h .joins) ∙ h .counted))
               (ap (orderOk s []) (h .joins) ∙ h .ok),
           refl,
         ),

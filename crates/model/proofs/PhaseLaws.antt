@@ -17,7 +17,9 @@ use Rattle.model.specs.Partials.{inQueue}
 use Rattle.model.specs.Blocks.{Ask, option, Work, begin, spent, withOut, withPicker, ignore, flagged, steps, runAbove, isFree, expandPiece, piecesOf, pieceBlock, takeRun, addBlocksDownloading, addBlocks, appendBackup}
 use Rattle.model.specs.Pick.{isForced, forcedAsk, asked, startPick, usable, rarer, insertRare, sortRare, byRarity, orderedPartials, partialStep, partialsDone, walkPartials, pickPartials, visit, suggest, pickSuggested, leadingTop, visitBelowTop, pickStretch, pickSequential, inStretch, visitOutside, rareStep, reverseRareStep, Extents, extentStep, forgetExtent, pickExtents, pickForward, pickRarest, onward, trace, Walk, skipStep, skipDone, skip, takeAll, arrive, randomVisit, ended, marked, lapEnds, lapFrom, lapStep, walkOver, ringFuel, ring, busyBlocks, endGamePieces, fullPieces, Tries, noPartial, busyTry, tryStep, triesDone, pickEndGame, refreshed, pickListed, pickMain, pickRest, phases}
 use Rattle.model.proofs.FrameLaws.{Blind, blind-closed, run-keeps, downloading-keeps, blocks-keeps, backup-keeps, all-keeps}
-use Rattle.model.proofs.WalkLaws.{and-left, and-right, and-both, or-no-left, or-no-right, cond-keeps, fork-keeps, unless-keeps, onlyIf-keeps, repeat-keeps, repeat-counts, walk-keeps-in, walk-keeps}
+use Rattle.model.proofs.WalkLaws.{fork-keeps, unless-keeps, onlyIf-keeps, repeat-keeps, repeat-counts, walk-keeps-in, walk-keeps}
+use Rattle.model.proofs.Truths.{and-left, and-right, or-no-left, or-no-right, true-both}
+use Rattle.model.proofs.Phases.{cond-arms}
 
 -- ---- lists of partials
 module _ (ok : Partial → Bool) where
@@ -27,16 +29,16 @@ module _ (ok : Partial → Bool) where
   every-filter t [] h = refl
   every-filter t (d ∷ ds) h =
       let r = every-filter t ds (and-right (ok d) (every ok ds) h) in
-      cond-keeps (λ l. every ok l ≡ true) (t d) (d ∷ filter t ds) (filter t ds)
-      (λ e. and-both (ok d) (every ok (filter t ds)) (and-left (ok d) (every ok ds) h) r) (λ e. r)
+      cond-arms (λ l. every ok l ≡ true) (t d) (d ∷ filter t ds) (filter t ds)
+      (λ e. true-both (ok d) (every ok (filter t ds)) (and-left (ok d) (every ok ds) h) r) (λ e. r)
 
   every-insert : (s : Picker) (d : Partial) (es : List Partial) → ok d ≡ true → every ok es ≡ true → every ok (insertRare s d es) ≡ true
   unfolding every insertRare
-  every-insert s d [] o h = and-both (ok d) true o refl
+  every-insert s d [] o h = true-both (ok d) true o refl
   every-insert s d (e ∷ es) o h =
-      cond-keeps (λ l. every ok l ≡ true) (rarer s d e) (d ∷ e ∷ es) (e ∷ insertRare s d es)
-      (λ q. and-both (ok d) (every ok (e ∷ es)) o h)
-      (λ q. and-both (ok e) (every ok (insertRare s d es)) (and-left (ok e) (every ok es) h) (every-insert s d es o (and-right (ok e) (every ok es) h)))
+      cond-arms (λ l. every ok l ≡ true) (rarer s d e) (d ∷ e ∷ es) (e ∷ insertRare s d es)
+      (λ q. true-both (ok d) (every ok (e ∷ es)) o h)
+      (λ q. true-both (ok e) (every ok (insertRare s d es)) (and-left (ok e) (every ok es) h) (every-insert s d es o (and-right (ok e) (every ok es) h)))
 
   every-sort : (s : Picker) (ds es : List Partial) → every ok ds ≡ true → every ok es ≡ true → every ok (sortRare s ds es) ≡ true
   unfolding every sortRare
@@ -49,7 +51,7 @@ module _ (ok : Partial → Bool) where
   every-ordered a s h =
       let ds = filter (usable a s) (inQueue Downloading s) in
       let o = every-filter (usable a s) (inQueue Downloading s) (every-filter _ (s .partials) h) in
-      cond-keeps (λ l. every ok l ≡ true) (byRarity a) (sortRare s ds []) ds (λ e. every-sort s ds [] o refl) (λ e. o)
+      cond-arms (λ l. every ok l ≡ true) (byRarity a) (sortRare s ds []) ds (λ e. every-sort s ds [] o refl) (λ e. o)
 
 -- ---- where blocks are wanted
 -- more than are set aside
@@ -188,7 +190,7 @@ module _ (a : Ask) (ok : Partial → Bool) (I : Work → Type 0) (k : Kept a ok 
   unfolding pickStretch
   stretch-keeps w z h =
       let s = w .picker in
-      cond-keeps I (option reverse a) (walk (visitBelowTop a reverseSequential) spent (rangeDown (s .cursor) (s .reverseCursor)) w)
+      cond-arms I (option reverse a) (walk (visitBelowTop a reverseSequential) spent (rangeDown (s .cursor) (s .reverseCursor)) w)
       (walk (visitBelowTop a sequentialPieces) spent (range (s .cursor) (s .reverseCursor)) w)
       (λ e. walk-keeps I (visitBelowTop a reverseSequential) spent (below-keeps reverseSequential) (rangeDown (s .cursor) (s .reverseCursor)) w z h)
       (λ e. walk-keeps I (visitBelowTop a sequentialPieces) spent (below-keeps sequentialPieces) (range (s .cursor) (s .reverseCursor)) w z h)
@@ -256,7 +258,7 @@ module _ (a : Ask) (ok : Partial → Bool) (I : Work → Type 0) (k : Kept a ok 
       let s = w .picker in
       let i = x .place in
       let span = expandPiece a i w in
-      cond-keeps (λ y. I (y .work)) (runAbove 1 (w .run) && isOpen (pieceAt s i .state))
+      cond-arms (λ y. I (y .work)) (runAbove 1 (w .run) && isOpen (pieceAt s i .state))
       (arrive start (onward s (span .end - 1)) x (takeRun takeAll (piecesOf span) w))
       (arrive start (onward s i) x (addBlocks a i (flagged randomPieces w)))
       (λ e. k .span i w z h)
@@ -292,7 +294,7 @@ module _ (a : Ask) (ok : Partial → Bool) (I J Q : Work → Type 0) (k : Kept a
   rarest-ends : (w : Work) → spent w ≡ false → I w → Q (pickRarest a w)
   unfolding pickRarest
   rarest-ends w z h =
-      cond-keeps Q (option reverse a) (walk (reverseRareStep a) spent (backwards (orderOf (w .picker .listing))) w) (pickForward a w)
+      cond-arms Q (option reverse a) (walk (reverseRareStep a) spent (backwards (orderOf (w .picker .listing))) w) (pickForward a w)
       (λ e. downs w z h) (λ e. forward-ends w z h)
 
   -- sequential and rarest, from a refreshed list on
@@ -392,17 +394,17 @@ module _ (s : Picker) (a : Ask) where
   -- as many blocks wanted
   pub asked-wanted : asked s a .wanted ≡ a .wanted
   unfolding asked forcedAsk
-  asked-wanted = cond-keeps (λ b. b .wanted ≡ a .wanted) (isForced s a) (forcedAsk a) a (λ e. refl) (λ e. refl)
+  asked-wanted = cond-arms (λ b. b .wanted ≡ a .wanted) (isForced s a) (forcedAsk a) a (λ e. refl) (λ e. refl)
 
   -- a run no longer than the one asked for
   pub asked-run : asked s a .run ≤ a .run
   unfolding asked forcedAsk
-  asked-run = cond-keeps (λ b. b .run ≤ a .run) (isForced s a) (forcedAsk a) a (λ e. omega arith) (λ e. omega arith)
+  asked-run = cond-arms (λ b. b .run ≤ a .run) (isForced s a) (forcedAsk a) a (λ e. omega arith) (λ e. omega arith)
 
   -- the same suggestions
   pub asked-suggestions : asked s a .suggestions ≡ a .suggestions
   unfolding asked forcedAsk
-  asked-suggestions = cond-keeps (λ b. b .suggestions ≡ a .suggestions) (isForced s a) (forcedAsk a) a (λ e. refl) (λ e. refl)
+  asked-suggestions = cond-arms (λ b. b .suggestions ≡ a .suggestions) (isForced s a) (forcedAsk a) a (λ e. refl) (λ e. refl)
 
   begin-more : 1 ≤ asked s a .wanted → partialsDone (begin s (asked s a)) ≡ false
   unfolding partialsDone begin size

@@ -15,12 +15,13 @@ use Rattle.model.specs.Blocks.{Ask, option, Work, begin, spent, withOut,
 use Rattle.model.specs.Pick.{asked, startPick, forgetExtent, randStep, takeAll, pickRandom, pickEndGame, refreshed, pickListed, pickMain, pickRest, pickPieces}
 use Rattle.model.specs.Sound.{Sound}
 use Rattle.model.specs.Calls.{askFits}
-use Rattle.model.proofs.WalkLaws.{cond-keeps, fork-keeps, unless-keeps, walkUntil-keeps}
+use Rattle.model.proofs.WalkLaws.{fork-keeps, unless-keeps, walkUntil-keeps}
 use Rattle.model.proofs.FrameLaws.{Closed, run-keeps, downloading-keeps, blocks-keeps}
 use Rattle.model.proofs.PhaseLaws.{any, every-any, Kept, ring-keeps, pickListed-keeps, pickEndGame-keeps, phases-keeps, startPick-keeps, start-more}
 use Rattle.model.proofs.CounterLaws.{counter, counter-step, counter-other, begin-zero}
 use Rattle.model.proofs.SoundPick.{ask-fits}
 use Rattle.model.proofs.OutputLaws.{pick-output}
+use Rattle.model.proofs.Phases.{cond-arms}
 
 -- no more counted than appended
 unfoldable Counted : Work → Type 0
@@ -35,7 +36,7 @@ counted-closed = record {
   past = λ i j w h. omega (arith, length-append (w .out) (pieceBlock i j ∷ []));
   marks = λ i w h. h;
   aside = λ d first w h.
-      cond-keeps Counted (leb (w .left) (size (w .backup))) w (withBackup (w .backup ++ each (pieceBlock (d .piece)) (freeFrom d first)) w) (λ e. h) (λ e. h);
+      cond-arms Counted (leb (w .left) (size (w .backup))) w (withBackup (w .backup ++ each (pieceBlock (d .piece)) (freeFrom d first)) w) (λ e. h) (λ e. h);
 }
 
 counted-flag : (f : ℕ) (w : Work) → Counted w → Counted (flagged f w)

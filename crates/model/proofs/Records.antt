@@ -19,8 +19,9 @@ use Rattle.model.specs.State.{Piece, Block, Picker, Listing, stale, fres
 use Rattle.model.specs.WellFormed.{headOk, pieceOk, blockOk, peerOk}
 use Rattle.model.specs.Image.{bodyLength, headKind, pieceKind, partialKind, blockKind, bytesOf, headRecord, pieceRecord, peerBytes, blockRecord, numberRecord, field, Reader, judged, obeying, headOf, readHead, pieceOf, readPiece, peerFits, peerOf, blockOf, readBlock, lastFits, readLastBlock, readPartial}
 use Rattle.model.proofs.Bep3Laws.{pieceLength-le, numPieces-le}
-use Rattle.model.proofs.Bytes.{both, and-both, size-append, Bytes, bytes-append, bytesOf-size, bytesOf-bytes, field-first, field-last, field-behind, field-part, field-end}
+use Rattle.model.proofs.Bytes.{size-append, Bytes, bytes-append, bytesOf-size, bytesOf-bytes, field-first, field-last, field-behind, field-part, field-end}
 use Rattle.model.proofs.Codec.{Codec, record-codec, obeying-there, obeying-back}
+use Rattle.model.proofs.Truths.{both, true-both}
 
 -- ---- numbers of flags and states
 bit-below : (h : Bool) → bit h ≤ 1
@@ -160,8 +161,8 @@ piece-codec s i lim = record-codec pieceKind (readPiece s i) pieceBody (λ p. pi
       let b = f .state-is in
       let d = f .had-is in
       obeying-there _ (pieceOf (pieceBody p)) p
-      (and-both (leb (field 2 1 (pieceBody p)) 6) _ (le-leb (field 2 1 (pieceBody p)) 6 (omega (arith, b, queue-below (p .state))))
-      (and-both (leb (field 4 1 (pieceBody p)) 1) _ (le-leb (field 4 1 (pieceBody p)) 1 (omega (arith, d, bit-below (p .had)))) (rw e v)))
+      (true-both (leb (field 2 1 (pieceBody p)) 6) _ (le-leb (field 2 1 (pieceBody p)) 6 (omega (arith, b, queue-below (p .state))))
+      (true-both (leb (field 4 1 (pieceBody p)) 1) _ (le-leb (field 4 1 (pieceBody p)) 1 (omega (arith, d, bit-below (p .had)))) (rw e v)))
       e;
   only = λ b p h v o.
       obeying-back _ (pieceOf b) p o λ t q.
@@ -269,8 +270,8 @@ block-there b v =
     let c = f .flag-is in
     let d = f .number-is in
     obeying-there _ (blockOf (blockBody b)) b
-    (and-both (leb (field 0 1 (blockBody b)) 3) _ (le-leb (field 0 1 (blockBody b)) 3 (omega (arith, a, state-below (b .state))))
-    (and-both (peerFits (field 3 1 (blockBody b)) (field 4 8 (blockBody b))) _ (ap₂ peerFits c d ∙ peer-fits (b .peer)) (rw e v)))
+    (true-both (leb (field 0 1 (blockBody b)) 3) _ (le-leb (field 0 1 (blockBody b)) 3 (omega (arith, a, state-below (b .state))))
+    (true-both (peerFits (field 3 1 (blockBody b)) (field 4 8 (blockBody b))) _ (ap₂ peerFits c d ∙ peer-fits (b .peer)) (rw e v)))
     e
 
 block-only : (bs : List ℕ) (b : Block) → size bs ≡ 12 → Bytes bs → readBlock bs ≡ some b → (bs ≡ blockBody b) × (blockOk b ≡ true)
@@ -344,8 +345,8 @@ partial-codec i n lim =
           let a : field 0 4 (bytesOf 4 i ++ bytesOf 1 f) ≡ i = field-first 4 i _ (omega arith) in
           let b : field 4 1 (bytesOf 4 i ++ bytesOf 1 f) ≡ f = field-behind 4 0 1 i _ ∙ field-last 1 f (omega (arith, v .0)) in
           obeying-there _ (field 4 1 (bytesOf 4 i ++ bytesOf 1 f)) f
-          (and-both (eqb (field 0 4 (bytesOf 4 i ++ bytesOf 1 f)) i) _ (eq-eqb (field 0 4 (bytesOf 4 i ++ bytesOf 1 f)) i a)
-          (and-both (leb (field 4 1 (bytesOf 4 i ++ bytesOf 1 f)) 7) _ (le-leb (field 4 1 (bytesOf 4 i ++ bytesOf 1 f)) 7 (omega (arith, b, v .0))) (v .1)))
+          (true-both (eqb (field 0 4 (bytesOf 4 i ++ bytesOf 1 f)) i) _ (eq-eqb (field 0 4 (bytesOf 4 i ++ bytesOf 1 f)) i a)
+          (true-both (leb (field 4 1 (bytesOf 4 i ++ bytesOf 1 f)) 7) _ (le-leb (field 4 1 (bytesOf 4 i ++ bytesOf 1 f)) 7 (omega (arith, b, v .0))) (v .1)))
           b;
       only = λ b f h v o.
           obeying-back _ (field 4 1 b) f o λ t q.
@@ -536,7 +537,7 @@ head-codec = record-codec headKind readHead headBody (λ h. (headOk h ≡ true) 
       let e : headOf (headBody h) ≡ h = head-back h f ∙ v .1 in
       let g = f .stale-is in
       obeying-there _ (headOf (headBody h)) h
-      (and-both (leb (field 22 1 (headBody h)) 1) _ (le-leb (field 22 1 (headBody h)) 1 (omega (arith, g, bit-below (isStale (h .listing)))))
+      (true-both (leb (field 22 1 (headBody h)) 1) _ (le-leb (field 22 1 (headBody h)) 1 (omega (arith, g, bit-below (isStale (h .listing)))))
       (ap headOk e ∙ v .0))
       e;
   only = λ b h z v o.

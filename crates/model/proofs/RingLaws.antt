@@ -16,7 +16,7 @@ use Rattle.model.specs.Blocks.{Ask, Work, spent, flagged, steps, isIgnor
 use Rattle.model.specs.Pick.{standsOpen, onward, Trace, trace, sameTrace, Walk, skipStep, skipDone, skip, takeAll, arrive, randomVisit, ended, marked, lapEnds, lapFrom, lapStep, walkOver, ringFuel, ring}
 use Rattle.model.specs.Sound.{Sound}
 use Rattle.model.proofs.Bep3Laws.{blocksInPiece-pos}
-use Rattle.model.proofs.WalkLaws.{and-right, or-no-left, or-no-right, cond-keeps, fork-keeps, repeat-ends, repeat-enough, repeat-keeps}
+use Rattle.model.proofs.WalkLaws.{fork-keeps, repeat-ends, repeat-enough, repeat-keeps}
 use Rattle.model.proofs.FrameLaws.{blind-closed, run-keeps, blocks-keeps, all-keeps}
 use Rattle.model.proofs.PhaseLaws.{step-spent, flag-spent}
 use Rattle.model.proofs.SoundPick.{sound-sized}
@@ -26,6 +26,8 @@ use Rattle.model.proofs.OutputLaws.{bounded-kept}
 use Rattle.model.proofs.CounterLaws.{counter, counter-step, counter-blind, counter-flag, counter-keeps}
 use Rattle.model.proofs.TraceLaws.{weight, Rises, rises-weight, rises-same, rises-then, rises-differ, Grows, grows-flag, blocks-grow, run-grow, run-rises, weight-most}
 use Rattle.model.proofs.RoundLaws.{Torrent, far, far-some, far-next, far-on, member-span, ahead, not-done, skip-nearer}
+use Rattle.model.proofs.Truths.{and-right, or-no-left, or-no-right}
+use Rattle.model.proofs.Phases.{cond-arms}
 
 -- ---- the walk, where it is under way
 module _ (n start b N R : ℕ) (start-in : start < n) (n-most : n ≤ 4096) (N-most : N ≤ 2048) where
@@ -330,7 +332,7 @@ module _ (n start b N R : ℕ) (start-in : start < n) (n-most : n ≤ 4096) (N-m
       let s = w .picker in
       let i = z .place in
       let span = expandPiece a i w in
-      cond-keeps (Lapped x) (runAbove 1 (w .run) && isOpen (pieceAt s i .state))
+      cond-arms (Lapped x) (runAbove 1 (w .run) && isOpen (pieceAt s i .state))
       (arrive start (onward s (span .end - 1)) z (takeRun takeAll (piecesOf span) w))
       (arrive start (onward s i) z (addBlocks a i (flagged randomPieces w)))
       (λ e. visited-lapped x z _ h (arrives-run a x z h)) (λ e. visited-lapped x z _ h (arrives-piece a x z h))

@@ -11,8 +11,10 @@ use Rattle.model.specs.Lists.{from, range, some?, member}
 use Rattle.model.specs.State.{Picker, piecesIn, blocksAt}
 use Rattle.model.specs.Blocks.{Ask, steps, Span, piecesOf}
 use Rattle.model.specs.Pick.{standsOpen, onward, Walk, skipStep, skipDone, skip}
-use Rattle.model.proofs.WalkLaws.{or-no-left, cond-keeps, repeat-ends}
+use Rattle.model.proofs.WalkLaws.{repeat-ends}
 use Rattle.model.proofs.SpanLaws.{Around}
+use Rattle.model.proofs.Truths.{or-no-left}
+use Rattle.model.proofs.Phases.{cond-arms}
 
 -- n pieces, each with a block
 pub record Torrent (n : ℕ) (q : Picker) : Type 0 where
@@ -44,7 +46,7 @@ module _ (n start : ℕ) (h : start < n) where
       → (onward q p < n) × ((onward q p ≡ start) ⊎ (far n start (onward q p) + 1 ≡ far n start p))
   unfolding onward
   far-next q m p l =
-      cond-keeps (λ x. (x < n) × ((x ≡ start) ⊎ (far n start x + 1 ≡ far n start p))) (leb (piecesIn q) (suc p)) 0 (suc p)
+      cond-arms (λ x. (x < n) × ((x ≡ start) ⊎ (far n start x + 1 ≡ far n start p))) (leb (piecesIn q) (suc p)) 0 (suc p)
       (λ e. (omega arith, let g = leb-true (piecesIn q) (suc p) e in wrap (omega arith)))
       (λ e. let g = leb-false (piecesIn q) (suc p) e in (omega arith, up (omega arith)))
     where
@@ -105,7 +107,7 @@ module _ (n start : ℕ) (h : start < n) where
   skip-nearer y m l e =
       let p = onward (y .work .picker) (y .place) in
       let f = far-next n start h (y .work .picker) m (y .place) l in
-      rw e (cond-keeps (λ z. z + 1 ≤ far n start (y .place)) (eqb p start) 0 (far n start p)
+      rw e (cond-arms (λ z. z + 1 ≤ far n start (y .place)) (eqb p start) 0 (far n start p)
       (λ q. far-some n start h (y .place) l .0)
       (λ q. ⊎-elim (λ z. absurd (eqb-false p start q z)) (λ z. omega arith) (f .1)))
 

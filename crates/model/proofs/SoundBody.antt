@@ -16,18 +16,11 @@ use Rattle.model.specs.Partials.{partialOf}
 use Rattle.model.specs.WellFormed.{headOk, pieceOk, blockOk, stateOk, extentsOk}
 use Rattle.model.specs.Listed.{ListingOk}
 use Rattle.model.specs.Sound.{partialsFrom, PartialSound, Sound}
-use Rattle.model.proofs.Truths.{both-true}
+use Rattle.model.proofs.Truths.{four-true}
 use Rattle.model.proofs.Bep3Laws.{numPieces-pos, blocksInPiece-pos}
 use Rattle.model.proofs.PieceLaws.{pieceAt-beyond}
 
 -- ---- four tests
-four-true : (a b c d : Bool) → (a && (b && (c && d))) ≡ true → (a ≡ true) × (b ≡ true) × (c ≡ true) × (d ≡ true)
-four-true a b c d h =
-    let f = both-true a (b && (c && d)) h in
-    let g = both-true b (c && d) (f .1) in
-    let k = both-true c d (g .1) in
-    (f .0, g .0, k .0, k .1)
-
 true-four : (a b c d : Bool) → a ≡ true → b ≡ true → c ≡ true → d ≡ true → (a && (b && (c && d))) ≡ true
 true-four a b c d p q r u = rw (p, q, r) u
 

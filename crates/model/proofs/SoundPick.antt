@@ -20,16 +20,13 @@ use Rattle.model.specs.WellFormed.{headOk, pieceOk, extentOk, extentsOk}
 use Rattle.model.specs.Listed.{ListingOk}
 use Rattle.model.specs.Sound.{PartialSound, Sound}
 use Rattle.model.specs.Calls.{bitfieldFits, askFits}
-use Rattle.model.proofs.WalkLaws.{and-left, and-right, and-four, and-both, or-no-left, or-no-right}
 use Rattle.model.proofs.ListingLaws.{OnlyListing, refresh-only, refresh-used, refresh-keeps}
 use Rattle.model.proofs.PickerLaws.{Leaves, same, listed, forgot, pick-left}
+use Rattle.model.proofs.Truths.{and-left, and-right, four-true, or-no-left, or-no-right, three-true, true-both}
 
 or-no : (a b : Bool) → a ≡ false → b ≡ false → (a || b) ≡ false
 or-no true b h g = h
 or-no false b h g = g
-
-and-three : (a b c : Bool) → (a && (b && c)) ≡ true → (a ≡ true) × (b ≡ true) × (c ≡ true)
-and-three a b c h = let g = and-right a (b && c) h in (and-left a (b && c) h, and-left b c g, and-right b c g)
 
 -- ---- what the checks say
 -- the pick's numbers are in range
@@ -44,7 +41,7 @@ pub ask-fits : (s : Picker) (a : Ask) → askFits s a ≡ true → Fitting a
 unfolding askFits
 ask-fits s a h =
     let rest = leb (size (a .suggestions)) 256 && (not (option rarestFirst a && option sequential a) && bitfieldFits s a) in
-    let p = and-four (leb 1 (a .wanted)) (leb (a .wanted) 2048) (leb (a .run) 2048) (leb (a .peers) 1000 && rest) h in
+    let p = four-true (leb 1 (a .wanted)) (leb (a .wanted) 2048) (leb (a .run) 2048) (leb (a .peers) 1000 && rest) h in
     let q = and-right (leb (a .peers) 1000) rest (p .3) in
     record {
       some = leb-true 1 (a .wanted) (p .0);
@@ -65,7 +62,7 @@ pub sound-sized : (s : Picker) → Sound s → Sized s
 unfolding headOk validGeometry
 sound-sized s h =
     let n = numPieces (s .total) (s .size) in
-    let p = and-four (leb 1 (s .total)) (leb 1 (s .size)) (leb (s .size) mostPieceSize) (leb n mostPieces)
+    let p = four-true (leb 1 (s .total)) (leb 1 (s .size)) (leb (s .size) mostPieceSize) (leb n mostPieces)
     (and-left (validGeometry (s .total) (s .size)) (leb (s .seeds) mostPeers && (leb (s .cursor) n && leb (s .reverseCursor) n)) (h .head)) in
     let f = leb-true n mostPieces (p .3) in
     record {
@@ -128,17 +125,17 @@ module _ (s : Picker) where
   fewer-ok : (b c : List ℕ) (e : ℕ) → Fewer b c → extentOk s c e ≡ true → extentOk s b e ≡ true
   unfolding extentOk size
   fewer-ok b c e h g =
-      let p = and-three (ltb (size c) mostExtents) (ltb e (extentsOf (piecesIn s) (blocksPer s))) (not (member e c)) g in
+      let p = three-true (ltb (size c) mostExtents) (ltb e (extentsOf (piecesIn s) (blocksPer s))) (not (member e c)) g in
       let l = ltb-true (size c) mostExtents (p .0) in
       let m = h .many in
-      and-both (ltb (size b) mostExtents) (ltb e (extentsOf (piecesIn s) (blocksPer s)) && not (member e b)) (lt-ltb (size b) mostExtents (omega arith))
-      (and-both (ltb e (extentsOf (piecesIn s) (blocksPer s))) (not (member e b)) (p .1) (ap not (h .none e (not-true (member e c) (p .2)))))
+      true-both (ltb (size b) mostExtents) (ltb e (extentsOf (piecesIn s) (blocksPer s)) && not (member e b)) (lt-ltb (size b) mostExtents (omega arith))
+      (true-both (ltb e (extentsOf (piecesIn s) (blocksPer s))) (not (member e b)) (p .1) (ap not (h .none e (not-true (member e c) (p .2)))))
 
   fewer-extents : (es b c : List ℕ) → Fewer b c → extentsOk s c es ≡ true → extentsOk s b es ≡ true
   unfolding extentsOk
   fewer-extents [] b c h g = refl
   fewer-extents (e ∷ es) b c h g =
-      and-both (extentOk s b e) (extentsOk s (b ++ (e ∷ [])) es) (fewer-ok b c e h (and-left (extentOk s c e) (extentsOk s (c ++ (e ∷ [])) es) g))
+      true-both (extentOk s b e) (extentsOk s (b ++ (e ∷ [])) es) (fewer-ok b c e h (and-left (extentOk s c e) (extentsOk s (c ++ (e ∷ [])) es) g))
       (fewer-extents es (b ++ (e ∷ [])) (c ++ (e ∷ [])) (fewer-next b c e h) (and-right (extentOk s c e) (extentsOk s (c ++ (e ∷ [])) es) g))
 
   -- the extents stay right without one of them
@@ -147,7 +144,7 @@ module _ (s : Picker) where
   without-ok k [] b g = g
   without-ok zero (e ∷ es) b g = fewer-extents es b (b ++ (e ∷ [])) (fewer-one b e) (and-right (extentOk s b e) (extentsOk s (b ++ (e ∷ [])) es) g)
   without-ok (suc k) (e ∷ es) b g =
-      and-both (extentOk s b e) (extentsOk s (b ++ (e ∷ [])) (without k es)) (and-left (extentOk s b e) (extentsOk s (b ++ (e ∷ [])) es) g)
+      true-both (extentOk s b e) (extentsOk s (b ++ (e ∷ [])) (without k es)) (and-left (extentOk s b e) (extentsOk s (b ++ (e ∷ [])) es) g)
       (without-ok k es (b ++ (e ∷ [])) (and-right (extentOk s b e) (extentsOk s (b ++ (e ∷ [])) es) g))
 
 -- ---- soundness
@@ -156,7 +153,7 @@ module _ (s : Picker) (es : List ℕ) where
   unfolding extentsOk extentOk withExtents piecesIn blocksPer
   extents-other [] b g = refl
   extents-other (e ∷ fs) b g =
-      and-both (extentOk s b e) (extentsOk (withExtents es s) (b ++ (e ∷ [])) fs) (and-left (extentOk s b e) (extentsOk s (b ++ (e ∷ [])) fs) g)
+      true-both (extentOk s b e) (extentsOk (withExtents es s) (b ++ (e ∷ [])) fs) (and-left (extentOk s b e) (extentsOk s (b ++ (e ∷ [])) fs) g)
       (extents-other fs (b ++ (e ∷ [])) (and-right (extentOk s b e) (extentsOk s (b ++ (e ∷ [])) fs) g))
 
   extents-list : ListingOk s → ListingOk (withExtents es s)
@@ -188,7 +185,7 @@ module _ (s : Picker) (l : Listing) where
   unfolding extentsOk extentOk withListing piecesIn blocksPer
   listing-extents [] b g = refl
   listing-extents (e ∷ fs) b g =
-      and-both (extentOk s b e) (extentsOk (withListing l s) (b ++ (e ∷ [])) fs) (and-left (extentOk s b e) (extentsOk s (b ++ (e ∷ [])) fs) g)
+      true-both (extentOk s b e) (extentsOk (withListing l s) (b ++ (e ∷ [])) fs) (and-left (extentOk s b e) (extentsOk s (b ++ (e ∷ [])) fs) g)
       (listing-extents fs (b ++ (e ∷ [])) (and-right (extentOk s b e) (extentsOk s (b ++ (e ∷ [])) fs) g))
 
   listing-partial : (i : ℕ) (d : Partial) → PartialSound s i d → PartialSound (withListing l s) i d

@@ -10,42 +10,42 @@ use Rattle.model.specs.Lists.{least, range, from, size}
 use Rattle.model.specs.State.{Picker, piecesIn}
 use Rattle.model.specs.Options.{alignExpandedPieces}
 use Rattle.model.specs.Blocks.{Ask, option, Run, wholePieces, canPick, downBy, upBy, Span, alone, lowestStart, spanFrom, spanOf, piecesOf}
-use Rattle.model.proofs.WalkLaws.{cond-keeps}
 use Rattle.model.proofs.Tallies.{length-from}
+use Rattle.model.proofs.Phases.{cond-arms}
 
 -- the lesser of two numbers is at most the first
 pub least-left : (a b : ℕ) → least a b ≤ a
 unfolding least
-least-left a b = cond-keeps (λ x. x ≤ a) (leb a b) a b (λ e. omega arith) (λ e. omega (arith, leb-false a b e))
+least-left a b = cond-arms (λ x. x ≤ a) (leb a b) a b (λ e. omega arith) (λ e. omega (arith, leb-false a b e))
 
 -- and at most the second
 pub least-right : (a b : ℕ) → least a b ≤ b
 unfolding least
-least-right a b = cond-keeps (λ x. x ≤ b) (leb a b) a b (λ e. leb-true a b e) (λ e. omega arith)
+least-right a b = cond-arms (λ x. x ≤ b) (leb a b) a b (λ e. leb-true a b e) (λ e. omega arith)
 
 module _ (a : Ask) (s : Picker) where
   down-low : (n i : ℕ) → i - n ≤ downBy a s n i
   unfolding downBy
   down-low zero i = omega arith
   down-low (suc n) i =
-      cond-keeps (λ x. i - suc n ≤ x) (canPick a s (i - 1)) (downBy a s n (i - 1)) i (λ e. omega (arith, down-low n (i - 1))) (λ e. omega arith)
+      cond-arms (λ x. i - suc n ≤ x) (canPick a s (i - 1)) (downBy a s n (i - 1)) i (λ e. omega (arith, down-low n (i - 1))) (λ e. omega arith)
 
   down-high : (n i : ℕ) → downBy a s n i ≤ i
   unfolding downBy
   down-high zero i = omega arith
   down-high (suc n) i =
-      cond-keeps (λ x. x ≤ i) (canPick a s (i - 1)) (downBy a s n (i - 1)) i (λ e. omega (arith, down-high n (i - 1))) (λ e. omega arith)
+      cond-arms (λ x. x ≤ i) (canPick a s (i - 1)) (downBy a s n (i - 1)) i (λ e. omega (arith, down-high n (i - 1))) (λ e. omega arith)
 
   up-low : (n k : ℕ) → k ≤ upBy a s n k
   unfolding upBy
   up-low zero k = omega arith
-  up-low (suc n) k = cond-keeps (λ x. k ≤ x) (canPick a s k) (upBy a s n (suc k)) k (λ e. omega (arith, up-low n (suc k))) (λ e. omega arith)
+  up-low (suc n) k = cond-arms (λ x. k ≤ x) (canPick a s k) (upBy a s n (suc k)) k (λ e. omega (arith, up-low n (suc k))) (λ e. omega arith)
 
   up-high : (n k : ℕ) → upBy a s n k ≤ k + n
   unfolding upBy
   up-high zero k = omega arith
   up-high (suc n) k =
-      cond-keeps (λ x. x ≤ k + suc n) (canPick a s k) (upBy a s n (suc k)) k (λ e. omega (arith, up-high n (suc k))) (λ e. omega arith)
+      cond-arms (λ x. x ≤ k + suc n) (canPick a s k) (upBy a s n (suc k)) k (λ e. omega (arith, up-high n (suc k))) (λ e. omega arith)
 
 -- the span holds piece i, ends in the torrent, and has at most n pieces
 pub record Around (s : Picker) (i n : ℕ) (x : Span) : Type 0 where
@@ -57,7 +57,7 @@ pub record Around (s : Picker) (i n : ℕ) (x : Span) : Type 0 where
 lowest-le : (a : Ask) (i n : ℕ) → (lowestStart a i (suc n) ≤ i) × (i < lowestStart a i (suc n) + suc n)
 unfolding lowestStart
 lowest-le a i n =
-    cond-keeps (λ x. (x ≤ i) × (i < x + suc n)) (option alignExpandedPieces a) (i - i % suc n) (suc i - suc n)
+    cond-arms (λ x. (x ≤ i) × (i < x + suc n)) (option alignExpandedPieces a) (i - i % suc n) (suc i - suc n)
     (λ e. let l = mod-lt i {m = suc n} (omega arith) in omega arith) (λ e. omega arith)
 
 from-around : (a : Ask) (s : Picker) (i n lowest first : ℕ) → lowest ≤ first → first ≤ i → i < lowest + n → Around s i n (spanFrom a s i n lowest first)
@@ -68,7 +68,7 @@ from-around a s i n lowest first l f h =
     let d = up-low a s (e - suc i) (suc i) in
     let x = least-left (cond (option alignExpandedPieces a) lowest first + n) (piecesIn s) in
     let y = least-right (cond (option alignExpandedPieces a) lowest first + n) (piecesIn s) in
-    let c = cond-keeps (λ z. z ≤ first) (option alignExpandedPieces a) lowest first (λ q. l) (λ q. omega arith) in
+    let c = cond-arms (λ z. z ≤ first) (option alignExpandedPieces a) lowest first (λ q. l) (λ q. omega arith) in
     record { from = f; to = d; inside = λ p. omega arith; few = omega arith }
 
 -- of no pieces it is the piece alone

@@ -11,8 +11,9 @@ use lib.Seq.{take-at}
 use lib.Dec.{eqb}
 use Rattle.model.specs.Lists.{size}
 use Rattle.model.specs.Image.{bodyLength, Got, got, fault, Reader, ret, next, startsWith, given, judged, comes}
-use Rattle.model.proofs.Bytes.{by-test, Bytes}
+use Rattle.model.proofs.Bytes.{Bytes}
 use Rattle.model.proofs.Codec.{got-value, got-rest, next-back, judged-there, judged-back}
+use Rattle.model.proofs.Truths.{by-test}
 
 -- ---- records
 -- whole records, one after another

@@ -1,7 +1,7 @@
 -- How many of a list pass a test: after a part, an exchange, a place taken out; places of elements; lists that hold the same as often.
 use mathlib.Core.Path.{_≡_, refl, sym, ap, _∙_}
 use mathlib.Core.Logic.{_≢_, _⊎_, inl, inr}
-use mathlib.Core.Bool.{Bool, true, false, not, cond, _&&_, _||_, true≢false}
+use mathlib.Core.Bool.{Bool, true, false, not, cond, _&&_, _||_}
 use mathlib.Core.List.{List, [], _∷_, _++_, map}
 use Prim.Native.Nat.{ℕ, zero, suc, _+_, _≤_, _<_}
 use native.Mathlib.Nat.{le-of-suc-le-suc}
@@ -17,11 +17,6 @@ use Rattle.model.specs.Listed.{Permuted}
 pub cond-both {ℓ κ} : {X : Type ℓ} (P : X → Type κ) (t : Bool) (x y : X) → (T t → P x) → (T (not t) → P y) → P (cond t x y)
 cond-both P true x y f g = f tt
 cond-both P false x y f g = g tt
-
--- two tests that both pass
-pub two-true : (p q : Bool) → (p && q) ≡ true → (p ≡ true) × (q ≡ true)
-two-true true q h = (refl, h)
-two-true false q h = absurd (true≢false (sym h))
 
 -- a test beside one that passes
 pub and-true : (p : Bool) → (p && true) ≡ p

@@ -16,10 +16,12 @@ use Rattle.model.specs.State.{Partial, blocksAt}
 use Rattle.model.specs.Options.{randomPieces, randLoops}
 use Rattle.model.specs.Blocks.{Ask, Run, PieceBlock, Work, spent, withOut, withRun, withBackup, ignore, flagged, steps, isIgnored, runIsZero, shorter, pieceBlock, took, tookPast, runMet, runOver, runStep, runHalt, takeRun, freeFrom, setAside, addBlocks}
 use Rattle.model.specs.Pick.{Trace, trace, sameTrace, randStep, takeAll}
-use Rattle.model.proofs.WalkLaws.{and-left, and-right, and-both, cond-keeps, unless-keeps, walkUntil-keeps, walkUntil-ends}
+use Rattle.model.proofs.WalkLaws.{unless-keeps, walkUntil-keeps, walkUntil-ends}
 use Rattle.model.proofs.FrameLaws.{Closed, run-keeps, blocks-keeps, all-keeps}
 use Rattle.model.proofs.Tallies.{tally-le}
 use Rattle.model.proofs.BoundLaws.{Tight, tight-unspent}
+use Rattle.model.proofs.Truths.{and-left, and-right, true-both}
+use Rattle.model.proofs.Phases.{cond-arms}
 
 -- ---- the number that rises
 -- blocks set aside count up to 2,048, since none is set aside beyond that
@@ -61,8 +63,8 @@ pub rises-differ : (x y : Trace) → sameTrace y x ≡ false → Rises x y → w
 unfolding sameTrace
 rises-differ x y d (inr h) = h
 rises-differ x y d (inl h) =
-    absurd (true≢false (sym (and-both (eqb (y .taken) (x .taken)) (eqb (y .aside) (x .aside) && eqb (y .ignored) (x .ignored)) (eq-eqb (y .taken) (x .taken) (h .taken))
-    (and-both (eqb (y .aside) (x .aside)) (eqb (y .ignored) (x .ignored)) (eq-eqb (y .aside) (x .aside) (h .aside)) (eq-eqb (y .ignored) (x .ignored) (h .ignored)))) ∙ d))
+    absurd (true≢false (sym (true-both (eqb (y .taken) (x .taken)) (eqb (y .aside) (x .aside) && eqb (y .ignored) (x .ignored)) (eq-eqb (y .taken) (x .taken) (h .taken))
+    (true-both (eqb (y .aside) (x .aside)) (eqb (y .ignored) (x .ignored)) (eq-eqb (y .aside) (x .aside) (h .aside)) (eq-eqb (y .ignored) (x .ignored) (h .ignored)))) ∙ d))
 
 -- ---- marks
 set-tally : (l : List Bool) (i : ℕ) → (tally (λ b. b) (set l i true) ≡ tally (λ b. b) l) ⊎ (tally (λ b. b) l < tally (λ b. b) (set l i true))
@@ -109,14 +111,14 @@ aside-rises : (d : Partial) (first : ℕ) (w : Work) → w .left ≤ 2048 → Ri
 unfolding setAside
 aside-rises d first w l =
     let bs = each (pieceBlock (d .piece)) (freeFrom d first) in
-    cond-keeps (λ v. Rises (trace w) (trace v)) (leb (w .left) (size (w .backup))) w (withBackup (w .backup ++ bs) w)
+    cond-arms (λ v. Rises (trace w) (trace v)) (leb (w .left) (size (w .backup))) w (withBackup (w .backup ++ bs) w)
     (λ e. rises-same (trace w)) (λ e. more-rises bs w (omega (arith, leb-false (w .left) (size (w .backup)) e)))
 
 aside-same : (d : Partial) (first : ℕ) (w : Work)
     → (setAside d first w .left ≡ w .left) × (setAside d first w .ignored ≡ w .ignored) × (setAside d first w .picker ≡ w .picker)
 unfolding setAside withBackup
 aside-same d first w =
-    cond-keeps (λ v. (v .left ≡ w .left) × (v .ignored ≡ w .ignored) × (v .picker ≡ w .picker)) (leb (w .left) (size (w .backup))) w
+    cond-arms (λ v. (v .left ≡ w .left) × (v .ignored ≡ w .ignored) × (v .picker ≡ w .picker)) (leb (w .left) (size (w .backup))) w
     (withBackup (w .backup ++ each (pieceBlock (d .piece)) (freeFrom d first)) w) (λ e. (refl, refl, refl)) (λ e. (refl, refl, refl))
 
 module _ (u : Work) where
@@ -226,7 +228,7 @@ visit-rises i u w l e h g =
 run-step-grows : (u : Work) (x : ℕ) (w : Work) → Grows u w → Grows u (runStep takeAll x w)
 unfolding runStep
 run-step-grows u x w h =
-    cond-keeps (Grows u) (isIgnored x w) (withRun (shorter (w .run)) w) (takeAll x (ignore x w))
+    cond-arms (Grows u) (isIgnored x w) (withRun (shorter (w .run)) w) (takeAll x (ignore x w))
     (λ e. grows-run u (shorter (w .run)) w h) (λ e. all-grow u x (ignore x w) (grows-mark u x w h))
 
 -- another piece's mark stays
@@ -241,7 +243,7 @@ other-unmarked i x w n h = rw (all-marks x (ignore x w)) (getD-set-other (w .ign
 run-step-other : (i x : ℕ) (w : Work) → (i ≡ x → ⊥) → isIgnored i w ≡ false → isIgnored i (runStep takeAll x w) ≡ false
 unfolding runStep
 run-step-other i x w n h =
-    cond-keeps (λ v. isIgnored i v ≡ false) (isIgnored x w) (withRun (shorter (w .run)) w) (takeAll x (ignore x w))
+    cond-arms (λ v. isIgnored i v ≡ false) (isIgnored x w) (withRun (shorter (w .run)) w) (takeAll x (ignore x w))
     (λ e. run-unmarked i (shorter (w .run)) w h) (λ e. other-unmarked i x w n h)
 
 -- where the run ends no block is wanted

@@ -1,53 +1,17 @@
 -- Walks, turns and phases: what each step keeps holds where they end. Assumes nothing.
 -- A law takes the predicate first, then the walk, then what is known of a step.
-use mathlib.Core.Path.{_≡_, refl, sym}
+use mathlib.Core.Path.{_≡_, refl}
 use Prim.Native.Nat.{ℕ, zero, suc, _+_, _*_, _≤_, _<_}
 use native.Mathlib.Omega.{arith}
-use mathlib.Core.Bool.{Bool, true, false, cond, _&&_, _||_, true≢false}
+use mathlib.Core.Bool.{Bool, true, false}
 use mathlib.Core.List.{List, [], _∷_}
 use lib.ListN.{length}
 use Rattle.model.specs.Lists.{unless, onlyIf, repeat, walkUntil, walk, every, size}
+use Rattle.model.proofs.Truths.{and-left, and-right}
 
 -- ---- taking a test apart
--- both hold where a conjunction does
-pub and-left : (a b : Bool) → (a && b) ≡ true → a ≡ true
-and-left true b h = refl
-and-left false b h = h
-
--- the other half
-pub and-right : (a b : Bool) → (a && b) ≡ true → b ≡ true
-and-right true b h = h
-and-right false b h = absurd (true≢false (sym h))
-
--- four at once
-pub and-four : (a b c d : Bool) → (a && (b && (c && d))) ≡ true → (a ≡ true) × (b ≡ true) × (c ≡ true) × (d ≡ true)
-and-four a b c d h =
-    let g = and-right a (b && (c && d)) h in
-    let f = and-right b (c && d) g in
-    (and-left a (b && (c && d)) h, and-left b (c && d) g, and-left c d f, and-right c d f)
-
--- and the other way
-pub and-both : (a b : Bool) → a ≡ true → b ≡ true → (a && b) ≡ true
-and-both true b h g = g
-and-both false b h g = h
-
--- neither holds where a disjunction does not
-pub or-no-left : (a b : Bool) → (a || b) ≡ false → a ≡ false
-or-no-left true b h = h
-or-no-left false b h = refl
-
--- the other half
-pub or-no-right : (a b : Bool) → (a || b) ≡ false → b ≡ false
-or-no-right true b h = absurd (true≢false h)
-or-no-right false b h = h
-
 -- ---- choices and phases
 module _ {S : Type 0} (I : S → Type 0) where
-  -- a choice: what holds of both holds of the one taken
-  pub cond-keeps : (b : Bool) (x y : S) → (b ≡ true → I x) → (b ≡ false → I y) → I (cond b x y)
-  cond-keeps true x y f g = f refl
-  cond-keeps false x y f g = g refl
-
   -- the same of a choice that waits
   pub fork-keeps : (b : Bool) (x y : S) → (b ≡ true → I x) → (b ≡ false → I y) → I (elim b [ true ↦ x | false ↦ y ])
   fork-keeps true x y f g = f refl
