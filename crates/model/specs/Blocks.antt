@@ -27,6 +27,7 @@ pub record Ask : Type 0 where
   pub bytes : List ℕ
   pub suggestions : List ℕ
 
+-- an option is asked for
 unfoldable pub option : ℕ → Ask → Bool
 option f a = meets (a .options) f
 
@@ -40,6 +41,7 @@ pub record Run : Type 0 where
   pub asked : ℕ
   pub given : ℕ
 
+-- a block that is picked
 pub record PieceBlock : Type 0 where
   pub piece : ℕ
   pub block : ℕ
@@ -57,6 +59,7 @@ pub record Work : Type 0 where
   pub flags : ℕ
   pub loops : List ℕ
 
+-- nothing picked yet
 unfoldable pub begin : Picker → Ask → Work
 begin s a =
     record {
@@ -71,6 +74,7 @@ begin s a =
       loops = replicate 7 0;
     }
 
+-- no block is wanted any more
 unfoldable pub spent : Work → Bool
 spent w = eqb (w .left) 0
 
@@ -89,9 +93,11 @@ withOut n r bs w =
       loops = w .loops;
     }
 
+-- another run
 unfoldable pub withRun : Run → Work → Work
 withRun r w = withOut (w .left) r (w .out) w
 
+-- other blocks set aside
 unfoldable pub withBackup : List PieceBlock → Work → Work
 withBackup bs w =
     record {
@@ -106,6 +112,7 @@ withBackup bs w =
       loops = w .loops;
     }
 
+-- another picker, with so many draws used
 unfoldable pub withPicker : Picker → ℕ → Work → Work
 withPicker s t w =
     record {
@@ -135,6 +142,7 @@ ignore i w =
       loops = w .loops;
     }
 
+-- a flag set
 unfoldable pub flagged : ℕ → Work → Work
 flagged f w =
     record {
@@ -164,6 +172,7 @@ steps n counter w =
       loops = put counter (at 0 (w .loops) counter + n) (w .loops);
     }
 
+-- the piece is passed over
 unfoldable pub isIgnored : ℕ → Work → Bool
 isIgnored i w = at false (w .ignored) i
 
@@ -175,6 +184,7 @@ runIsZero r = eqb (r .asked) (r .given)
 unfoldable pub runAbove : ℕ → Run → Bool
 runAbove n r = ltb (r .given + n) (r .asked)
 
+-- a block more towards the run
 unfoldable pub shorter : Run → Run
 shorter r = record { asked = r .asked; given = suc (r .given) }
 
@@ -187,6 +197,7 @@ wholePieces b r = (r .asked - r .given + b - 1) / b
 unfoldable pub isFree : Ask → Picker → ℕ → Bool
 isFree a s i = hasBit a i && (not (pieceAt s i .had) && not (eqb (pieceAt s i .wish) 0))
 
+-- and no partial stands for it
 unfoldable pub canPick : Ask → Picker → ℕ → Bool
 canPick a s i = isFree a s i && isOpen (pieceAt s i .state)
 
@@ -205,6 +216,7 @@ pub record Span : Type 0 where
   pub first : ℕ
   pub end : ℕ
 
+-- the piece alone
 unfoldable pub alone : ℕ → Span
 alone i = record { first = i; end = suc i }
 
@@ -212,6 +224,7 @@ alone i = record { first = i; end = suc i }
 unfoldable pub lowestStart : Ask → ℕ → ℕ → ℕ
 lowestStart a i n = cond (option alignExpandedPieces a) (i - i % n) (suc i - n)
 
+-- from `first` up, to no more than n pieces and no further than the last
 unfoldable pub spanFrom : Ask → Picker → ℕ → ℕ → ℕ → ℕ → Span
 spanFrom a s i n lowest first =
     let end = least (cond (option alignExpandedPieces a) lowest first + n) (piecesIn s) in
@@ -224,9 +237,11 @@ spanOf a s i (suc n) =
     let lowest = lowestStart a i (suc n) in
     spanFrom a s i (suc n) lowest (downBy a s (i - lowest) i)
 
+-- `expand_piece`
 unfoldable pub expandPiece : Ask → ℕ → Work → Span
 expandPiece a i w = spanOf a (w .picker) i (wholePieces (blocksPer (w .picker)) (w .run))
 
+-- its pieces
 unfoldable pub piecesOf : Span → List ℕ
 piecesOf x = range (x .first) (x .end)
 
@@ -262,6 +277,7 @@ runStep takes k w = cond (isIgnored k w) (withRun (shorter (w .run)) w) (takes k
 unfoldable pub runHalt : ℕ → Work → Bool
 runHalt k w = isIgnored k w && runMet (withRun (shorter (w .run)) w)
 
+-- the pieces of a run in turn
 unfoldable pub takeRun : (ℕ → Work → Work) → List ℕ → Work → Work
 takeRun takes ks w = walkUntil (runStep takes) runHalt ks w
 
@@ -289,9 +305,11 @@ pub record Stretch : Type 0 where
   pub longest : ℕ
   pub first : ℕ
 
+-- a stretch that ends before j, if it is longer
 unfoldable pub longer : ℕ → ℕ → Stretch → Stretch
 longer j now x = cond (ltb (x .longest) now) (record { longest = now; first = j - now }) x
 
+-- the longest stretch of free blocks
 unfoldable pub longestFree : ℕ → ℕ → Stretch → List Block → Stretch
 longestFree j now x [] = longer j now x
 longestFree j now x (b ∷ bs) =
@@ -301,6 +319,7 @@ longestFree j now x (b ∷ bs) =
 unfoldable pub byAnother : Option ℕ → Block → Bool
 byAnother peer b = not (sameState (b .state) None) && not (samePeer (b .peer) peer)
 
+-- `requested_from`
 unfoldable pub requestedFrom : Option ℕ → Partial → Held
 requestedFrom peer d =
     let x = longestFree 0 0 (record { longest = 0; first = 0 }) (d .blocks) in
@@ -330,6 +349,7 @@ freeStep i j w = cond (runAbove 0 (w .run)) (took i j w) (tookPast i j w)
 unfoldable pub freeHalt : ℕ → ℕ → Work → Bool
 freeHalt i j w = not (runAbove 0 (w .run)) && spent (tookPast i j w)
 
+-- the free blocks taken
 unfoldable pub takeFree : Partial → ℕ → Work → Work
 takeFree d first w = walkUntil (freeStep (d .piece)) (freeHalt (d .piece)) (freeFrom d first) w
 

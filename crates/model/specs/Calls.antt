@@ -48,6 +48,7 @@ pub data Answer : Type 0 where
 unfoldable pub wordsNeeded : ℕ → ℕ → ℕ
 wordsNeeded n b = 16 + 6 * n + least n mostPartials * (3 + 4 * b)
 
+-- the memory of a picker
 unfoldable pub memoryNeeded : Picker → ℕ
 memoryNeeded s = wordsNeeded (piecesIn s) (blocksPer s)
 
@@ -62,12 +63,15 @@ unfoldable pub check : Bool → ℕ → Option ℕ → Option ℕ
 check true n r = some n
 check false n r = r
 
+-- 4
 unfoldable pub fewDraws : List ℕ → Option ℕ → Option ℕ
 fewDraws ds r = check (ltb (size ds) leastDraws) 4 r
 
+-- 5, of a piece
 unfoldable pub noPiece : Picker → ℕ → Option ℕ → Option ℕ
 noPiece s i r = check (leb (piecesIn s) i) 5 r
 
+-- 5, of a block
 unfoldable pub noBlock : Picker → ℕ → ℕ → Option ℕ → Option ℕ
 noBlock s i j r = noPiece s i (check (leb (blocksAt s i) j) 5 r)
 
@@ -75,9 +79,11 @@ noBlock s i j r = noPiece s i (check (leb (blocksAt s i) j) 5 r)
 unfoldable pub countFull : Picker → Piece → Bool
 countFull s p = leb mostPeers (p .count + s .seeds)
 
+-- of a block that a request would count up
 unfoldable pub requestersFull : Block → Bool
 requestersFull b = not (received b) && leb mostPeers (b .requesters)
 
+-- the block, where a partial stands
 unfoldable pub blockThere : Picker → ℕ → ℕ → Option Block
 blockThere s i j = blockOf (partialOf s i) j
 
@@ -85,10 +91,12 @@ blockThere s i j = blockOf (partialOf s i) j
 unfoldable pub noPartialLeft : Picker → ℕ → Bool
 noPartialLeft s i = isOpen (pieceAt s i .state) && (not (pieceAt s i .had) && leb mostPartials (size (s .partials)))
 
+-- past the end of a list that is not stale
 unfoldable pub noPlace : Listing → ℕ → Bool
 noPlace stale k = false
 noPlace (fresh l) k = leb (size l) k
 
+-- 2 and 5 of a question
 unfoldable pub questionRefusal : Picker → Question → Option ℕ
 questionRefusal s (ofPicker q) = none
 questionRefusal s (listOfPicker q room) = check (ltb room (recordsNeeded s q)) 2 none
@@ -103,6 +111,7 @@ questionRefusal s (list-place k) = check (noPlace (s .listing) k) 5 none
 unfoldable pub bitfieldFits : Picker → Ask → Bool
 bitfieldFits s a = eqb (a .bits) (piecesIn s) && eqb (size (a .bytes)) (bitfieldBytes (a .bits))
 
+-- the arguments of a pick are in range
 unfoldable pub askFits : Picker → Ask → Bool
 askFits s a =
     leb 1 (a .wanted)
@@ -111,6 +120,7 @@ askFits s a =
     && (leb (a .peers) 1000
     && (leb (size (a .suggestions)) 256 && (not (option rarestFirst a && option sequential a) && bitfieldFits s a)))))
 
+-- the table's refusals from 4 on, and 2 of lists
 unfoldable pub refusal : Picker → Action → Option ℕ
 refusal s (question q) = questionRefusal s q
 refusal s (inc-refcount i ds) = fewDraws ds (noPiece s i (check (countFull s (pieceAt s i)) 6 none))
@@ -138,13 +148,16 @@ pub record Step : Type 0 where
   pub answer : Answer
   pub after : Picker
 
+-- an answer, and the picker after it
 unfoldable pub answering : Answer → Picker → Step
 answering a s = record { answer = a; after = s }
 
+-- true, false or done, with the draws used
 unfoldable pub changeAnswer : Option Bool → ℕ → Answer
 changeAnswer none n = done n
 changeAnswer (some b) n = said b n
 
+-- a change as a step
 unfoldable pub changing : Change → Step
 changing c = answering (changeAnswer (c .answer) (c .after .used)) (c .after .picker)
 
@@ -157,6 +170,7 @@ unfoldable pub lentPeer : Option ℕ → Option ℕ
 lentPeer none = none
 lentPeer (some n) = some (n % 2 ^ 64)
 
+-- a pick as a step
 unfoldable pub picking : Work → Step
 picking w = answering (picked (w .out) (w .flags) (w .loops) (w .used)) (w .picker)
 
@@ -181,6 +195,7 @@ unfoldable pub unlessRefused : Option ℕ → Picker → Action → Step
 unlessRefused none s a = act s a
 unlessRefused (some n) s a = answering (refused n) s
 
+-- 2 of the picker's memory first
 unfoldable pub step : Picker → Call → Step
 step s c = unlessRefused (check (ltb (c .lent) (memoryNeeded s)) 2 (refusal s (c .action))) s (c .action)
 
@@ -189,6 +204,7 @@ unfoldable pub answers : Picker → List Call → List Answer
 answers s [] = []
 answers s (c ∷ cs) = step s c .answer ∷ answers (step s c .after) cs
 
+-- the picker after them
 unfoldable pub run : Picker → List Call → Picker
 run s [] = s
 run s (c ∷ cs) = run (step s c .after) cs
@@ -199,12 +215,15 @@ pub data Made : Type 0 where
   made : Picker → Made
   notMade : (number : ℕ) → (place : Option ℕ) → Made
 
+-- given memory enough
 unfoldable pub within : ℕ → Picker → Made
 within lent s = cond (ltb lent (memoryNeeded s)) (notMade 2 none) (made s)
 
+-- `new`
 unfoldable pub newPicker : ℕ → ℕ → ℕ → Made
 newPicker lent total size = cond (validGeometry total size) (within lent (new total size)) (notMade 1 none)
 
+-- an accepted image
 unfoldable pub readWithin : ℕ → Read Picker → Made
 readWithin lent (accepted s) = within lent s
 readWithin lent (faultAt k) = notMade 13 (some k)
@@ -218,6 +237,7 @@ pub data Taken : Type 0 where
   taken : List ℕ → Taken
   notTaken : ℕ → Taken
 
+-- taking the image needs room for it
 unfoldable pub takeImage : Picker → ℕ → ℕ → Taken
 takeImage s lent room =
     cond (ltb lent (memoryNeeded s)) (notTaken 2) (cond (ltb room (size (image s))) (notTaken 2) (taken (image s)))

@@ -22,9 +22,11 @@ pub record Change : Type 0 where
   pub answer : Option Bool
   pub after : Led
 
+-- a change that answers nothing
 unfoldable pub quietly : Led → Change
 quietly w = record { answer = none; after = w }
 
+-- a change that answers true or false
 unfoldable pub saying : Bool → Led → Change
 saying b w = record { answer = some b; after = w }
 
@@ -32,12 +34,15 @@ saying b w = record { answer = some b; after = w }
 unfoldable pub countUp : Piece → Piece
 countUp p = withCount (suc (p .count)) p
 
+-- a peer less
 unfoldable pub countDown : Piece → Piece
 countDown p = withCount (p .count - 1) p
 
+-- every piece changed
 unfoldable pub allPieces : (Piece → Piece) → Picker → Picker
 allPieces f s = withPieces (each f (s .pieces)) s
 
+-- `inc_refcount`: a peer has piece i
 unfoldable pub incRefcount : List ℕ → ℕ → Led → Led
 incRefcount ds i w = moved ds i (withPiece i countUp) w
 
@@ -45,6 +50,7 @@ incRefcount ds i w = moved ds i (withPiece i countUp) w
 unfoldable pub breakOneSeed : Picker → Picker
 breakOneSeed s = outdated (allPieces countUp (withSeeds (s .seeds - 1) s))
 
+-- `dec_refcount`: a peer has it no more; where only seeds had it, one of them is broken first
 unfoldable pub decRefcount : List ℕ → ℕ → Led → Led
 decRefcount ds i w = moved ds i (withPiece i countDown) (onlyIf (eqb (pieceAt (w .picker) i .count) 0) (on breakOneSeed) w)
 
@@ -52,6 +58,7 @@ decRefcount ds i w = moved ds i (withPiece i countDown) (onlyIf (eqb (pieceAt (w
 unfoldable pub incRefcountAll : Picker → Picker
 incRefcountAll s = onlyIf (eqb (s .seeds) 0) outdated (withSeeds (suc (s .seeds)) s)
 
+-- `dec_refcount_all`: a seed goes, or, without one, a peer of each piece
 unfoldable pub decRefcountAll : Picker → Picker
 decRefcountAll s =
     cond (eqb (s .seeds) 0) (outdated (allPieces countDown s)) (onlyIf (eqb (s .seeds) 1) outdated (withSeeds (s .seeds - 1) s))
@@ -75,6 +82,7 @@ unfoldable pub reverseFrom : Picker → ℕ → ℕ
 reverseFrom s zero = 0
 reverseFrom s (suc i) = cond (settled (pieceAt s i)) (reverseFrom s i) (suc i)
 
+-- the cursors past each other
 unfoldable pub noStretch : Picker → Picker
 noStretch s = withCursors (piecesIn s) 0 s
 
@@ -94,6 +102,7 @@ cursorsTurned i wish s = cond (eqb wish 0) (cursorsPast i s) (onlyIf (eqb (s .cu
 unfoldable pub turns : ℕ → Piece → Bool
 turns wish p = not (eqb (bit (eqb wish 0)) (bit (eqb (p .wish) 0)))
 
+-- cursors, wish and list, then the state of a partial
 unfoldable pub wishSet : List ℕ → ℕ → ℕ → Led → Led
 wishSet ds i wish w =
     let p = pieceAt (w .picker) i in
@@ -101,6 +110,7 @@ wishSet ds i wish w =
     let listed = moved ds i (withPiece i (withWish wish)) turned in
     unless (isOpen (p .state)) (updatePieceState ds i) listed
 
+-- `set_piece_priority`: answers whether the wish turned from or to 0
 unfoldable pub setPiecePriority : List ℕ → ℕ → ℕ → Led → Change
 setPiecePriority ds i wish w =
     let p = pieceAt (w .picker) i in
@@ -123,6 +133,7 @@ recordable s i =
     ltb (blocksPer s) extentBlocks
     && (not (member (extentFor s i) (s .extents)) && (ltb (size (s .extents)) mostExtents && worthRecording s i))
 
+-- `record_downloading_piece`
 unfoldable pub recordPiece : ℕ → Picker → Picker
 recordPiece i s = onlyIf (recordable s i) (withExtents (s .extents ++ (extentFor s i ∷ []))) s
 
@@ -130,6 +141,7 @@ recordPiece i s = onlyIf (recordable s i) (withExtents (s .extents ++ (extentFor
 unfoldable pub reverseAsked : ℕ → Bool
 reverseAsked options = meets options reverse
 
+-- PIECE_EXTENT_AFFINITY is asked for
 unfoldable pub affinityAsked : ℕ → Bool
 affinityAsked options = meets options pieceExtentAffinity
 
@@ -147,6 +159,7 @@ markFirst ds i none j b w = saying false w
 markFirst ds i (some d) j b w =
     cond (sameState (blockAt d j .state) Finished) (saying false w) (saying true (setBlock ds i d j b w))
 
+-- a block of an Open piece marked
 unfoldable pub markOpening : List ℕ → ℕ → DownloadQueue → Bool → ℕ → Block → Led → Change
 markOpening ds i q affinity j b w =
     let o = opened ds i q affinity w in
@@ -170,12 +183,15 @@ turnBack ds i back w =
     let q = pieceAt (w .picker) i .state in
     onlyIf (not back && isReverse q) (turn ds i (plainOf q)) w
 
+-- a block requested by n peers, last by this one
 unfoldable pub requestedBy : Option ℕ → ℕ → Block
 requestedBy peer n = record { state = Requested; requesters = n; peer = peer }
 
+-- a block that this peer brought
 unfoldable pub writtenBy : Option ℕ → Block
 writtenBy peer = record { state = Writing; requesters = 0; peer = peer }
 
+-- a block on disk
 unfoldable pub finishedBy : Option ℕ → ℕ → Block
 finishedBy peer n = record { state = Finished; requesters = n; peer = peer }
 
@@ -183,17 +199,20 @@ finishedBy peer n = record { state = Finished; requesters = n; peer = peer }
 unfoldable pub received : Block → Bool
 received b = sameState (b .state) Writing || sameState (b .state) Finished
 
+-- a block of a standing partial requested once more
 unfoldable pub request : List ℕ → ℕ → Partial → ℕ → Option ℕ → Bool → Led → Led
 request ds i d j peer back w =
     turnBack ds i back
     (setBlock ds i d j (requestedBy peer (suc (blockAt d j .requesters))) (turnOn ds i back d w))
 
+-- by whether a partial stands
 unfoldable pub markDownloadingIn : List ℕ → ℕ → Option Partial → ℕ → Option ℕ → ℕ → Led → Change
 markDownloadingIn ds i none j peer options w =
     markOpening ds i (cond (reverseAsked options) DownloadingReverse Downloading) (affinityAsked options) j (requestedBy peer 1) w
 markDownloadingIn ds i (some d) j peer options w =
     cond (received (blockAt d j)) (saying false w) (saying true (request ds i d j peer (reverseAsked options) w))
 
+-- `mark_as_downloading`
 unfoldable pub markAsDownloading : List ℕ → ℕ → ℕ → Option ℕ → ℕ → Led → Change
 markAsDownloading ds i j peer options w = markDownloadingIn ds i (partialOf (w .picker) i) j peer options w
 
@@ -205,6 +224,7 @@ markWritingIn ds i (some d) j peer w =
     cond (received (blockAt d j)) (saying false (on (putBlock d j (withPeer peer (blockAt d j))) w))
     (saying true (setBlock ds i d j (writtenBy peer) w))
 
+-- `mark_as_writing`
 unfoldable pub markAsWriting : List ℕ → ℕ → ℕ → Option ℕ → Led → Change
 markAsWriting ds i j peer w = markWritingIn ds i (partialOf (w .picker) i) j peer w
 
@@ -212,6 +232,7 @@ markAsWriting ds i j peer w = markWritingIn ds i (partialOf (w .picker) i) j pee
 unfoldable pub pieceFlushed : ℕ → Picker → Picker
 pieceFlushed i s = cursorsPast i (withPiece i withHad (erased i s))
 
+-- every block is on disk
 unfoldable pub allFinished : Picker → Partial → Bool
 allFinished s d = leb (blocksAt s (d .piece)) (blocksIn Finished d)
 
@@ -221,6 +242,7 @@ flushIf i none s = s
 flushIf i (some d) s =
     onlyIf (allFinished s d && (d .passed && (not (d .hashing) && not (d .locked)))) (pieceFlushed i) s
 
+-- where a partial stands
 unfoldable pub flushDone : ℕ → Picker → Picker
 flushDone i s = flushIf i (partialOf s i) s
 
@@ -228,6 +250,7 @@ flushDone i s = flushIf i (partialOf s i) s
 unfoldable pub keeper : Option ℕ → Block → Option ℕ
 keeper peer b = cond (sameState (b .state) Writing && not (somebody peer)) (b .peer) peer
 
+-- by whether a partial stands
 unfoldable pub markFinishedIn : List ℕ → ℕ → Option Partial → ℕ → Option ℕ → Led → Led
 markFinishedIn ds i none j peer w =
     cond (pieceAt (w .picker) i .had) w (markOpening ds i Downloading false j (finishedBy peer 0) w .after)
@@ -235,6 +258,7 @@ markFinishedIn ds i (some d) j peer w =
     let b = blockAt d j in
     cond (sameState (b .state) Finished) w (on (flushDone i) (setBlock ds i d j (finishedBy (keeper peer b) (b .requesters)) w))
 
+-- `mark_as_finished`
 unfoldable pub markAsFinished : List ℕ → ℕ → ℕ → Option ℕ → Led → Led
 markAsFinished ds i j peer w = markFinishedIn ds i (partialOf (w .picker) i) j peer w
 
@@ -243,6 +267,7 @@ unfoldable pub released : Option ℕ → Block → Block
 released peer b =
     record { state = Requested; requesters = b .requesters - 1; peer = cond (samePeer (b .peer) peer) none (b .peer) }
 
+-- a free block
 unfoldable pub freed : Block
 freed = record { state = None; requesters = 0; peer = none }
 
@@ -251,6 +276,7 @@ unfoldable pub freeBlock : List ℕ → ℕ → Partial → ℕ → Led → Led
 freeBlock ds i d j w =
     cond (eqb (progress d) 1 && not (d .hashing)) (erase ds i w) (setBlock ds i d j freed w)
 
+-- only a Requested block of a standing partial is given back
 unfoldable pub abortIn : List ℕ → ℕ → Option Partial → ℕ → Option ℕ → Led → Led
 abortIn ds i none j peer w = w
 abortIn ds i (some d) j peer w =
@@ -258,20 +284,25 @@ abortIn ds i (some d) j peer w =
     cond (not (sameState (b .state) Requested)) w
     (cond (ltb 1 (b .requesters)) (on (putBlock d j (released peer b)) w) (freeBlock ds i d j w))
 
+-- `abort_download`
 unfoldable pub abortDownload : List ℕ → ℕ → ℕ → Option ℕ → Led → Led
 abortDownload ds i j peer w = abortIn ds i (partialOf (w .picker) i) j peer w
 
+-- where a partial stands
 unfoldable pub lockIn : Option Partial → Picker → Picker
 lockIn none s = s
 lockIn (some d) s = putPartial (withFlags false true d) s
 
+-- `lock_piece`: no longer passed, and no block of it is picked
 unfoldable pub lockPiece : ℕ → Picker → Picker
 lockPiece i s = lockIn (partialOf s i) s
 
+-- where a partial stands that is not locked
 unfoldable pub passIn : ℕ → Option Partial → Picker → Picker
 passIn i none s = s
 passIn i (some d) s =
     unless (d .locked) (λ t. onlyIf (allFinished t d) (pieceFlushed i) (putPartial (withFlags true false d) t)) s
 
+-- `piece_passed`: flushed at once if every block is on disk
 unfoldable pub piecePassed : ℕ → Picker → Picker
 piecePassed i s = passIn i (partialOf s i) s

@@ -21,9 +21,11 @@ use Rattle.model.specs.WellFormed.{headOk, pieceOk, blockOk, stateOk, ex
 abbrev pub bodyLengths : List ℕ
 bodyLengths = 23 ∷ 9 ∷ 5 ∷ 12 ∷ 4 ∷ 4 ∷ 17 ∷ []
 
+-- of a kind
 unfoldable pub bodyLength : ℕ → ℕ
 bodyLength kind = at 0 bodyLengths (kind - 1)
 
+-- document 01's numbers of the kinds
 abbrev pub headKind : ℕ
 headKind = 1
 
@@ -51,6 +53,7 @@ unfoldable pub bytesOf : ℕ → ℕ → List ℕ
 bytesOf zero n = []
 bytesOf (suc w) n = (n / 256 ^ w % 256) ∷ bytesOf w n
 
+-- total, piece size, seeds, cursors, stale
 unfoldable pub headRecord : Picker → List ℕ
 headRecord s =
     headKind
@@ -58,6 +61,7 @@ headRecord s =
     ++ (bytesOf 4 (s .size)
     ++ (bytesOf 2 (s .seeds) ++ (bytesOf 4 (s .cursor) ++ (bytesOf 4 (s .reverseCursor) ++ bytesOf 1 (bit (isStale (s .listing))))))))
 
+-- count, state, wish, had, pad bytes
 unfoldable pub pieceRecord : Piece → List ℕ
 pieceRecord p =
     pieceKind
@@ -69,6 +73,7 @@ unfoldable pub peerBytes : Option ℕ → List ℕ
 peerBytes none = bytesOf 1 0 ++ bytesOf 8 0
 peerBytes (some n) = bytesOf 1 1 ++ bytesOf 8 n
 
+-- state, requesters, peer
 unfoldable pub blockRecord : Block → List ℕ
 blockRecord b = blockKind ∷ (bytesOf 1 (blockStateNumber (b .state)) ++ (bytesOf 2 (b .requesters) ++ peerBytes (b .peer)))
 
@@ -76,12 +81,15 @@ blockRecord b = blockKind ∷ (bytesOf 1 (blockStateNumber (b .state)) ++ (bytes
 unfoldable pub flagsOf : Partial → ℕ
 flagsOf d = bit (d .passed) + 2 * bit (d .locked) + 4 * bit (d .hashing)
 
+-- piece and flags, then the blocks
 unfoldable pub partialRecords : Partial → List ℕ
 partialRecords d = partialKind ∷ (bytesOf 4 (d .piece) ++ (bytesOf 1 (flagsOf d) ++ joined blockRecord (d .blocks)))
 
+-- a record of one number
 unfoldable pub numberRecord : ℕ → ℕ → List ℕ
 numberRecord kind n = kind ∷ bytesOf 4 n
 
+-- head, pieces, partials, extents, list places
 unfoldable pub image : Picker → List ℕ
 image s =
     headRecord s
@@ -95,19 +103,24 @@ pub data Got (A : Type 0) : Type 0 where
   got : A → List ℕ → Got A
   fault : List ℕ → Got A
 
+-- a reader of bytes
 abbrev pub Reader : Type 0 → Type 0
 Reader A = List ℕ → Got A
 
+-- a reader that takes nothing
 abbrev pub ret : {A : Type 0} → A → Reader A
 ret a = λ bs. got a bs
 
+-- what follows a value; a fault stays
 unfoldable pub next : {A B : Type 0} → Got A → (A → Reader B) → Got B
 next (got a rest) f = f a rest
 next (fault rest) f = fault rest
 
+-- one reader after another
 abbrev pub _>>=_ : {A B : Type 0} → Reader A → (A → Reader B) → Reader B
 _>>=_ r f = λ bs. next (r bs) f
 
+-- the number of bytes, the high one first
 unfoldable pub numberOf : ℕ → List ℕ → ℕ
 numberOf n [] = n
 numberOf n (b ∷ bs) = numberOf (n * 256 + b) bs
@@ -121,6 +134,7 @@ unfoldable pub startsWith : ℕ → List ℕ → Bool
 startsWith kind [] = false
 startsWith kind (b ∷ bs) = eqb b kind && (leb (bodyLength kind) (size bs) && every (λ c. ltb c 256) (take (bodyLength kind) bs))
 
+-- a value, or the record `here` is at fault
 unfoldable pub given : {A : Type 0} → List ℕ → List ℕ → Option A → Got A
 given here rest none = fault here
 given here rest (some a) = got a rest
@@ -154,9 +168,11 @@ headOf b =
       listing = cond (eqb (field 22 1 b) 1) stale (fresh []);
     }
 
+-- a head that obeys its rule
 unfoldable pub readHead : List ℕ → Option Picker
 readHead b = obeying (leb (field 22 1 b) 1 && headOk (headOf b)) (headOf b)
 
+-- a piece's fields
 unfoldable pub pieceOf : List ℕ → Piece
 pieceOf b =
     record {
@@ -167,6 +183,7 @@ pieceOf b =
       pad = field 5 4 b;
     }
 
+-- a piece that obeys its rule
 unfoldable pub readPiece : Picker → ℕ → List ℕ → Option Piece
 readPiece s i b = obeying (leb (field 2 1 b) 6 && (leb (field 4 1 b) 1 && pieceOk s i (pieceOf b))) (pieceOf b)
 
@@ -174,16 +191,20 @@ readPiece s i b = obeying (leb (field 2 1 b) 6 && (leb (field 4 1 b) 1 && pieceO
 unfoldable pub peerFits : ℕ → ℕ → Bool
 peerFits has n = eqb has 1 || (eqb has 0 && eqb n 0)
 
+-- that peer, or none
 unfoldable pub peerOf : ℕ → ℕ → Option ℕ
 peerOf has n = cond (eqb has 1) (some n) none
 
+-- a block's fields
 unfoldable pub blockOf : List ℕ → Block
 blockOf b =
     record { state = at None blockStates (field 0 1 b); requesters = field 1 2 b; peer = peerOf (field 3 1 b) (field 4 8 b) }
 
+-- a block that obeys its rule
 unfoldable pub readBlock : List ℕ → Option Block
 readBlock b = obeying (leb (field 0 1 b) 3 && (peerFits (field 3 1 b) (field 4 8 b) && blockOk (blockOf b))) (blockOf b)
 
+-- the whole list of blocks fits
 unfoldable pub lastFits : (List Block → Bool) → List Block → Option Block → Option Block
 lastFits fits before none = none
 lastFits fits before (some x) = obeying (fits (before ++ (x ∷ []))) x
@@ -214,10 +235,12 @@ getBlocks fits before (suc (suc n)) = do
   b ← judged blockKind readBlock
   getBlocks fits (before ++ (b ∷ [])) (suc n)
 
+-- a partial's fields
 unfoldable pub partialWith : ℕ → ℕ → List Block → Partial
 partialWith i f bs =
     record { piece = i; passed = eqb (f % 2) 1; locked = eqb (f / 2 % 2) 1; hashing = eqb (f / 4 % 2) 1; blocks = bs }
 
+-- a partial and its blocks
 unfoldable pub getPartial : Picker → ℕ → ℕ → Piece → Reader Partial
 getPartial s i n p = do
   f ← judged partialKind (readPartial i n)
@@ -236,6 +259,7 @@ getPartials s i n (p ∷ ps) =
         ret (d ∷ ds)
     ]
 
+-- an extent that obeys its rule
 unfoldable pub readExtent : Picker → List ℕ → List ℕ → Option ℕ
 readExtent s before b = obeying (extentOk s before (field 0 4 b)) (field 0 4 b)
 
@@ -253,15 +277,18 @@ getExtents s (suc n) before = λ bs.
       | false ↦ got before bs
     ]
 
+-- a list place that obeys its rule
 unfoldable pub readPlace : Picker → List ℕ → List ℕ → Option ℕ
 readPlace s before b = obeying (placeOk s before (field 0 4 b)) (field 0 4 b)
 
+-- n list places more
 unfoldable pub getOrder : Picker → ℕ → List ℕ → Reader (List ℕ)
 getOrder s zero before = ret before
 getOrder s (suc n) before = do
   i ← judged placeKind (readPlace s before)
   getOrder s n (before ++ (i ∷ []))
 
+-- a list that is not stale
 unfoldable pub getListing : Picker → Listing → Reader Listing
 getListing s stale = ret stale
 getListing s (fresh l) = do
@@ -291,5 +318,6 @@ whole n (got a []) = accepted a
 whole n (got a (b ∷ bs)) = faultAt (n - size (b ∷ bs))
 whole n (fault bs) = faultAt (n - size bs)
 
+-- an image and nothing else
 unfoldable pub readImage : List ℕ → Read Picker
 readImage bs = whole (size bs) (getPicker bs)

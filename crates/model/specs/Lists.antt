@@ -53,6 +53,7 @@ module _ {A : Type 0} where
   unfoldable pub at : A → List A → ℕ → A
   at d l i = getD l i d
 
+  -- how many there are
   unfoldable pub size : List A → ℕ
   size l = length l
 
@@ -86,6 +87,7 @@ placeOf x [] = 0
 placeOf x (y ∷ ys) = cond (eqb x y) 0 (suc (placeOf x ys))
 
 module _ {A B : Type 0} where
+  -- what a function gives for each element
   unfoldable pub each : (A → B) → List A → List B
   each f [] = []
   each f (x ∷ xs) = f x ∷ each f xs

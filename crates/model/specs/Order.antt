@@ -24,6 +24,7 @@ unlisted seeds p =
 unfoldable pub adjustment : DownloadQueue → ℕ
 adjustment q = cond (isReverse q) 1 (cond (isOpen q) 2 3)
 
+-- document 01's formula
 unfoldable pub bucketNumber : Piece → ℕ
 bucketNumber p = (p .count + 1) * (8 - p .wish) * 3 - adjustment (p .state)
 
@@ -36,6 +37,7 @@ unfoldable pub rankOf : Option ℕ → ℕ
 rankOf none = 0
 rankOf (some k) = suc k
 
+-- the rank of piece i
 unfoldable pub rank : Picker → ℕ → ℕ
 rank s i = rankOf (bucket (s .seeds) (pieceAt s i))
 
@@ -49,6 +51,7 @@ draw ds t limit = at 0 ds t % suc limit
 unfoldable pub start : (ℕ → ℕ) → ℕ → List ℕ → ℕ
 start b x l = tally (λ y. ltb (b y) (b x)) l
 
+-- how many are of x's rank
 unfoldable pub groupSize : (ℕ → ℕ) → ℕ → List ℕ → ℕ
 groupSize b x l = tally (λ y. eqb (b y) (b x)) l
 
@@ -90,6 +93,7 @@ earlier b p i l = take p l ++ (at 0 l i ∷ (turnLeft b (slice p i l) ++ drop (s
 unfoldable pub later : (ℕ → ℕ) → ℕ → ℕ → List ℕ → List ℕ
 later b i p l = take i l ++ (turnRight b (slice (suc i) (suc p) l) ++ (at 0 l i ∷ drop (suc p) l))
 
+-- the elements at two places change places
 unfoldable pub swap : List ℕ → ℕ → ℕ → List ℕ
 swap l i j = put j (at 0 l i) (put i (at 0 l j) l)
 
@@ -106,6 +110,7 @@ addDraws b x l = bit (ltb 0 (groupSize b x l))
 unfoldable pub groupLast : (ℕ → ℕ) → ℕ → List ℕ → ℕ
 groupLast b x l = start b x l + groupSize b x l - 1
 
+-- a drawn place of x's group
 unfoldable pub groupDrawn : (ℕ → ℕ) → List ℕ → ℕ → ℕ → List ℕ → ℕ
 groupDrawn b ds t x l = start b x l + draw ds t (groupSize b x l - 1)
 
@@ -126,6 +131,7 @@ relisted b ds t old x l =
     cond (eqb (b x) old) l
     (cond (eqb old 0) (added b ds t x l) (cond (eqb (b x) 0) (removed b (placeOf x l) l) (changed b ds t old x l)))
 
+-- the draws that it takes
 unfoldable pub relistDraws : (ℕ → ℕ) → ℕ → ℕ → List ℕ → ℕ
 relistDraws b old x l =
     cond (eqb (b x) old) 0 (cond (eqb old 0) (addDraws b x l) (cond (eqb (b x) 0) 0 (changeDraws b x l)))
@@ -135,6 +141,7 @@ relistDraws b old x l =
 unfoldable pub inserted : (ℕ → ℕ) → ℕ → List ℕ → List ℕ
 inserted b x l = take (start b x l + groupSize b x l) l ++ (x ∷ drop (start b x l + groupSize b x l) l)
 
+-- pieces put in one by one
 unfoldable pub sorted : (ℕ → ℕ) → List ℕ → List ℕ → List ℕ
 sorted b [] l = l
 sorted b (x ∷ xs) l = sorted b xs (inserted b x l)
@@ -165,6 +172,7 @@ groupDraws zero (c ∷ cs) = run c cs + groupDraws (run c cs) cs
 unfoldable pub withBucket : Picker → List ℕ
 withBucket s = filter (λ i. ltb 0 (rank s i)) (from 0 (piecesIn s))
 
+-- all of them by rank, equals by rising piece
 unfoldable pub sortedPieces : Picker → List ℕ
 sortedPieces s = sorted (rank s) (withBucket s) []
 
@@ -172,6 +180,7 @@ sortedPieces s = sorted (rank s) (withBucket s) []
 unfoldable pub rebuilt : List ℕ → ℕ → Picker → List ℕ
 rebuilt ds t s = groupsShuffled ds t 0 0 (each (rank s) (sortedPieces s)) (sortedPieces s)
 
+-- the draws that it takes
 unfoldable pub rebuildDraws : Picker → ℕ
 rebuildDraws s = groupDraws 0 (each (rank s) (sortedPieces s))
 
@@ -181,6 +190,7 @@ pub record Led : Type 0 where
   pub picker : Picker
   pub used : ℕ
 
+-- with so many draws used
 unfoldable pub led : ℕ → Picker → Led
 led t s = record { picker = s; used = t }
 
@@ -188,6 +198,7 @@ led t s = record { picker = s; used = t }
 unfoldable pub on : (Picker → Picker) → Led → Led
 on f w = led (w .used) (f (w .picker))
 
+-- by what the list is
 unfoldable pub relistIn : Listing → List ℕ → ℕ → ℕ → Led → Led
 relistIn stale ds old x w = w
 relistIn (fresh l) ds old x w =
@@ -198,6 +209,7 @@ relistIn (fresh l) ds old x w =
 unfoldable pub relist : List ℕ → ℕ → ℕ → Led → Led
 relist ds old x w = relistIn (w .picker .listing) ds old x w
 
+-- by what the list is
 unfoldable pub refreshIn : Listing → List ℕ → Led → Led
 refreshIn stale ds w = led (w .used + rebuildDraws (w .picker)) (withListing (fresh (rebuilt ds (w .used) (w .picker))) (w .picker))
 refreshIn (fresh l) ds w = w

@@ -19,9 +19,11 @@ unfoldable pub findIn : ℕ → List Partial → Option Partial
 findIn i [] = none
 findIn i (d ∷ ds) = cond (eqb (d .piece) i) (some d) (findIn i ds)
 
+-- the same, of a picker
 unfoldable pub partialOf : Picker → ℕ → Option Partial
 partialOf s i = findIn i (s .partials)
 
+-- block j of a partial
 unfoldable pub blockAt : Partial → ℕ → Block
 blockAt d j = at noBlock (d .blocks) j
 
@@ -42,9 +44,11 @@ inQueue q s = filter (λ d. sameQueue (plainOf (pieceAt s (d .piece) .state)) q)
 unfoldable pub putIn : Partial → List Partial → List Partial
 putIn d ds = each (λ e. cond (eqb (e .piece) (d .piece)) d e) ds
 
+-- the partial of its piece replaced
 unfoldable pub putPartial : Partial → Picker → Picker
 putPartial d s = withPartials (putIn d (s .partials)) s
 
+-- block j of a partial replaced
 unfoldable pub putBlock : Partial → ℕ → Block → Picker → Picker
 putBlock d j b s = putPartial (withBlocks (put j b (d .blocks)) d) s
 
@@ -61,6 +65,7 @@ stateDue d wish current =
     (cond (ltb (progress d) (size (d .blocks))) (facing current Downloading)
     (cond (ltb 0 (blocksIn Requested d)) (facing current Full) FinishedQueue)))
 
+-- the piece in another state, and the list mended
 unfoldable pub setState : List ℕ → ℕ → DownloadQueue → Led → Led
 setState ds i q w = moved ds i (withPiece i (withState q)) w
 
@@ -68,12 +73,14 @@ setState ds i q w = moved ds i (withPiece i (withState q)) w
 unfoldable pub moveState : List ℕ → ℕ → DownloadQueue → DownloadQueue → Led → Led
 moveState ds i current q w = unless (sameQueue q current || isOpen q) (setState ds i q) w
 
+-- where a partial stands
 unfoldable pub updateStateOf : List ℕ → ℕ → Option Partial → Led → Led
 updateStateOf ds i none w = w
 updateStateOf ds i (some d) w =
     let p = pieceAt (w .picker) i in
     moveState ds i (p .state) (stateDue d (p .wish) (p .state)) w
 
+-- `update_piece_state`: the state made that of the blocks
 unfoldable pub updatePieceState : List ℕ → ℕ → Led → Led
 updatePieceState ds i w = updateStateOf ds i (partialOf (w .picker) i) w
 
@@ -82,6 +89,7 @@ updatePieceState ds i w = updateStateOf ds i (partialOf (w .picker) i) w
 unfoldable pub freshBlock : ℕ → ℕ → Block
 freshBlock payload j = record { state = cond (ltb j payload) None Finished; requesters = 0; peer = none }
 
+-- the partial of a piece just opened
 unfoldable pub freshPartial : Picker → ℕ → Partial
 freshPartial s i =
     record { piece = i; passed = false; locked = false; hashing = false; blocks = each (freshBlock (payloadAt s i)) (from 0 (blocksAt s i)) }
@@ -91,9 +99,11 @@ unfoldable pub insertIn : Partial → List Partial → List Partial
 insertIn d [] = d ∷ []
 insertIn d (e ∷ es) = cond (ltb (d .piece) (e .piece)) (d ∷ e ∷ es) (e ∷ insertIn d es)
 
+-- a partial for piece i
 unfoldable pub addPartial : ℕ → Picker → Picker
 addPartial i s = withPartials (insertIn (freshPartial s i) (s .partials)) s
 
+-- `add_download_piece`: the partial stands, and its pad blocks may move it on
 unfoldable pub addDownloadPiece : List ℕ → ℕ → Led → Led
 addDownloadPiece ds i w = updatePieceState ds i (on (addPartial i) w)
 
@@ -101,6 +111,7 @@ addDownloadPiece ds i w = updatePieceState ds i (on (addPartial i) w)
 unfoldable pub dropPartial : ℕ → Picker → Picker
 dropPartial i s = withPartials (filter (λ d. not (eqb (d .piece) i)) (s .partials)) s
 
+-- `erase_download_piece`: the same, the piece Open
 unfoldable pub erased : ℕ → Picker → Picker
 erased i s = withPiece i (withState Open) (dropPartial i s)
 

@@ -20,6 +20,7 @@ use Rattle.model.specs.Blocks.{Ask, option, hasBit, Work, begin, spent, 
 unfoldable pub forced : ℕ → ℕ → ℕ → Bool
 forced partials b peers = ltb (peers * 3 / 2) partials || ltb 2048 (partials * b)
 
+-- the same, of a picker and what is asked
 unfoldable pub isForced : Picker → Ask → Bool
 isForced s a = forced (size (inQueue Downloading s)) (blocksPer s) (a .peers)
 
@@ -37,9 +38,11 @@ forcedAsk a =
       suggestions = a .suggestions;
     }
 
+-- what is asked after the forcing rule
 unfoldable pub asked : Picker → Ask → Ask
 asked s a = cond (isForced s a) (forcedAsk a) a
 
+-- the flags of the start
 unfoldable pub startPick : Picker → Ask → Work
 startPick s a =
     onlyIf (isForced s a) (flagged partialRatio)
@@ -66,14 +69,17 @@ unfoldable pub sortRare : Picker → List Partial → List Partial → List Part
 sortRare s [] es = es
 sortRare s (d ∷ ds) es = sortRare s ds (insertRare s d es)
 
+-- RAREST_FIRST, and not on parole
 unfoldable pub byRarity : Ask → Bool
 byRarity a = option rarestFirst a && not (option onParole a)
 
+-- the partials that may be picked from, in their order
 unfoldable pub orderedPartials : Ask → Picker → List Partial
 orderedPartials a s =
     let ds = filter (usable a s) (inQueue Downloading s) in
     cond (byRarity a) (sortRare s ds []) ds
 
+-- one partial
 unfoldable pub partialStep : Ask → Partial → Work → Work
 partialStep a d w = addBlocksDownloading a d (flagged prioritizedPartials w)
 
@@ -81,11 +87,13 @@ partialStep a d w = addBlocksDownloading a d (flagged prioritizedPartials w)
 unfoldable pub partialsDone : Work → Bool
 partialsDone w = leb (w .left) (size (w .backup))
 
+-- the partials in turn, then the blocks set aside
 unfoldable pub walkPartials : Ask → Work → Work
 walkPartials a w =
     let v = walk (partialStep a) partialsDone (orderedPartials a (w .picker)) w in
     unless (spent v) appendBackup v
 
+-- the first phase, where partials come first
 unfoldable pub pickPartials : Ask → Work → Work
 pickPartials a w =
     onlyIf (option prioritizePartials a)
@@ -102,6 +110,7 @@ visit a f i w = onlyIf (isFree a (w .picker) i) (λ v. addBlocks a i (flagged f 
 unfoldable pub suggest : Ask → ℕ → Work → Work
 suggest a i w = onlyIf (isFree a (w .picker) i) (λ v. ignore i (visit a suggestedPieces i v)) (steps 1 suggestLoops w)
 
+-- the second phase
 unfoldable pub pickSuggested : Ask → Work → Work
 pickSuggested a w = walk (suggest a) spent (a .suggestions) w
 
@@ -111,6 +120,7 @@ unfoldable pub leadingTop : Picker → List ℕ → List ℕ
 leadingTop s [] = []
 leadingTop s (i ∷ is) = cond (eqb (pieceAt s i .wish) 7) (i ∷ leadingTop s is) []
 
+-- pieces of wish 7 were walked before
 unfoldable pub visitBelowTop : Ask → ℕ → ℕ → Work → Work
 visitBelowTop a f i w = unless (eqb (pieceAt (w .picker) i .wish) 7) (visit a f i) w
 
@@ -122,6 +132,7 @@ pickStretch a w =
     (walk (visitBelowTop a reverseSequential) spent (rangeDown (s .cursor) (s .reverseCursor)) w)
     (walk (visitBelowTop a sequentialPieces) spent (range (s .cursor) (s .reverseCursor)) w)
 
+-- top pieces of the list, then the stretch
 unfoldable pub pickSequential : Ask → Work → Work
 pickSequential a w =
     let v = walk (visit a prioSequentialPieces) spent (leadingTop (w .picker) (orderOf (w .picker .listing))) w in
@@ -132,12 +143,15 @@ pickSequential a w =
 unfoldable pub inStretch : Ask → Picker → ℕ → Bool
 inStretch a s i = option sequential a && (leb (s .cursor) i && ltb i (s .reverseCursor))
 
+-- a piece outside that stretch
 unfoldable pub visitOutside : Ask → ℕ → ℕ → Work → Work
 visitOutside a f i w = unless (inStretch a (w .picker) i) (visit a f i) w
 
+-- one piece of the list
 unfoldable pub rareStep : Ask → ℕ → Work → Work
 rareStep a i w = visitOutside a rarestFirstPieces i (steps 1 rareLoops w)
 
+-- the same, backwards
 unfoldable pub reverseRareStep : Ask → ℕ → Work → Work
 reverseRareStep a i w = visitOutside a reverseRarestFirst i (steps 1 reverseRareLoops w)
 
@@ -146,9 +160,11 @@ pub record Extents : Type 0 where
   pub work : Work
   pub finished : Option ℕ
 
+-- every piece of an extent is had
 unfoldable pub allHad : Picker → ℕ → Bool
 allHad s e = every (λ i. pieceAt s i .had) (range (extentStart s e) (extentEnd s e))
 
+-- a finished extent replaces the one found before
 unfoldable pub foundFinished : Work → ℕ → Option ℕ → Option ℕ
 foundFinished w k found = cond (not (spent w) && allHad (w .picker) (at 0 (w .picker .extents) k)) (some k) found
 
@@ -160,6 +176,7 @@ extentStep a k x =
     let w = walk (visitOutside a extentAffinity) spent (range (extentStart s e) (extentEnd s e)) (x .work) in
     record { work = w; finished = foundFinished w k (x .finished) }
 
+-- the extent at place k goes
 unfoldable pub forgetExtent : Option ℕ → Work → Work
 forgetExtent none w = w
 forgetExtent (some k) w = withPicker (withExtents (without k (w .picker .extents)) (w .picker)) (w .used) w
@@ -170,11 +187,13 @@ pickExtents a w =
     let x = walk (extentStep a) (λ y. spent (y .work)) (from 0 (size (w .picker .extents))) (record { work = w; finished = none }) in
     forgetExtent (x .finished) (x .work)
 
+-- recent extents where asked for, then the list
 unfoldable pub pickForward : Ask → Work → Work
 pickForward a w =
     let v = onlyIf (option pieceExtentAffinity a) (pickExtents a) w in
     unless (spent v) (λ u. walk (rareStep a) spent (orderOf (u .picker .listing)) u) v
 
+-- the list, backwards under REVERSE
 unfoldable pub pickRarest : Ask → Work → Work
 pickRarest a w =
     cond (option reverse a) (walk (reverseRareStep a) spent (backwards (orderOf (w .picker .listing))) w) (pickForward a w)
@@ -193,9 +212,11 @@ pub record Trace : Type 0 where
   pub aside : ℕ
   pub ignored : ℕ
 
+-- of a pick
 unfoldable pub trace : Work → Trace
 trace w = record { taken = size (w .out); aside = size (w .backup); ignored = tally (λ b. b) (w .ignored) }
 
+-- nothing was done in between
 unfoldable pub sameTrace : Trace → Trace → Bool
 sameTrace x y = eqb (x .taken) (y .taken) && (eqb (x .aside) (y .aside) && eqb (x .ignored) (y .ignored))
 
@@ -207,11 +228,13 @@ pub record Walk : Type 0 where
   pub seen : Trace
   pub over : Bool
 
+-- one piece passed over
 unfoldable pub skipStep : ℕ → Walk → Walk
 skipStep start x =
     let i = onward (x .work .picker) (x .place) in
     record { work = steps 1 randStartLoops (x .work); place = i; back = eqb i start; seen = x .seen; over = x .over }
 
+-- at a piece that may be picked, or back at the start
 unfoldable pub skipDone : Ask → Walk → Bool
 skipDone a x = x .back || standsOpen a (x .place) (x .work)
 
@@ -225,9 +248,11 @@ skip a start x =
 unfoldable pub randStep : ℕ → ℕ → Work → Work
 randStep k j w = took k j (steps 1 randLoops w)
 
+-- those of piece k
 unfoldable pub takeAll : ℕ → Work → Work
 takeAll k w = walk (randStep k) runOver (from 0 (blocksAt (w .picker) k)) (flagged randomPieces w)
 
+-- the walk goes on at piece i; onto the start ends it
 unfoldable pub arrive : ℕ → ℕ → Walk → Work → Walk
 arrive start i x w = record { work = w; place = i; back = false; seen = x .seen; over = eqb i start }
 
@@ -242,6 +267,7 @@ randomVisit a start x =
     (arrive start (onward s (span .end - 1)) x (takeRun takeAll (piecesOf span) w))
     (arrive start (onward s i) x (addBlocks a i (flagged randomPieces w)))
 
+-- the walk is over
 unfoldable pub ended : Walk → Walk
 ended x = record { work = x .work; place = x .place; back = x .back; seen = x .seen; over = true }
 
@@ -253,12 +279,15 @@ marked x = record { work = x .work; place = x .place; back = x .back; seen = con
 unfoldable pub lapEnds : Ask → Walk → Bool
 lapEnds a x = not (standsOpen a (x .place) (x .work)) || (x .back && sameTrace (trace (x .work)) (x .seen))
 
+-- the end, or a visit
 unfoldable pub lapFrom : Ask → ℕ → Walk → Walk
 lapFrom a start x = elim (lapEnds a x) [ true ↦ ended x | false ↦ randomVisit a start (marked x) ]
 
+-- skipping, then a visit
 unfoldable pub lapStep : Ask → ℕ → Walk → Walk
 lapStep a start x = lapFrom a start (skip a start x)
 
+-- it is over, or N is spent
 unfoldable pub walkOver : Walk → Bool
 walkOver x = x .over || spent (x .work)
 
@@ -266,10 +295,12 @@ walkOver x = x .over || spent (x .work)
 abbrev pub ringFuel : ℕ
 ringFuel = 4096 * 8200
 
+-- the whole walk
 unfoldable pub ring : Ask → ℕ → Work → Work
 ring a start w =
     repeat ringFuel (lapStep a start) walkOver (record { work = w; place = start; back = false; seen = trace w; over = false }) .work
 
+-- from a drawn piece
 unfoldable pub pickRandom : List ℕ → Ask → Work → Work
 pickRandom ds a w = ring a (draw ds (w .used) (piecesIn (w .picker) - 1)) (withPicker (w .picker) (suc (w .used)) w)
 
@@ -279,9 +310,11 @@ unfoldable pub busyBlocks : Ask → Partial → List ℕ
 busyBlocks a d =
     filter (λ j. sameState (blockAt d j .state) Requested && not (samePeer (blockAt d j .peer) (a .peer))) (from 0 (size (d .blocks)))
 
+-- the Rust's cap
 abbrev pub endGamePieces : ℕ
 endGamePieces = 200
 
+-- the Full pieces that the peer has
 unfoldable pub fullPieces : Ask → Picker → List Partial
 fullPieces a s = take endGamePieces (filter (λ d. hasBit a (d .piece)) (inQueue Full s))
 
@@ -291,6 +324,7 @@ pub record Tries : Type 0 where
   pub pieces : List Partial
   pub found : Bool
 
+-- a partial past the last
 unfoldable pub noPartial : Partial
 noPartial = record { piece = 0; passed = false; locked = false; hashing = false; blocks = [] }
 
@@ -298,6 +332,7 @@ noPartial = record { piece = 0; passed = false; locked = false; hashing = false;
 unfoldable pub swapRemove : ℕ → List Partial → List Partial
 swapRemove k ds = take (size ds - 1) (put k (lastOf noPartial ds) ds)
 
+-- by whether the piece has a block for this peer
 unfoldable pub busyTry : List ℕ → ℕ → Partial → List ℕ → Tries → Tries
 busyTry ds k d [] x = record { work = x .work; pieces = swapRemove k (x .pieces); found = false }
 busyTry ds k d (j ∷ js) x =
@@ -318,9 +353,11 @@ tryStep ds a x =
     busyTry ds k d (busyBlocks a d)
     (record { work = withPicker (w .picker) (suc (w .used)) (steps 1 busyLoops w); pieces = x .pieces; found = false })
 
+-- a block was found, or no piece is left
 unfoldable pub triesDone : Tries → Bool
 triesDone x = x .found || eqb (size (x .pieces)) 0
 
+-- the end game
 unfoldable pub pickEndGame : List ℕ → Ask → Work → Work
 pickEndGame ds a w =
     repeat endGamePieces (tryStep ds a) triesDone (record { work = w; pieces = fullPieces a (w .picker); found = false }) .work
@@ -331,6 +368,7 @@ refreshed ds w =
     let x = refresh ds (led (w .used) (w .picker)) in
     withPicker (x .picker) (x .used) w
 
+-- the phases that go by the list
 unfoldable pub pickListed : List ℕ → Ask → Work → Work
 pickListed ds a w =
     let v = onlyIf (option sequential a) (pickSequential a) (refreshed ds w) in
@@ -346,6 +384,7 @@ pickRest ds a w =
     let v = appendBackup (flagged backup1 w) in
     unless (spent v || option onParole a) (pickEndGame ds a) v
 
+-- partials, suggestions, the main phase and the rest, up to where N is spent
 unfoldable pub phases : List ℕ → Ask → Work → Work
 phases ds a w =
     let p = pickPartials a w in

@@ -27,13 +27,16 @@ askOf n b =
       suggestions = [];
     }
 
+-- has-peer and peer must fit
 unfoldable pub readAsk : ℕ → List ℕ → Option Ask
 readAsk n b = obeying (peerFits (field 8 1 b) (field 9 8 b)) (askOf n b)
 
+-- an image and a pick record
 pub record Job : Type 0 where
   pub picker : Picker
   pub ask : Ask
 
+-- and nothing between
 unfoldable pub getJob : Reader Job
 getJob = do
   s ← getPicker
@@ -50,15 +53,18 @@ pub data Printed : Type 0 where
 unfoldable pub pickOf : Ask → Action
 pickOf a = pick-pieces a (2048 + 2048 + 255) (replicate leastDraws 0)
 
+-- 2 past its sizes, then what the pick answers
 unfoldable pub jobAnswer : Job → Answer
 jobAnswer x =
     cond (leb (piecesIn (x .picker)) 64 && leb (blocksPer (x .picker)) 16)
     (unlessRefused (refusal (x .picker) (pickOf (x .ask))) (x .picker) (pickOf (x .ask)) .answer)
     (refused 2)
 
+-- what was read, or a fault
 unfoldable pub printed : Read Job → Printed
 printed (accepted x) = shown (jobAnswer x)
 printed (faultAt k) = refusedAt k
 
+-- from the bytes on standard input
 unfoldable pub program : List ℕ → Printed
 program bs = printed (whole (size bs) (getJob bs))

@@ -63,12 +63,15 @@ pub data Told : Type 0 where
   nothing : Told
   staleList : Told
 
+-- numbers, each of them there
 unfoldable pub plain : List ℕ → Told
 plain ns = numbers (each (λ n. some n) ns)
 
+-- one number
 unfoldable pub one : ℕ → Told
 one n = plain (n ∷ [])
 
+-- 1 or 0
 unfoldable pub flag : Bool → Told
 flag b = one (bit b)
 
@@ -81,6 +84,7 @@ passedIn (some d) = d .passed
 unfoldable pub has : Picker → ℕ → Bool
 has s i = pieceAt s i .had || passedIn (partialOf s i)
 
+-- the piece is left out
 unfoldable pub unwished : Picker → ℕ → Bool
 unwished s i = eqb (pieceAt s i .wish) 0
 
@@ -88,22 +92,28 @@ unwished s i = eqb (pieceAt s i .wish) 0
 unfoldable pub piecesWhere : Picker → (ℕ → Bool) → List ℕ
 piecesWhere s t = filter t (from 0 (piecesIn s))
 
+-- how many they are
 unfoldable pub many : Picker → (ℕ → Bool) → ℕ
 many s t = size (piecesWhere s t)
 
+-- of a list of numbers
 unfoldable pub sum : List ℕ → ℕ
 sum [] = 0
 sum (x ∷ xs) = x + sum xs
 
+-- their pad bytes
 unfoldable pub pads : Picker → (ℕ → Bool) → ℕ
 pads s t = sum (each (λ i. pieceAt s i .pad) (piecesWhere s t))
 
+-- `num_have`
 unfoldable pub haves : Picker → ℕ
 haves s = many s (has s)
 
+-- `num_filtered`: left out and not had
 unfoldable pub filtered : Picker → ℕ
 filtered s = many s (λ i. unwished s i && not (has s i))
 
+-- `num_have_filtered`: left out and had
 unfoldable pub haveFiltered : Picker → ℕ
 haveFiltered s = many s (λ i. unwished s i && has s i)
 
@@ -115,6 +125,7 @@ counted s t = plain (many s t ∷ pads s t ∷ bit (t (piecesIn s - 1)) ∷ [])
 unfoldable pub copies : Piece → ℕ
 copies p = p .count + bit (p .had)
 
+-- the lowest of them, and of n
 unfoldable pub lowest : ℕ → List Piece → ℕ
 lowest n [] = n
 lowest n (p ∷ ps) = lowest (least n (copies p)) ps
@@ -137,17 +148,21 @@ info d =
     ∷ blocksIn Finished d
     ∷ bit (d .passed) ∷ blocksIn Writing d ∷ bit (d .locked) ∷ blocksIn Requested d ∷ bit (d .hashing) ∷ []
 
+-- `piece_info`: without a partial, all blocks of a had piece are finished
 unfoldable pub infoOf : Picker → ℕ → Option Partial → List ℕ
 infoOf s i none = i ∷ (bit (pieceAt s i .had) * blocksAt s i) ∷ 0 ∷ 0 ∷ 0 ∷ 0 ∷ 0 ∷ []
 infoOf s i (some d) = info d
 
+-- the partials of the four queues
 unfoldable pub queueInfo : Picker → List ℕ
 queueInfo s = joined info (inQueue Downloading s ++ (inQueue Full s ++ (inQueue FinishedQueue s ++ inQueue ZeroPrio s)))
 
+-- how many each has
 unfoldable pub queueSizes : Picker → List ℕ
 queueSizes s =
     size (inQueue Downloading s) ∷ size (inQueue Full s) ∷ size (inQueue FinishedQueue s) ∷ size (inQueue ZeroPrio s) ∷ []
 
+-- peers with the seeds
 unfoldable pub availability : Picker → Piece → ℕ
 availability s p = p .count + s .seeds
 
@@ -177,27 +192,33 @@ askPicker s total-size = one (s .total)
 askPicker s full-piece-size = one (s .size)
 askPicker s dirty = flag (isStale (s .listing))
 
+-- a record for each piece or partial
 unfoldable pub listPicker : Picker → ListOfPicker → Told
 listPicker s get-availability-vec = plain (each (availability s) (s .pieces))
 listPicker s piece-priorities = plain (each (λ p. p .wish) (s .pieces))
 listPicker s get-download-queue = plain (queueInfo s)
 
+-- what a partial tells, if one stands
 unfoldable pub ofPartial : (Partial → Told) → Option Partial → Told
 ofPartial f none = nothing
 ofPartial f (some d) = f d
 
+-- a partial that is being hashed
 unfoldable pub hashingIn : Option Partial → Bool
 hashingIn none = false
 hashingIn (some d) = d .hashing
 
+-- `is_piece_finished`: every block written or on disk
 unfoldable pub finishedIn : Picker → ℕ → Option Partial → Bool
 finishedIn s i none = pieceAt s i .had
 finishedIn s i (some d) = leb (blocksAt s i) (blocksIn Finished d + blocksIn Writing d)
 
+-- who holds each block
 unfoldable pub peersIn : Picker → ℕ → Option Partial → List (Option ℕ)
 peersIn s i none = replicate (blocksAt s i) none
 peersIn s i (some d) = each (λ b. b .peer) (d .blocks)
 
+-- state, requesters, peer
 unfoldable pub blockInfo : Block → List (Option ℕ)
 blockInfo b = some (blockStateNumber (b .state)) ∷ some (b .requesters) ∷ b .peer ∷ []
 
@@ -206,6 +227,7 @@ unfoldable pub stats : Picker → Piece → Told
 stats s p =
     numbers (some (availability s p) ∷ bucket (s .seeds) p ∷ some (bit (p .had)) ∷ some (bit (not (isOpen (p .state)))) ∷ [])
 
+-- of piece i
 unfoldable pub askPiece : Picker → ℕ → OfPiece → Told
 askPiece s i blocks-in-piece = one (blocksAt s i)
 askPiece s i payload-blocks-in-piece = one (payloadAt s i)
@@ -226,6 +248,7 @@ askPiece s i passed-hash-check = ofPartial (λ d. flag (d .passed)) (partialOf s
 askPiece s i locked? = ofPartial (λ d. flag (d .locked)) (partialOf s i)
 askPiece s i hashing? = ofPartial (λ d. flag (d .hashing)) (partialOf s i)
 
+-- a record for each block
 unfoldable pub listPiece : Picker → ℕ → ListOfPiece → Told
 listPiece s i get-downloaders = numbers (peersIn s i (partialOf s i))
 listPiece s i blocks-for-piece = ofPartial (λ d. numbers (joined blockInfo (d .blocks))) (partialOf s i)
@@ -235,14 +258,17 @@ unfoldable pub blockOf : Option Partial → ℕ → Option Block
 blockOf none j = none
 blockOf (some d) j = some (blockAt d j)
 
+-- a block stands and passes a test
 unfoldable pub blockTest : (Block → Bool) → Option Block → Bool
 blockTest t none = false
 blockTest t (some b) = t b
 
+-- what a block tells, if its partial stands
 unfoldable pub ofBlockThere : (Block → Told) → Option Block → Told
 ofBlockThere f none = nothing
 ofBlockThere f (some b) = f b
 
+-- none without a partial
 unfoldable pub requestersOf : Option Block → ℕ
 requestersOf none = 0
 requestersOf (some b) = b .requesters
@@ -252,6 +278,7 @@ unfoldable pub downloaderOf : Option Block → Option ℕ
 downloaderOf none = none
 downloaderOf (some b) = cond (sameState (b .state) None) none (b .peer)
 
+-- of a block of piece i
 unfoldable pub askBlock : Picker → ℕ → Option Block → OfBlock → Told
 askBlock s i b num-peers-block = one (requestersOf b)
 askBlock s i b is-requested = flag (blockTest (λ x. sameState (x .state) Requested) b)
@@ -262,14 +289,17 @@ askBlock s i b block-state = ofBlockThere (λ x. one (blockStateNumber (x .state
 askBlock s i b block-num-peers = ofBlockThere (λ x. one (x .requesters)) b
 askBlock s i b block-peer = ofBlockThere (λ x. numbers (x .peer ∷ [])) b
 
+-- what stands at a place, if anything does
 unfoldable pub placeIn : Option ℕ → Told
 placeIn none = nothing
 placeIn (some x) = one x
 
+-- a place of the list
 unfoldable pub listPlace : Listing → ℕ → Told
 listPlace stale k = staleList
 listPlace (fresh l) k = placeIn (getElem? l k)
 
+-- every question
 unfoldable pub ask : Picker → Question → Told
 ask s (ofPicker q) = askPicker s q
 ask s (listOfPicker q room) = listPicker s q

@@ -24,6 +24,7 @@ pub record PartialSound (s : Picker) (i : ℕ) (d : Partial) : Type 0 where
   pub each : every blockOk (d .blocks) ≡ true
   pub state : stateOk (pieceAt s i) d ≡ true
 
+-- the whole picker
 pub record Sound (s : Picker) : Type 0 where
   pub head : headOk s ≡ true
   pub many : piecesIn s ≡ numPieces (s .total) (s .size)

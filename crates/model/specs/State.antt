@@ -18,18 +18,23 @@ use Rattle.model.specs.Bep3.{numPieces, pieceLength, blockLength, blocks
 abbrev pub mostPieces : ℕ
 mostPieces = 4096
 
+-- of a piece, in bytes
 abbrev pub mostPieceSize : ℕ
 mostPieceSize = 4194304
 
+-- of a piece's peers with the seeds, and of a block's requesters
 abbrev pub mostPeers : ℕ
 mostPeers = 1000
 
+-- of partials
 abbrev pub mostPartials : ℕ
 mostPartials = 512
 
+-- of recent extents
 abbrev pub mostExtents : ℕ
 mostExtents = 5
 
+-- of words lent to a call that may draw
 abbrev pub leastDraws : ℕ
 leastDraws = 4352
 
@@ -48,6 +53,7 @@ pub record Block : Type 0 where
   pub requesters : ℕ
   pub peer : Option ℕ
 
+-- a piece that is being downloaded: whether its hash passed, whether it is locked, whether it is being hashed, and its blocks
 pub record Partial : Type 0 where
   pub piece : ℕ
   pub passed : Bool
@@ -76,9 +82,11 @@ pub record Picker : Type 0 where
 unfoldable pub sameQueue : DownloadQueue → DownloadQueue → Bool
 sameQueue p q = eqb (queueNumber p) (queueNumber q)
 
+-- no partial stands for the piece
 unfoldable pub isOpen : DownloadQueue → Bool
 isOpen q = sameQueue q Open
 
+-- two blocks in one state
 unfoldable pub sameState : BlockState → BlockState → Bool
 sameState a b = eqb (blockStateNumber a) (blockStateNumber b)
 
@@ -89,10 +97,12 @@ samePeer none (some q) = false
 samePeer (some p) none = false
 samePeer (some p) (some q) = eqb p q
 
+-- there is a peer
 unfoldable pub somebody : Option ℕ → Bool
 somebody none = false
 somebody (some p) = true
 
+-- the list has to be rebuilt
 unfoldable pub isStale : Listing → Bool
 isStale stale = true
 isStale (fresh l) = false
@@ -106,6 +116,7 @@ orderOf (fresh l) = l
 unfoldable pub noPiece : Piece
 noPiece = record { count = 0; state = Open; wish = 0; had = false; pad = 0 }
 
+-- a block past the last
 unfoldable pub noBlock : Block
 noBlock = record { state = None; requesters = 0; peer = none }
 
@@ -113,24 +124,31 @@ noBlock = record { state = None; requesters = 0; peer = none }
 unfoldable pub withCount : ℕ → Piece → Piece
 withCount c p = record { count = c; state = p .state; wish = p .wish; had = p .had; pad = p .pad }
 
+-- the piece in another state
 unfoldable pub withState : DownloadQueue → Piece → Piece
 withState q p = record { count = p .count; state = q; wish = p .wish; had = p .had; pad = p .pad }
 
+-- with another wish
 unfoldable pub withWish : ℕ → Piece → Piece
 withWish w p = record { count = p .count; state = p .state; wish = w; had = p .had; pad = p .pad }
 
+-- had from here on
 unfoldable pub withHad : Piece → Piece
 withHad p = record { count = p .count; state = p .state; wish = p .wish; had = true; pad = p .pad }
 
+-- the block held by another peer, or by none
 unfoldable pub withPeer : Option ℕ → Block → Block
 withPeer peer b = record { state = b .state; requesters = b .requesters; peer = peer }
 
+-- the partial with other blocks
 unfoldable pub withBlocks : List Block → Partial → Partial
 withBlocks bs d = record { piece = d .piece; passed = d .passed; locked = d .locked; hashing = d .hashing; blocks = bs }
 
+-- passed and locked, or not
 unfoldable pub withFlags : Bool → Bool → Partial → Partial
 withFlags p l d = record { piece = d .piece; passed = p; locked = l; hashing = d .hashing; blocks = d .blocks }
 
+-- the picker with another number of seeds
 unfoldable pub withSeeds : ℕ → Picker → Picker
 withSeeds n s =
     record {
@@ -145,6 +163,7 @@ withSeeds n s =
       listing = s .listing;
     }
 
+-- with other cursors
 unfoldable pub withCursors : ℕ → ℕ → Picker → Picker
 withCursors c r s =
     record {
@@ -159,6 +178,7 @@ withCursors c r s =
       listing = s .listing;
     }
 
+-- with other pieces
 unfoldable pub withPieces : List Piece → Picker → Picker
 withPieces ps s =
     record {
@@ -173,6 +193,7 @@ withPieces ps s =
       listing = s .listing;
     }
 
+-- with other partials
 unfoldable pub withPartials : List Partial → Picker → Picker
 withPartials ds s =
     record {
@@ -187,6 +208,7 @@ withPartials ds s =
       listing = s .listing;
     }
 
+-- with other recent extents
 unfoldable pub withExtents : List ℕ → Picker → Picker
 withExtents es s =
     record {
@@ -201,6 +223,7 @@ withExtents es s =
       listing = s .listing;
     }
 
+-- with another list
 unfoldable pub withListing : Listing → Picker → Picker
 withListing l s =
     record {
@@ -219,9 +242,11 @@ withListing l s =
 unfoldable pub pieceAt : Picker → ℕ → Piece
 pieceAt s i = at noPiece (s .pieces) i
 
+-- piece i changed
 unfoldable pub withPiece : ℕ → (Piece → Piece) → Picker → Picker
 withPiece i f s = withPieces (put i (f (pieceAt s i)) (s .pieces)) s
 
+-- how many pieces
 unfoldable pub piecesIn : Picker → ℕ
 piecesIn s = size (s .pieces)
 
@@ -233,9 +258,11 @@ outdated s = withListing stale s
 unfoldable pub lengthAt : Picker → ℕ → ℕ
 lengthAt s i = pieceLength (s .total) (s .size) i
 
+-- blocks of a whole piece: document 01's b
 unfoldable pub blocksPer : Picker → ℕ
 blocksPer s = blocksPerPiece (s .size)
 
+-- blocks of piece i
 unfoldable pub blocksAt : Picker → ℕ → ℕ
 blocksAt s i = blocksInPiece (s .total) (s .size) i
 
@@ -247,6 +274,7 @@ payloadAt s i = blocksAt s i - pieceAt s i .pad / blockLength (s .size)
 abbrev pub extentBlocks : ℕ
 extentBlocks = 256
 
+-- pieces of an extent, where a piece has b blocks
 unfoldable pub extentSize : ℕ → ℕ
 extentSize b = extentBlocks / b
 
@@ -254,12 +282,15 @@ extentSize b = extentBlocks / b
 unfoldable pub extentsOf : ℕ → ℕ → ℕ
 extentsOf n b = cond (eqb b extentBlocks) 0 ((n + extentSize b - 1) / extentSize b)
 
+-- the extent of piece i
 unfoldable pub extentFor : Picker → ℕ → ℕ
 extentFor s i = i / extentSize (blocksPer s)
 
+-- its first piece
 unfoldable pub extentStart : Picker → ℕ → ℕ
 extentStart s e = e * extentSize (blocksPer s)
 
+-- one past its last piece
 unfoldable pub extentEnd : Picker → ℕ → ℕ
 extentEnd s e = least (extentStart s e + extentSize (blocksPer s)) (piecesIn s)
 
@@ -269,9 +300,11 @@ unfoldable pub validGeometry : ℕ → ℕ → Bool
 validGeometry total size =
     leb 1 total && (leb 1 size && (leb size mostPieceSize && leb (numPieces total size) mostPieces))
 
+-- a piece that nobody has, at the default wish
 unfoldable pub freshPiece : Piece
 freshPiece = record { count = 0; state = Open; wish = 4; had = false; pad = 0 }
 
+-- `new`: no seeds, cursors at both ends, the list to be built
 unfoldable pub new : ℕ → ℕ → Picker
 new total size =
     record {

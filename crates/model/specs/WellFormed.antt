@@ -31,6 +31,7 @@ unfoldable pub peerOk : Option ℕ → Bool
 peerOk none = true
 peerOk (some n) = ltb n (2 ^ 64)
 
+-- requesters and peer in range
 unfoldable pub blockOk : Block → Bool
 blockOk b = leb (b .requesters) mostPeers && peerOk (b .peer)
 
@@ -69,10 +70,12 @@ partialsOk s i n (p ∷ ps) [] = isOpen (p .state) && partialsOk s (suc i) n ps 
 partialsOk s i n (p ∷ ps) (d ∷ ds) =
     cond (isOpen (p .state)) (partialsOk s (suc i) n ps (d ∷ ds)) (partialOk s i n p d && partialsOk s (suc i) (suc n) ps ds)
 
+-- extents one after another
 unfoldable pub extentsOk : Picker → List ℕ → List ℕ → Bool
 extentsOk s before [] = true
 extentsOk s before (e ∷ es) = extentOk s before e && extentsOk s (before ++ (e ∷ [])) es
 
+-- list places one after another
 unfoldable pub orderOk : Picker → List ℕ → List ℕ → Bool
 orderOk s before [] = true
 orderOk s before (i ∷ is) = placeOk s before i && orderOk s (before ++ (i ∷ [])) is
@@ -82,6 +85,7 @@ unfoldable pub listingOk : Picker → Listing → Bool
 listingOk s stale = true
 listingOk s (fresh l) = eqb (size l) (size (withBucket s)) && orderOk s [] l
 
+-- the whole picker
 unfoldable pub wellFormed : Picker → Bool
 wellFormed s =
     headOk s
