@@ -1,0 +1,11 @@
+pub mod TabLaws
+pub mod SpotLaws
+pub mod Geometry
+pub mod Same
+pub mod Readers
+pub mod RoomLaws
+pub mod Stores
+pub mod HeadStores
+pub mod Meanings
+pub mod BlockStores
+pub mod PartialStores

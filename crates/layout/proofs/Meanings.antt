@@ -1,0 +1,134 @@
+-- What each word is in the picker that the memory means. Assumes nothing.
+use mathlib.Core.Path.{_≡_, refl, sym, ap, _∙_}
+use mathlib.Core.Bool.{Bool, true, false, cond}
+use mathlib.Core.List.{List}
+use Prim.Native.Nat.{ℕ, zero, suc, _+_, _≤_, _<_}
+use native.Mathlib.Omega.{arith}
+use lib.ListN.{List·getD-eq-default}
+use Rattle.types.specs.declared.queue.DownloadQueue.{DownloadQueue}
+use Rattle.types.specs.declared.queue.DownloadQueue.the-variants.{Downloading, Full, Finished, ZeroPrio, Open, DownloadingReverse, FullReverse}
+use Rattle.types.specs.declared.block.BlockState.{BlockState}
+use Rattle.types.specs.declared.block.BlockState.the-variants.{None, Requested, Writing, Finished as FinishedBlock}
+use Rattle.types.specs.Queue.{queueNumber, queues}
+use Rattle.types.specs.Block.{blockStateNumber, blockStates}
+use Rattle.model.specs.Lists.{at, size}
+use Rattle.model.specs.State.{Piece, Picker, stale, fresh, isStale, orderOf, pieceAt, piecesIn}
+use Rattle.layout.specs.declared.spots.Shape.{Shape}
+use Rattle.layout.specs.Tables.{tab}
+use Rattle.layout.specs.Layout.{headWord, pieceWord, queueFrom, stateFrom, yes?, pieceHeld, piecesHeld, extentsHeld, listHeld, listingHeld, listWords, decode, Room}
+use Rattle.layout.proofs.TabLaws.{size-tab, at-tab}
+use Rattle.layout.proofs.Readers.{piece-at, extents-size, order-size}
+use Rattle.layout.proofs.RoomLaws.{decode-at}
+
+-- ---- states by their numbers
+pub queue-number : (w : ℕ) → w < 7 → queueNumber (queueFrom w) ≡ w
+unfolding queueFrom at
+queue-number zero h = refl
+queue-number (suc zero) h = refl
+queue-number (suc (suc zero)) h = refl
+queue-number (suc (suc (suc zero))) h = refl
+queue-number (suc (suc (suc (suc zero)))) h = refl
+queue-number (suc (suc (suc (suc (suc zero))))) h = refl
+queue-number (suc (suc (suc (suc (suc (suc zero)))))) h = refl
+queue-number (suc (suc (suc (suc (suc (suc (suc w))))))) h = absurd (omega arith)
+
+pub queue-none : (w : ℕ) → 7 ≤ w → queueNumber (queueFrom w) ≡ 4
+unfolding queueFrom at
+queue-none w h = ap queueNumber (List·getD-eq-default queues Open {n = w} h)
+
+pub number-queue : (q : DownloadQueue) → queueFrom (queueNumber q) ≡ q
+unfolding queueFrom at
+number-queue Downloading = refl
+number-queue Full = refl
+number-queue Finished = refl
+number-queue ZeroPrio = refl
+number-queue Open = refl
+number-queue DownloadingReverse = refl
+number-queue FullReverse = refl
+
+pub state-number : (w : ℕ) → w < 4 → blockStateNumber (stateFrom w) ≡ w
+unfolding stateFrom at
+state-number zero h = refl
+state-number (suc zero) h = refl
+state-number (suc (suc zero)) h = refl
+state-number (suc (suc (suc zero))) h = refl
+state-number (suc (suc (suc (suc w)))) h = absurd (omega arith)
+
+pub state-none : (w : ℕ) → 4 ≤ w → blockStateNumber (stateFrom w) ≡ 0
+unfolding stateFrom at
+state-none w h = ap blockStateNumber (List·getD-eq-default blockStates None {n = w} h)
+
+pub number-state : (q : BlockState) → stateFrom (blockStateNumber q) ≡ q
+unfolding stateFrom at
+number-state None = refl
+number-state Requested = refl
+number-state Writing = refl
+number-state FinishedBlock = refl
+
+module _ (s : Shape) (xs : List ℕ) (r : Room s xs) where
+  -- ---- pieces
+  pub pieces-number : piecesIn (decode xs) ≡ s .pieces
+  unfolding piecesIn piecesHeld
+  pieces-number = ap piecesIn (decode-at s xs r) ∙ size-tab (s .pieces) (pieceHeld xs (s .pieces))
+
+  module _ (i : ℕ) (h : i < s .pieces) where
+    pub piece-is : pieceAt (decode xs) i ≡ pieceHeld xs (s .pieces) i
+    piece-is = ap (λ (d : Picker). pieceAt d i) (decode-at s xs r) ∙ piece-at (s .pieces) (s .blocks) xs i h
+
+    pub count-is : pieceWord xs (s .pieces) 0 i ≡ pieceAt (decode xs) i .count
+    unfolding pieceHeld
+    count-is = ap (λ (p : Piece). p .count) (sym piece-is)
+
+    pub state-is : queueFrom (pieceWord xs (s .pieces) 1 i) ≡ pieceAt (decode xs) i .state
+    unfolding pieceHeld
+    state-is = ap (λ (p : Piece). p .state) (sym piece-is)
+
+    pub wish-is : pieceWord xs (s .pieces) 2 i ≡ pieceAt (decode xs) i .wish
+    unfolding pieceHeld
+    wish-is = ap (λ (p : Piece). p .wish) (sym piece-is)
+
+    pub had-is : yes? (pieceWord xs (s .pieces) 3 i) ≡ pieceAt (decode xs) i .had
+    unfolding pieceHeld
+    had-is = ap (λ (p : Piece). p .had) (sym piece-is)
+
+    pub pad-is : pieceWord xs (s .pieces) 4 i ≡ pieceAt (decode xs) i .pad
+    unfolding pieceHeld
+    pad-is = ap (λ (p : Piece). p .pad) (sym piece-is)
+
+    -- ---- the list
+    pub list-word-is : pieceWord xs (s .pieces) 5 i ≡ at 0 (listWords xs (s .pieces)) i
+    unfolding listWords
+    list-word-is = sym (at-tab (s .pieces) (pieceWord xs (s .pieces) 5) i 0 h)
+
+  pub stale-is : yes? (headWord xs 5) ≡ isStale (decode xs .listing)
+  unfolding listingHeld isStale
+  stale-is = go (yes? (headWord xs 5)) _
+    where
+      go : (t : Bool) (l : List ℕ) → t ≡ isStale (cond t stale (fresh l))
+      go true l = refl
+      go false l = refl
+
+  order-cases : (t : Bool) → yes? (headWord xs 5) ≡ t → orderOf (cond t stale (fresh (listHeld xs (s .pieces)))) ≡ listHeld xs (s .pieces)
+  unfolding orderOf listHeld tab
+  order-cases true e = rw (r .idle e)
+  order-cases false e = refl
+
+  pub order-is : orderOf (decode xs .listing) ≡ listHeld xs (s .pieces)
+  unfolding listingHeld
+  order-is = ap (λ (d : Picker). orderOf (d .listing)) (decode-at s xs r) ∙ order-cases (yes? (headWord xs 5)) refl
+
+  pub length-is : headWord xs 6 ≡ size (orderOf (decode xs .listing))
+  length-is = sym (ap size order-is ∙ order-size (s .pieces) (s .blocks) xs)
+
+  -- an entry of the list
+  pub entry-is : (k : ℕ) → k < headWord xs 6 → pieceWord xs (s .pieces) 5 k ≡ at 0 (orderOf (decode xs .listing)) k
+  unfolding listHeld
+  entry-is k h = sym (ap (λ (l : List ℕ). at 0 l k) order-is ∙ at-tab (headWord xs 6) (pieceWord xs (s .pieces) 5) k 0 h)
+
+  -- ---- extents
+  pub extents-number : headWord xs 8 ≡ size (decode xs .extents)
+  extents-number = sym (extents-size (s .pieces) (s .blocks) xs)
+
+  pub extent-is : (k : ℕ) → k < headWord xs 8 → headWord xs (9 + k) ≡ at 0 (decode xs .extents) k
+  unfolding extentsHeld
+  extent-is k h = sym (at-tab (headWord xs 8) (λ j. headWord xs (9 + j)) k 0 h)

@@ -1,0 +1,17 @@
+// The words of the lent memory in which a picker stands: its shape, and a pair of accessors for each kind of region.
+// A head of 16 words; six regions of a word for each piece; three of a word for each partial; four of a word for each block of a partial's place.
+mod spots;
+mod words;
+
+pub use spots::Shape;
+pub use spots::idx;
+pub use spots::shape_of;
+pub use spots::word;
+pub use words::block_word;
+pub use words::head_word;
+pub use words::partial_word;
+pub use words::piece_word;
+pub use words::set_block_word;
+pub use words::set_head_word;
+pub use words::set_partial_word;
+pub use words::set_piece_word;

@@ -1,0 +1,90 @@
+// The shape of a picker's memory, and where a word of each region stands.
+ghost use mathlib.Core.Path.{_≡_};
+ghost use mathlib.Core.Bool.{true};
+ghost use Prim.Native.Nat.{ℕ, _<_, _≤_, min};
+ghost use lib.ListN.{length};
+ghost use Rattle.model.specs.Bep3.{partsOf};
+ghost use Rattle.model.specs.State.{validGeometry};
+ghost use Rattle.layout.specs.Layout.{headWord, pieceSpot, partialSpot, blockSpot, Sizes, ShapeOf};
+
+// The number of pieces, of blocks in a whole piece, and of places for partials.
+pub struct Shape {
+    pub pieces: usize,
+    pub blocks: usize,
+    pub places: usize,
+}
+
+// A word as an index.
+pub fn idx(x: u64) -> usize
+    ensures { λ r. ⌜ r ≡ x ⌝ }
+{
+    x as usize
+}
+
+// An index as a word.
+pub fn word(x: usize) -> u64
+    ensures { λ r. ⌜ r ≡ x ⌝ }
+{
+    x as u64
+}
+
+fn lesser(a: usize, b: usize) -> usize
+    ensures { λ r. ⌜ r ≡ min a b ⌝ }
+{
+    if a < b {
+        return a;
+    }
+    b
+}
+
+// How many parts of one length a whole has, the last one shorter where it is no multiple.
+fn parts(whole: usize, part: usize) -> usize
+    requires { ⌜ (1 ≤ part) × (part ≤ 4194304) × (whole ≤ 17179869184) ⌝ }
+    ensures { λ r. ⌜ r ≡ partsOf whole part ⌝ }
+{
+    (whole + part - 1) / part
+}
+
+pub fn shape_of(mem: &[u64]) -> Shape
+    requires { ⌜ 16 ≤ length (now mem) ⌝ }
+    requires { ⌜ validGeometry (headWord (now mem) 0) (headWord (now mem) 1) ≡ true ⌝ }
+    ensures { λ r. ⌜ ShapeOf r (now (mem .entry)) ⌝ }
+{
+    let total = idx(mem[0]);
+    let size = idx(mem[1]);
+    let pieces = parts(total, size);
+    let blocks = parts(size, lesser(16384, size));
+    let places = lesser(pieces, 512);
+    Shape {
+        pieces: pieces,
+        blocks: blocks,
+        places: places,
+    }
+}
+
+// Field f of piece i.
+pub fn piece_spot(s: Shape, f: usize, i: usize) -> usize
+    requires { ⌜ Sizes s ⌝ }
+    requires { ⌜ (f < 6) × (i < s .pieces) ⌝ }
+    ensures { λ r. ⌜ r ≡ pieceSpot (s .pieces) f i ⌝ }
+{
+    16 + (f * s.pieces + i)
+}
+
+// Field f of partial k.
+pub fn partial_spot(s: Shape, f: usize, k: usize) -> usize
+    requires { ⌜ Sizes s ⌝ }
+    requires { ⌜ (f < 3) × (k < s .places) ⌝ }
+    ensures { λ r. ⌜ r ≡ partialSpot (s .pieces) f k ⌝ }
+{
+    16 + 6 * s.pieces + (f * s.places + k)
+}
+
+// Field f of block j of place p.
+pub fn block_spot(s: Shape, f: usize, p: usize, j: usize) -> usize
+    requires { ⌜ Sizes s ⌝ }
+    requires { ⌜ (f < 4) × (p < s .places) × (j < s .blocks) ⌝ }
+    ensures { λ r. ⌜ r ≡ blockSpot (s .pieces) (s .blocks) f p j ⌝ }
+{
+    16 + 6 * s.pieces + 3 * s.places + (f * (s.places * s.blocks) + (p * s.blocks + j))
+}

@@ -1,0 +1,10 @@
+pub mod BelowLaws
+pub mod StateLaws
+pub mod RowLaws
+pub mod CountLaws
+pub mod GoodLaws
+pub mod PassLaws
+pub mod HeldLaws
+pub mod MeaningLaws
+pub mod WholeLaws
+pub mod ReadyLaws

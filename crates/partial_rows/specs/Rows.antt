@@ -1,0 +1,101 @@
+-- What the tests of partials and their blocks ask of the words, and what stands before they are made. Assumes nothing.
+use Prim.Native.Nat.{ℕ, zero, suc, _+_, _≤_, _<_}
+use mathlib.Core.Path.{_≡_}
+use mathlib.Core.Bool.{Bool, true, cond, not, _&&_, _||_}
+use mathlib.Core.List.{List}
+use lib.Dec.{eqb, ltb, leb}
+use Rattle.types.specs.declared.queue.DownloadQueue.{DownloadQueue}
+use Rattle.types.specs.declared.queue.DownloadQueue.the-variants.{Downloading, Full, Finished, ZeroPrio, Open}
+use Rattle.types.specs.Queue.{plainOf}
+use Rattle.model.specs.Lists.{bit, member}
+use Rattle.model.specs.Bep3.{blocksInPiece}
+use Rattle.model.specs.State.{sameQueue, validGeometry}
+use Rattle.model.specs.WellFormed.{blockOk}
+use Rattle.layout.specs.declared.spots.Shape.{Shape}
+use Rattle.layout.specs.Tables.{tab}
+use Rattle.layout.specs.Layout.{headWord, pieceWord, partialWord, blockWord, placesFor, piecesOn, blocksOn, queueFrom, blockFrom, Spans}
+
+-- ---- a test on the numbers below one
+-- all pass
+unfoldable pub allBelow : (ℕ → Bool) → ℕ → Bool
+allBelow t zero = true
+allBelow t (suc n) = allBelow t n && t n
+
+-- how many pass
+unfoldable pub countBelow : (ℕ → Bool) → ℕ → ℕ
+countBelow t zero = 0
+countBelow t (suc n) = countBelow t n + bit (t n)
+
+-- ---- the state of a piece, by the numbers of its partial's blocks: requested, not free, all
+unfoldable pub dueBy : ℕ → ℕ → ℕ → ℕ → Bool → DownloadQueue
+dueBy wish requested busy blocks hashing =
+    cond (eqb wish 0) ZeroPrio
+    (cond (eqb (busy + bit hashing) 0) Open
+    (cond (ltb busy blocks) Downloading (cond (ltb 0 requested) Full Finished)))
+
+unfoldable pub stateBy : ℕ → ℕ → ℕ → ℕ → ℕ → Bool → Bool
+stateBy state wish requested busy blocks hashing =
+    (ltb 0 wish && eqb busy 0) || sameQueue (plainOf (queueFrom state)) (dueBy wish requested busy blocks hashing)
+
+-- ---- blocks
+-- the words of a block: an image's, and in range
+unfoldable pub rowOk : ℕ → ℕ → ℕ → ℕ → Bool
+rowOk state requesters has peer =
+    (leb state 3 && (eqb has 1 || (eqb has 0 && eqb peer 0))) && blockOk (blockFrom state requesters has peer)
+
+-- block j of place p
+unfoldable pub rowAt : List ℕ → ℕ → ℕ → ℕ → ℕ → Bool
+rowAt xs n b p j = rowOk (blockWord xs n b 0 p j) (blockWord xs n b 1 p j) (blockWord xs n b 2 p j) (blockWord xs n b 3 p j)
+
+-- of the first blocks of place p: all are good; how many are requested; how many are not free
+unfoldable pub rowsOk : List ℕ → ℕ → ℕ → ℕ → ℕ → Bool
+rowsOk xs n b p many = allBelow (rowAt xs n b p) many
+
+unfoldable pub requestedIn : List ℕ → ℕ → ℕ → ℕ → ℕ → ℕ
+requestedIn xs n b p many = countBelow (λ j. eqb (blockWord xs n b 0 p j) 1) many
+
+unfoldable pub busyIn : List ℕ → ℕ → ℕ → ℕ → ℕ → ℕ
+busyIn xs n b p many = countBelow (λ j. not (eqb (blockWord xs n b 0 p j) 0)) many
+
+-- ---- partials
+-- the blocks of piece i at place p are good, and its state is theirs
+unfoldable pub blocksGood : List ℕ → ℕ → ℕ → ℕ → ℕ → Bool → Bool
+blocksGood xs n b i p hashing =
+    rowsOk xs n b p (blocksInPiece (headWord xs 0) (headWord xs 1) i)
+    && stateBy (pieceWord xs n 1 i) (pieceWord xs n 2 i)
+    (requestedIn xs n b p (blocksInPiece (headWord xs 0) (headWord xs 1) i))
+    (busyIn xs n b p (blocksInPiece (headWord xs 0) (headWord xs 1) i))
+    (blocksInPiece (headWord xs 0) (headWord xs 1) i) hashing
+
+-- partial k on its own: a piece that is there and not Open, flags, a place that is there, the blocks
+unfoldable pub partialGood : List ℕ → ℕ → ℕ → ℕ → Bool
+partialGood xs n b k =
+    ltb (partialWord xs n 0 k) n
+    && (not (eqb (pieceWord xs n 1 (partialWord xs n 0 k)) 4)
+    && (leb (partialWord xs n 1 k) 7
+    && (ltb (partialWord xs n 2 k) (placesFor n)
+    && blocksGood xs n b (partialWord xs n 0 k) (partialWord xs n 2 k) (leb 4 (partialWord xs n 1 k)))))
+
+-- the least number that element k of a rising list may have, from lo on
+unfoldable pub lowest : ℕ → (ℕ → ℕ) → ℕ → ℕ
+lowest lo p zero = lo
+lowest lo p (suc k) = suc (p k)
+
+-- and beside those before it: a higher piece, another place
+unfoldable pub partialNext : List ℕ → ℕ → ℕ → ℕ → Bool
+partialNext xs n b k =
+    leb (lowest 0 (partialWord xs n 0) k) (partialWord xs n 0 k)
+    && (partialGood xs n b k && not (member (partialWord xs n 2 k) (tab k (partialWord xs n 2))))
+
+-- pieces that are not Open
+unfoldable pub atWork : List ℕ → ℕ → ℕ
+atWork xs n = countBelow (λ i. not (eqb (pieceWord xs n 1 i) 4)) n
+
+-- ---- what stands before the test
+pub record Ready (s : Shape) (xs : List ℕ) : Type 0 where
+  pub spans : Spans s xs
+  pub geometry : validGeometry (headWord xs 0) (headWord xs 1) ≡ true
+  pub pieces : s .pieces ≡ piecesOn xs
+  pub blocks : s .blocks ≡ blocksOn xs
+  pub partials : headWord xs 7 ≤ s .places
+  pub states : (i : ℕ) → i < s .pieces → pieceWord xs (s .pieces) 1 i ≤ 6

@@ -1,0 +1,90 @@
+-- `piece_rows::extents_ok` meets its contract. The loop's invariant: the extents that are left decide.
+use mathlib.Core.Path.{sym, _∙_}
+use Prim.Native.Nat.{_-_}
+use native.Mathlib.Omega.{arith}
+use Rattle.piece_rows.proofs.HeadLaws.{headed}
+use Rattle.piece_rows.proofs.ExtentTests.{Extending, extending-start, far-extent, twice-extent, next-extent, extents-end}
+use borrow.Author.Needs.{needs}
+use Rattle.piece_rows.proofs.extents.extents_ok.Statement.{statement}
+use Rattle.piece_rows.proofs.extents.extents_ok.Tie as tie
+
+abbrev Inv-loop : tie.InvT-loop
+Inv-loop mem limit many k₀ k = Extending mem k
+
+abbrev μ-loop : tie.MeasureT-loop
+μ-loop mem limit many k₀ k = many - k
+
+word-requires : tie.Need-word-requires Inv-loop μ-loop
+word-requires c κs = search needs
+
+word-requires-2 : tie.Need-word-requires-2 Inv-loop μ-loop
+word-requires-2 c κs = search needs
+
+num-extents-requires : tie.Need-num-extents-requires Inv-loop μ-loop
+num-extents-requires c κs = search needs
+
+head-word-requires : tie.Need-head-word-requires Inv-loop μ-loop
+head-word-requires c κs = (c .before .before .before .before .pre .0 .spans .head, omega arith)
+
+idx-requires : tie.Need-idx-requires Inv-loop μ-loop
+idx-requires c κs = search needs
+
+loop-holds : tie.Need-loop-holds Inv-loop μ-loop
+loop-holds c = extending-start _
+
+add-head-word : tie.Need-add-head-word Inv-loop μ-loop
+add-head-word c = omega (arith, headed _ (c .before .before .before .before .before .before .before .before .pre .1) .extents)
+
+head-word-requires-2 : tie.Need-head-word-requires-2 Inv-loop μ-loop
+head-word-requires-2 c κs = (c .before .before .before .before .before .before .before .before .pre .0 .spans .head, omega (arith, headed _ (c .before .before .before .before .before .before .before .before .pre .1) .extents))
+
+returns : tie.Need-returns Inv-loop μ-loop
+returns c =
+    far-extent _ _ (c .before .before .before .before .before .before .before .before .before .before .pre .0) (headed _ (c .before .before .before .before .before .before .before .before .before .before .pre .1) .extents) (c .before .before .before .loop .k) (c .before .before .before .loop .inv) (omega arith) _ (c .before .before .before .before .before .before .before .before .word .result) (c .before .before .before .before .before .before .before .word2 .result) _
+    (c .before .before .before .before .before .before .num-extents .ensures) (c .before .before .before .before .before .before .before .before .word .ensures) (c .before .before .before .before .before .before .before .word2 .ensures) (c .before .head-word2 .ensures) (c .if1 .taken)
+
+among-requires : tie.Need-among-requires Inv-loop μ-loop
+among-requires c κs = (c .before .before .before .before .before .before .before .before .before .before .pre .0 .spans .head, omega (arith, headed _ (c .before .before .before .before .before .before .before .before .before .before .pre .1) .extents))
+
+returns-2 : tie.Need-returns-2 Inv-loop μ-loop
+returns-2 c =
+    twice-extent _ _ (c .before .before .before .before .before .before .before .before .before .before .before .before .pre .0) (headed _ (c .before .before .before .before .before .before .before .before .before .before .before .before .pre .1) .extents) (c .before .before .before .before .before .loop .k) (c .before .before .before .before .before .loop .inv) (omega arith) _ (c .before .before .before .before .before .before .before .before .before .before .word .result) (c .before .before .before .before .before .before .before .before .before .word2 .result) _
+    (c .before .before .before .before .before .before .before .before .num-extents .ensures) (c .before .before .before .before .before .before .before .before .before .before .word .ensures) (c .before .before .before .before .before .before .before .before .before .word2 .ensures) (c .before .before .before .head-word2 .ensures) (omega arith)
+    (sym (c .before .among .ensures) ∙ c .if2 .taken)
+
+add-k : tie.Need-add-k Inv-loop μ-loop
+add-k c = omega (arith, headed _ (c .before .before .before .before .before .before .before .before .before .before .before .before .pre .1) .extents)
+
+loop-less : tie.Need-loop-less Inv-loop μ-loop
+loop-less c = search needs
+
+loop-again : tie.Need-loop-again Inv-loop μ-loop
+loop-again c =
+    next-extent _ _ (c .before .before .before .before .before .before .before .before .before .before .before .before .pre .0) (headed _ (c .before .before .before .before .before .before .before .before .before .before .before .before .pre .1) .extents) (c .before .before .before .before .before .loop .k) (c .before .before .before .before .before .loop .inv) (omega arith) _ (c .before .before .before .before .before .before .before .before .before .before .word .result) (c .before .before .before .before .before .before .before .before .before .word2 .result) _
+    (c .before .before .before .before .before .before .before .before .num-extents .ensures) (c .before .before .before .before .before .before .before .before .before .before .word .ensures) (c .before .before .before .before .before .before .before .before .before .word2 .ensures) (c .before .before .before .head-word2 .ensures) (omega arith)
+    (sym (c .before .among .ensures) ∙ c .if2 .left)
+
+returns-3 : tie.Need-returns-3 Inv-loop μ-loop
+returns-3 c = extents-end _ _ (c .before .before .before .before .before .before .before .before .pre .0) (headed _ (c .before .before .before .before .before .before .before .before .pre .1) .extents) (c .before .loop .k) (c .before .loop .inv) (omega arith)
+
+pub extents-ok-spec : {M : Type 1} → statement M
+extents-ok-spec =
+    tie.close
+    (tie.spec
+    Inv-loop
+    μ-loop
+    word-requires
+    word-requires-2
+    num-extents-requires
+    head-word-requires
+    idx-requires
+    loop-holds
+    add-head-word
+    head-word-requires-2
+    returns
+    among-requires
+    returns-2
+    add-k
+    loop-less
+    loop-again
+    returns-3)

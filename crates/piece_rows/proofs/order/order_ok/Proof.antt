@@ -1,0 +1,44 @@
+-- `piece_rows::order_ok` meets its contract: the stale flag, the count and the places are the parts of the definition.
+use mathlib.Core.Path.{_∙_}
+use native.Mathlib.Omega.{arith}
+use Rattle.piece_rows.proofs.OrderTests.{stale-list, other-many, as-many}
+use borrow.Author.Needs.{needs}
+use Rattle.piece_rows.proofs.order.order_ok.Statement.{statement}
+use Rattle.piece_rows.proofs.order.order_ok.Tie as tie
+
+head-word-requires : tie.Need-head-word-requires
+head-word-requires c κs = search needs
+
+returns : tie.Need-returns
+returns c = stale-list _ _ _ (c .before .before .before .pre) (c .before .head-word .result) (c .before .head-word .ensures) (c .if1 .taken)
+
+head-word-requires-2 : tie.Need-head-word-requires-2
+head-word-requires-2 c κs = search needs
+
+idx-requires : tie.Need-idx-requires
+idx-requires c κs = search needs
+
+ranked-requires : tie.Need-ranked-requires
+ranked-requires c κs = search needs
+
+returns-2 : tie.Need-returns-2
+returns-2 c = other-many _ _ _ (c .before .before .before .before .before .before .before .pre) (c .before .before .before .before .before .head-word .result) (c .before .before .before .before .before .head-word .ensures) (c .before .before .before .before .if1 .left) (c .before .before .idx .result) _ (c .before .ranked .result) (c .before .before .before .head-word2 .ensures) (c .before .before .idx .ensures) (c .before .ranked .ensures) (c .if2 .taken)
+
+places-ok-requires : tie.Need-places-ok-requires
+places-ok-requires c κs = search needs
+
+returns-3 : tie.Need-returns-3
+returns-3 c = c .places-ok .ensures ∙ as-many _ _ _ (c .before .before .before .before .before .before .before .before .pre) (c .before .before .before .before .before .before .head-word .result) (c .before .before .before .before .before .before .head-word .ensures) (c .before .before .before .before .before .if1 .left) (c .before .before .before .idx .result) _ (c .before .before .ranked .result) (c .before .before .before .before .head-word2 .ensures) (c .before .before .before .idx .ensures) (c .before .before .ranked .ensures) (omega arith)
+
+pub order-ok-spec : {M : Type 1} → statement M
+order-ok-spec =
+    tie.close
+    (tie.spec
+    head-word-requires
+    returns
+    head-word-requires-2
+    idx-requires
+    ranked-requires
+    returns-2
+    places-ok-requires
+    returns-3)

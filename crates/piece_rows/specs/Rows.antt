@@ -1,0 +1,78 @@
+-- What the tests read: the five words of a piece as a piece, its rank and its test; and the bounds under which the words may be read.
+-- Assumes nothing.
+use Prim.Native.Nat.{ℕ, _+_, _≤_}
+use mathlib.Core.Path.{_≡_}
+use mathlib.Core.Bool.{Bool, true, cond, not, _&&_, _||_}
+use mathlib.Core.List.{List}
+use lib.ListN.{length, getD}
+use lib.Dec.{eqb, ltb, leb}
+use Rattle.model.specs.Lists.{tally, from}
+use Rattle.model.specs.State.{Piece, mostPeers, isOpen, validGeometry}
+use Rattle.model.specs.Order.{bucket, rankOf}
+use Rattle.layout.specs.Tables.{tab}
+use Rattle.layout.specs.declared.spots.Shape.{Shape}
+use Rattle.layout.specs.Layout.{headWord, piecesOn, blocksOn, queueFrom, yes?, Spans}
+use Rattle.piece_rows.specs.Memory.{goodHead, goodPieces, Ranks}
+
+-- ---- one piece
+unfoldable pub pieceFrom : ℕ → ℕ → ℕ → ℕ → ℕ → Piece
+pieceFrom count state wish had pad = record { count = count; state = queueFrom state; wish = wish; had = yes? had; pad = pad }
+
+-- pad bytes do not matter to it
+unfoldable pub rankFrom : ℕ → ℕ → ℕ → ℕ → ℕ → ℕ
+rankFrom seeds count state wish had = rankOf (bucket seeds (pieceFrom count state wish had 0))
+
+-- the words of a piece of `long` bytes: a state, had or not, and what a well-formed picker asks of the piece
+unfoldable pub rowOk : ℕ → ℕ → ℕ → ℕ → ℕ → ℕ → ℕ → Bool
+rowOk seeds long count state wish had pad =
+    (leb state 6 && leb had 1)
+    && (leb (count + seeds) mostPeers && (leb wish 7 && ((not (yes? had) || isOpen (queueFrom state)) && leb pad long)))
+
+-- words that have a rank
+pub record Ranked (count state wish had : ℕ) : Type 0 where
+  pub count-most : count ≤ 1000
+  pub state-most : state ≤ 6
+  pub wish-most : wish ≤ 7
+  pub had-most : had ≤ 1
+
+-- ---- the memory
+-- it has room for the picker that its head gives, which has this shape
+pub record Housed (s : Shape) (xs : List ℕ) : Type 0 where
+  pub spans : Spans s xs
+  pub geometry : validGeometry (headWord xs 0) (headWord xs 1) ≡ true
+  pub pieces : s .pieces ≡ piecesOn xs
+  pub blocks : s .blocks ≡ blocksOn xs
+
+-- ---- the head
+-- for n pieces and so many places for partials: the stale flag, and the numbers of list places, partials and extents
+unfoldable pub lengthsOk : ℕ → ℕ → ℕ → ℕ → ℕ → ℕ → Bool
+lengthsOk n places stale list partials extents =
+    leb stale 1 && (leb list (cond (eqb stale 1) 0 n) && (leb partials places && leb extents 5))
+
+-- seeds and cursors
+unfoldable pub rangesOk : ℕ → ℕ → ℕ → ℕ → Bool
+rangesOk n seeds cursor reverse = leb seeds mostPeers && (leb cursor n && leb reverse n)
+
+-- ---- all pieces
+-- what their test leaves: its answer, and the ranks where it passes
+pub record Sifted (s : Shape) (r : Bool) (keys xs : List ℕ) : Type 0 where
+  pub is : r ≡ goodPieces xs
+  pub ranks : r ≡ true → Ranks keys (s .pieces) xs
+  pub long : length keys ≡ 4096
+
+-- ---- the list
+-- under which its test runs: the head passed, and the keys are the pieces' ranks
+pub record Keyed (s : Shape) (keys xs : List ℕ) : Type 0 where
+  pub house : Housed s xs
+  pub head : goodHead xs ≡ true
+  pub ranks : Ranks keys (s .pieces) xs
+  pub long : length keys ≡ 4096
+
+-- how many of the first n keys are not 0
+unfoldable pub rankedIn : List ℕ → ℕ → ℕ
+rankedIn keys n = tally (λ i. ltb 0 (getD keys i 0)) (from 0 n)
+
+-- ---- extents
+-- the first k extents
+unfoldable pub extentsBefore : List ℕ → ℕ → List ℕ
+extentsBefore xs k = tab k (λ j. headWord xs (9 + j))

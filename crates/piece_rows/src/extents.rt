@@ -1,0 +1,50 @@
+// The test of the extents: each in range, and none twice.
+use crate::numbers::idx;
+use crate::numbers::word;
+use geometry::num_extents;
+use layout::Shape;
+use layout::head_word;
+ghost use mathlib.Core.Path.{_≡_};
+ghost use mathlib.Core.Bool.{true};
+ghost use Prim.Native.Nat.{_≤_};
+ghost use lib.ListN.{length};
+ghost use Rattle.model.specs.Lists.{member};
+ghost use Rattle.piece_rows.specs.Memory.{goodHead, goodExtents};
+ghost use Rattle.piece_rows.specs.Rows.{Housed, extentsBefore};
+
+// Whether one of the first k extents is e.
+fn among(mem: &[u64], k: usize, e: u64) -> bool
+    requires { ⌜ 16 ≤ length (now mem) ⌝ }
+    requires { ⌜ k ≤ 5 ⌝ }
+    ensures { λ r. ⌜ r ≡ member e (extentsBefore (now (mem .entry)) k) ⌝ }
+{
+    let mut j = 0;
+    while j < k {
+        if e == head_word(mem, 9 + j) {
+            return true;
+        }
+        j += 1;
+    }
+    false
+}
+
+pub fn extents_ok(mem: &[u64], s: Shape) -> bool
+    requires { ⌜ Housed s (now mem) ⌝ }
+    requires { ⌜ goodHead (now mem) ≡ true ⌝ }
+    ensures { λ r. ⌜ r ≡ goodExtents (now (mem .entry)) ⌝ }
+{
+    let limit = num_extents(word(s.pieces), word(s.blocks));
+    let many = idx(head_word(mem, 8));
+    let mut k = 0;
+    while k < many {
+        let e = head_word(mem, 9 + k);
+        if limit <= e {
+            return false;
+        }
+        if among(mem, k, e) {
+            return false;
+        }
+        k += 1;
+    }
+    true
+}

@@ -1,0 +1,75 @@
+// The test of the list: as many places as pieces with a bucket, each place such a piece, none twice, ranks never falling.
+use crate::numbers::idx;
+use layout::Shape;
+use layout::head_word;
+use layout::piece_word;
+ghost use mathlib.Core.Path.{_≡_};
+ghost use mathlib.Core.List.{[]};
+ghost use Prim.Native.Nat.{_≤_};
+ghost use lib.ListN.{length};
+ghost use Rattle.model.specs.WellFormed.{orderOk};
+ghost use Rattle.layout.specs.Layout.{piecesOn, listHeld, decode};
+ghost use Rattle.piece_rows.specs.Memory.{goodList};
+ghost use Rattle.piece_rows.specs.Rows.{Keyed, rankedIn};
+
+// How many of the first n keys are not 0.
+fn ranked(keys: &[u64; 4096], n: usize) -> usize
+    requires { ⌜ (n ≤ 4096) × (length (now keys) ≡ 4096) ⌝ }
+    ensures { λ r. ⌜ r ≡ rankedIn (now (keys .entry)) n ⌝ }
+{
+    let mut many: usize = 0;
+    let mut i = 0;
+    while i < n {
+        if 0 < keys[i] {
+            many += 1;
+        }
+        i += 1;
+    }
+    many
+}
+
+// The places one after another. `marks` are the pieces passed, `last` is the rank of the last one.
+fn places_ok(mem: &[u64], s: Shape, keys: &[u64; 4096]) -> bool
+    requires { ⌜ Keyed s (now keys) (now mem) ⌝ }
+    ensures { λ r. ⌜ r ≡ orderOk (decode (now (mem .entry))) [] (listHeld (now (mem .entry)) (piecesOn (now (mem .entry)))) ⌝ }
+{
+    let n = s.pieces;
+    let many = idx(head_word(mem, 6));
+    let mut marks = [false; 4096];
+    let mut last = 0;
+    let mut k = 0;
+    while k < many {
+        let x = idx(piece_word(mem, s, 5, k));
+        if n <= x {
+            return false;
+        }
+        let key = keys[x];
+        if key == 0 {
+            return false;
+        }
+        if marks[x] {
+            return false;
+        }
+        if key < last {
+            return false;
+        }
+        marks[x] = true;
+        last = key;
+        k += 1;
+    }
+    true
+}
+
+pub fn order_ok(mem: &[u64], s: Shape, keys: &[u64; 4096]) -> bool
+    requires { ⌜ Keyed s (now keys) (now mem) ⌝ }
+    ensures { λ r. ⌜ r ≡ goodList (now (mem .entry)) ⌝ }
+{
+    if head_word(mem, 5) == 1 {
+        return true;
+    }
+    let many = idx(head_word(mem, 6));
+    if ranked(keys, s.pieces) != many {
+        return false;
+    }
+    places_ok(mem, s, keys)
+}

@@ -1,0 +1,69 @@
+// The words of one piece: its rank in the list, and its test.
+ghost use mathlib.Core.Path.{_≡_};
+ghost use Prim.Native.Nat.{_≤_};
+ghost use Rattle.piece_rows.specs.Rows.{rankFrom, rowOk, Ranked};
+
+// One more than the bucket, 0 where the piece is in none. States 1 and 2 are Full and Finished, 4 is Open, 5 and 6 are the reverse ones.
+pub fn rank_of(seeds: u64, count: u64, state: u64, wish: u64, had: u64) -> u64
+    requires { ⌜ Ranked count state wish had ⌝ }
+    ensures { λ r. ⌜ r ≡ rankFrom seeds count state wish had ⌝ }
+{
+    if wish == 0 {
+        return 0;
+    }
+    if had == 1 {
+        return 0;
+    }
+    if count == 0 {
+        if seeds == 0 {
+            return 0;
+        }
+    }
+    if state == 1 {
+        return 0;
+    }
+    if state == 2 {
+        return 0;
+    }
+    let whole = (count + 1) * (8 - wish) * 3;
+    if 4 < state {
+        return whole;
+    }
+    if state == 4 {
+        return whole - 1;
+    }
+    whole - 2
+}
+
+// The words of a piece of `long` bytes: each in its range, and a had piece is Open.
+pub fn piece_ok(
+    seeds: u64,
+    long: u64,
+    count: u64,
+    state: u64,
+    wish: u64,
+    had: u64,
+    pad: u64,
+) -> bool
+    requires { ⌜ seeds ≤ 1000 ⌝ }
+    ensures { λ r. ⌜ r ≡ rowOk seeds long count state wish had pad ⌝ }
+{
+    if 6 < state {
+        return false;
+    }
+    if 1 < had {
+        return false;
+    }
+    if 1000 - seeds < count {
+        return false;
+    }
+    if 7 < wish {
+        return false;
+    }
+    if had == 1 {
+        if state != 4 {
+            return false;
+        }
+    }
+    pad <= long
+}

@@ -1,0 +1,64 @@
+// The test behind refusal 3: whether lent memory holds a well-formed picker. Straight passes over the live words, in the order in which
+// each may rely on those before it.
+use geometry::blocks_per_piece;
+use geometry::num_pieces;
+use geometry::valid_geometry;
+use geometry::words_needed;
+use layout::Shape;
+use layout::shape_of;
+use partial_rows::partials_ok;
+use piece_rows::extents_ok;
+use piece_rows::head_ok;
+use piece_rows::order_ok;
+use piece_rows::pieces_ok;
+ghost use mathlib.Core.Path.{_≡_};
+ghost use mathlib.Core.Bool.{true, _&&_};
+ghost use Rattle.layout.specs.Layout.{ShapeOf};
+ghost use Rattle.piece_rows.specs.Memory.{roomy, goodHead, goodPieces, goodPartials, goodExtents, goodList, goodMemory};
+
+// The memory is long enough for a head, its geometry is valid, and it is long enough for that.
+pub fn fits(mem: &[u64]) -> bool
+    ensures { λ r. ⌜ r ≡ roomy (now (mem .entry)) ⌝ }
+{
+    if mem.len() < 16 {
+        return false;
+    }
+    if !valid_geometry(mem[0], mem[1]) {
+        return false;
+    }
+    words_needed(num_pieces(mem[0], mem[1]), blocks_per_piece(mem[1])) <= mem.len() as u64
+}
+
+// Pieces, partials, extents and list, where the head is good.
+fn rows_ok(mem: &[u64], s: Shape) -> bool
+    requires { ⌜ roomy (now mem) ≡ true ⌝ }
+    requires { ⌜ ShapeOf s (now mem) ⌝ }
+    requires { ⌜ goodHead (now mem) ≡ true ⌝ }
+    ensures { λ r. ⌜ r ≡ (goodPieces (now (mem .entry)) && (goodPartials (now (mem .entry)) && (goodExtents (now (mem .entry)) && goodList (now (mem .entry))))) ⌝ }
+{
+    let mut keys = [0; 4096];
+    if !pieces_ok(mem, s, &mut keys) {
+        return false;
+    }
+    if !partials_ok(mem, s) {
+        return false;
+    }
+    if !extents_ok(mem, s) {
+        return false;
+    }
+    order_ok(mem, s, &keys)
+}
+
+// The memory holds a well-formed picker.
+pub fn well_formed(mem: &[u64]) -> bool
+    ensures { λ r. ⌜ r ≡ goodMemory (now (mem .entry)) ⌝ }
+{
+    if !fits(mem) {
+        return false;
+    }
+    if !head_ok(mem) {
+        return false;
+    }
+    let s = shape_of(mem);
+    rows_ok(mem, s)
+}
