@@ -1,0 +1,116 @@
+-- The tests and numbers of the code are those of the definition, and the rank has its bound.
+use mathlib.Core.Path.{_≡_, refl, sym, ap, _∙_}
+use mathlib.Core.Logic.{_≢_}
+use mathlib.Core.Bool.{Bool, true, false, _&&_, _||_, true≢false}
+use Prim.Native.Nat.{ℕ, _+_, _-_, _*_, _≤_}
+use native.Mathlib.Nat.{mul-le-mul, one-le-mul}
+use native.Mathlib.Numerals.{add-one}
+use native.Mathlib.Decide.{ℕ-discrete}
+use native.Mathlib.Omega.{arith}
+use lib.Dec.{eqb}
+use borrow.Author.Tests.{eq-eqb, ne-eqb}
+use Rattle.types.specs.declared.queue.DownloadQueue.{DownloadQueue}
+use Rattle.types.specs.declared.queue.DownloadQueue.the-variants.{Downloading, Full, Finished, ZeroPrio, Open, DownloadingReverse}
+use Rattle.types.specs.declared.queue.DownloadQueue.the-variants.{FullReverse}
+use Rattle.types.specs.Queue.{queueNumber}
+use Rattle.model.specs.State.{Piece, sameQueue, isOpen}
+use Rattle.model.specs.Order.{unlisted, adjustment, bucketNumber, bucket, rankOf}
+use Rattle.model.proofs.Tallies.{cond-both}
+use Rattle.bucket.specs.Ranks.{unlistedBy, off, Numbers, IsRank}
+
+-- ---- the tests
+any : (a h z s u : Bool) → ((((a || h) || z) || s) || u) ≡ (a || (h || (z || (s || u))))
+any true h z s u = refl
+any false true z s u = refl
+any false false true s u = refl
+any false false false s u = refl
+
+no-peer : (count seeds : ℕ) → (eqb count 0 && eqb seeds 0) ≡ eqb (count + seeds) 0
+no-peer count seeds = elim (ℕ-discrete count 0) [
+  | yes e ↦ (let z : count + seeds ≡ seeds = omega arith in rw (eq-eqb count 0 e, z))
+  | no e ↦ rw (ne-eqb count 0 e) (sym (ne-eqb (count + seeds) 0 (λ (q : count + seeds ≡ 0). absurd (omega arith))))
+]
+
+-- the tests of the code
+pub tests : (seeds count state wish : ℕ) (had : Bool)
+    → ((((eqb wish 0 || had) || (eqb count 0 && eqb seeds 0)) || eqb state 1) || eqb state 2) ≡ unlistedBy seeds count state wish had
+unfolding unlistedBy
+tests seeds count state wish had = any (eqb wish 0) had _ (eqb state 1) (eqb state 2) ∙ rw (no-peer count seeds)
+
+wanted : (a b : Bool) → (a || b) ≡ false → a ≡ false
+wanted true b e = absurd (true≢false e)
+wanted false b e = refl
+
+-- ---- what the state takes off
+module _ (state : ℕ) where
+  -- a reverse one
+  pub off-reverse : (eqb state 5 || eqb state 6) ≡ true → 1 ≡ off state
+  unfolding off
+  off-reverse e = rw e
+
+  module _ (e : (eqb state 5 || eqb state 6) ≡ false) where
+    -- in no queue
+    pub off-open : state ≡ 4 → 2 ≡ off state
+    unfolding off
+    off-open q = rw (e, eq-eqb state 4 q)
+
+    -- any other
+    pub off-other : state ≢ 4 → 3 ≡ off state
+    unfolding off
+    off-other q = rw (e, ne-eqb state 4 q)
+
+adjustment-is : (q : DownloadQueue) → off (queueNumber q) ≡ adjustment q
+unfolding off adjustment isOpen sameQueue
+adjustment-is Downloading = refl
+adjustment-is Full = refl
+adjustment-is Finished = refl
+adjustment-is ZeroPrio = refl
+adjustment-is Open = refl
+adjustment-is DownloadingReverse = refl
+adjustment-is FullReverse = refl
+
+off-least : (state : ℕ) → (1 ≤ off state) × (off state ≤ 3)
+unfolding off
+off-least state =
+    cond-both (λ (n : ℕ). (1 ≤ n) × (n ≤ 3)) (eqb state 5 || eqb state 6) _ _ (λ t. (omega arith, omega arith))
+    (λ t. cond-both (λ (n : ℕ). (1 ≤ n) × (n ≤ 3)) (eqb state 4) _ _ (λ u. (omega arith, omega arith)) (λ u. (omega arith, omega arith)))
+
+-- ---- the rank
+module _ (seeds count state wish : ℕ) (had : Bool) where
+  unlisted-is : (p : Piece) → Numbers count state wish had p → unlistedBy seeds count state wish had ≡ unlisted seeds p
+  unfolding unlistedBy unlisted sameQueue
+  unlisted-is p m = rw (← m .counts, ← m .states, ← m .wishes, ← m .haves)
+
+  -- a piece in no bucket
+  pub rank-none : unlistedBy seeds count state wish had ≡ true → IsRank seeds count state wish had 0
+  unfolding bucket rankOf
+  rank-none e = record { is = λ p m. rw (sym (unlisted-is p m) ∙ e); low = omega arith }
+
+  module _ (e : unlistedBy seeds count state wish had ≡ false) (hc : count ≤ 1000) (hw : wish ≤ 7) where
+    some : wish ≢ 0
+    unfolding unlistedBy
+    some q = absurd (true≢false (sym (eq-eqb wish 0 q) ∙ wanted (eqb wish 0) _ e))
+
+    -- the product is at least 1, and at most 7,007
+    pub product : (1 ≤ (count + 1) * (8 - wish)) × ((count + 1) * (8 - wish) ≤ 7007)
+    product =
+        let w = some in
+        let a : count + 1 ≤ 1001 = omega arith in
+        let c : 8 - wish ≤ 7 = omega arith in
+        (one-le-mul (omega arith) (omega arith), mul-le-mul a c)
+
+    -- what is taken off is 1 to 3
+    pub taken-off : (1 ≤ off state) × (off state ≤ 3)
+    taken-off = off-least state
+
+    -- a piece in a bucket
+    pub rank-some : (d : ℕ) → d ≡ off state → IsRank seeds count state wish had ((count + 1) * (8 - wish) * 3 - d + 1)
+    unfolding bucket rankOf bucketNumber
+    rank-some d ed = record {
+      is = λ p m. (
+          let f = sym (unlisted-is p m) ∙ e in
+          let g : d ≡ adjustment (p .state) = ed ∙ ap off (sym (m .states)) ∙ adjustment-is (p .state) in
+          rw (f, m .counts, m .wishes, g, add-one)
+          );
+      low = let q = product in let r = taken-off in omega arith;
+    }
