@@ -1,19 +1,19 @@
 -- The words of one piece: the tests on its state as tests on a number, its rank where it has one and where it has none, and its test.
 -- Assumes nothing.
-use mathlib.Core.Path.{_≡_, refl, ap, _∙_}
-use mathlib.Core.Bool.{true, false, cond, _&&_, _||_, or-true}
-use Prim.Native.Nat.{ℕ, zero, suc, _+_, _-_, _*_, _≤_, _<_}
-use native.Mathlib.Nat.{mul-le-mul}
+use mathlib.Core.Path.{_≡_, refl, ap}
+use mathlib.Core.Bool.{true, false, _&&_}
+use Prim.Native.Nat.{ℕ, zero, suc, _+_, _≤_, _<_}
 use native.Mathlib.Omega.{arith}
 use lib.Dec.{eqb, ltb, leb}
-use borrow.Author.Tests.{eq-eqb, ne-eqb, le-leb, lt-leb, lt-ltb, le-ltb, leb-true}
+use borrow.Author.Tests.{eq-eqb, ne-eqb, le-leb, lt-leb, leb-true}
 use Rattle.types.specs.Queue.{isReverse}
 use Rattle.model.specs.Lists.{at}
 use Rattle.model.specs.State.{sameQueue, isOpen}
-use Rattle.model.specs.Order.{unlisted, adjustment, bucketNumber, bucket, rankOf}
+use Rattle.model.specs.Order.{unlisted, bucketNumber, bucket, rankOf}
 use Rattle.model.proofs.Truths.{both-true}
 use Rattle.layout.specs.Layout.{queueFrom, yes?}
 use Rattle.layout.proofs.Meanings.{queue-number}
+use Rattle.bucket.specs.Ranks.{Numbers}
 use Rattle.piece_rows.specs.Rows.{pieceFrom, rankFrom, rowOk, Ranked}
 
 -- ---- the state that a word means
@@ -38,66 +38,11 @@ pub rank-pad : (seeds count state wish had pad : ℕ) → rankFrom seeds count s
 unfolding rankFrom bucket unlisted bucketNumber pieceFrom
 rank-pad seeds count state wish had pad = refl
 
-module _ (seeds count state wish had : ℕ) (h : Ranked count state wish had) where
-  none-test : unlisted seeds (pieceFrom count state wish had 0)
-      ≡ (eqb wish 0 || (eqb had 1 || (eqb (count + seeds) 0 || (eqb state 1 || eqb state 2))))
-  unfolding unlisted pieceFrom yes? sameQueue
-  none-test =
-      ap (λ (n : ℕ). eqb wish 0 || (eqb had 1 || (eqb (count + seeds) 0 || (eqb n 1 || eqb n 2)))) (queue-number state (omega (arith, h .state-most)))
-
-  less : adjustment (queueFrom state) ≡ cond (ltb 4 state) 1 (cond (eqb state 4) 2 3)
-  unfolding adjustment
-  less = rw (reverse state (h .state-most), open-test state (h .state-most))
-
-  is-none : (eqb wish 0 || (eqb had 1 || (eqb (count + seeds) 0 || (eqb state 1 || eqb state 2)))) ≡ true → 0 ≡ rankFrom seeds count state wish had
-  unfolding rankFrom bucket rankOf
-  is-none e = rw (none-test ∙ e)
-
-  is-some : (wish ≡ 0 → ⊥) → (had ≡ 1 → ⊥) → (count + seeds ≡ 0 → ⊥) → (state ≡ 1 → ⊥) → (state ≡ 2 → ⊥)
-      → rankFrom seeds count state wish had ≡ suc ((count + 1) * (8 - wish) * 3 - adjustment (queueFrom state))
-  unfolding rankFrom bucket rankOf bucketNumber pieceFrom
-  is-some a b c d e =
-      let f : (eqb wish 0 || (eqb had 1 || (eqb (count + seeds) 0 || (eqb state 1 || eqb state 2)))) ≡ false =
-      rw (ne-eqb wish 0 a, ne-eqb had 1 b, ne-eqb (count + seeds) 0 c, ne-eqb state 1 d, ne-eqb state 2 e) in
-      rw (none-test ∙ f)
-
-  pub no-wish : wish ≡ 0 → 0 ≡ rankFrom seeds count state wish had
-  no-wish e = is-none (rw (eq-eqb wish 0 e))
-
-  pub is-had : had ≡ 1 → 0 ≡ rankFrom seeds count state wish had
-  is-had e = is-none (rw (eq-eqb had 1 e, or-true))
-
-  pub no-peer : count ≡ 0 → seeds ≡ 0 → 0 ≡ rankFrom seeds count state wish had
-  no-peer a b = is-none (rw (eq-eqb (count + seeds) 0 (omega arith), or-true, or-true))
-
-  pub is-full : state ≡ 1 → 0 ≡ rankFrom seeds count state wish had
-  is-full e = is-none (rw (eq-eqb state 1 e, or-true, or-true, or-true))
-
-  pub is-finished : state ≡ 2 → 0 ≡ rankFrom seeds count state wish had
-  is-finished e = is-none (rw (eq-eqb state 2 e, or-true, or-true, or-true, or-true))
-
-  -- the product is some thousands at most, and not 0
-  pub product-most : (count + 1) * (8 - wish) ≤ 1001 * 8
-  product-most = mul-le-mul {n₂ = 1001} {m₂ = 8} (omega (arith, h .count-most)) (omega arith)
-
-  pub product-least : 1 ≤ (count + 1) * (8 - wish)
-  product-least = mul-le-mul {n₁ = 1} {m₁ = 1} {n₂ = count + 1} {m₂ = 8 - wish} (omega arith) (omega (arith, h .wish-most))
-
-  module _ (a : wish ≡ 0 → ⊥) (b : had ≡ 1 → ⊥) (c : count + seeds ≡ 0 → ⊥) (d : state ≡ 1 → ⊥) (e : state ≡ 2 → ⊥) where
-    pub rank-reverse : 4 < state → (count + 1) * (8 - wish) * 3 ≡ rankFrom seeds count state wish had
-    rank-reverse l =
-        let q : adjustment (queueFrom state) ≡ 1 = less ∙ rw (lt-ltb 4 state l) in
-        omega (arith, is-some a b c d e, q, product-least)
-
-    pub rank-open : state ≡ 4 → (count + 1) * (8 - wish) * 3 - 1 ≡ rankFrom seeds count state wish had
-    rank-open l =
-        let q : adjustment (queueFrom state) ≡ 2 = less ∙ rw (le-ltb 4 state (omega arith), eq-eqb state 4 l) in
-        omega (arith, is-some a b c d e, q, product-least)
-
-    pub rank-plain : state ≤ 4 → (state ≡ 4 → ⊥) → (count + 1) * (8 - wish) * 3 - 2 ≡ rankFrom seeds count state wish had
-    rank-plain l n =
-        let q : adjustment (queueFrom state) ≡ 3 = less ∙ rw (le-ltb 4 state l, ne-eqb state 4 n) in
-        omega (arith, is-some a b c d e, q, product-least)
+-- the words are those of the piece that they mean
+pub numbers-of : (count state wish had : ℕ) → Ranked count state wish had → Numbers count state wish (eqb had 1) (pieceFrom count state wish had 0)
+unfolding pieceFrom yes?
+numbers-of count state wish had h =
+    record { counts = refl; states = queue-number state (omega (arith, h .state-most)); wishes = refl; haves = refl }
 
 -- ---- the test
 module _ (seeds long count state wish had pad : ℕ) where

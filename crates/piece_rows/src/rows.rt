@@ -3,36 +3,12 @@ ghost use mathlib.Core.Path.{_≡_};
 ghost use Prim.Native.Nat.{_≤_};
 ghost use Rattle.piece_rows.specs.Rows.{rankFrom, rowOk, Ranked};
 
-// One more than the bucket, 0 where the piece is in none. States 1 and 2 are Full and Finished, 4 is Open, 5 and 6 are the reverse ones.
+// The rank of a piece with these words.
 pub fn rank_of(seeds: u64, count: u64, state: u64, wish: u64, had: u64) -> u64
     requires { ⌜ Ranked count state wish had ⌝ }
     ensures { λ r. ⌜ r ≡ rankFrom seeds count state wish had ⌝ }
 {
-    if wish == 0 {
-        return 0;
-    }
-    if had == 1 {
-        return 0;
-    }
-    if count == 0 {
-        if seeds == 0 {
-            return 0;
-        }
-    }
-    if state == 1 {
-        return 0;
-    }
-    if state == 2 {
-        return 0;
-    }
-    let whole = (count + 1) * (8 - wish) * 3;
-    if 4 < state {
-        return whole;
-    }
-    if state == 4 {
-        return whole - 1;
-    }
-    whole - 2
+    bucket::bucket(seeds, count, state, wish, had == 1)
 }
 
 // The words of a piece of `long` bytes: each in its range, and a had piece is Open.
