@@ -17,7 +17,7 @@ use Rattle.layout.specs.Layout.{placesFor, blockSpot, headWord, partialW
 use Rattle.layout.proofs.TabLaws.{size-tab, at-tab, tab-ext, tab-put, put-past, choose-same, choose-other}
 use Rattle.layout.proofs.SpotLaws.{block-from, block-below, block-field, block-place, block-index, block-in}
 use Rattle.layout.proofs.Same.{SameHead, SamePieces, SamePartials, SameBeyond, head-same, pieces-above, partials-above, block-other, beyond-same}
-use Rattle.layout.proofs.Readers.{partial-at, pieces-same, order-same, listing-same, extents-same, block-same, partial-same}
+use Rattle.layout.proofs.Readers.{partial-at, pieces-same, order-same, listing-same, extents-same, block-same, partial-same, decode-parts}
 use Rattle.layout.proofs.RoomLaws.{decode-at, blocks-within, partial-room, place-room, kept-same, decoded}
 
 -- ---- the partials in the picker
@@ -178,17 +178,12 @@ module _ (s : Shape) (xs ys : List ℕ) (r : Room s xs) (a : Around s xs ys) whe
 
   around-at-shape : decodeAt (s .pieces) (s .blocks) ys ≡ withPartials (partialsHeld ys (s .pieces) (s .blocks)) (decodeAt (s .pieces) (s .blocks) xs)
   unfolding withPartials
-  around-at-shape = λ i. record {
-    total = a .head 0 (omega arith) i;
-    size = a .head 1 (omega arith) i;
-    seeds = a .head 2 (omega arith) i;
-    cursor = a .head 3 (omega arith) i;
-    reverseCursor = a .head 4 (omega arith) i;
-    pieces = pieces-same (s .pieces) xs ys (λ f k l m. a .pieces f k (omega arith) m) i;
-    partials = partialsHeld ys (s .pieces) (s .blocks);
-    extents = extents-same (s .pieces) xs ys (r .extents) (a .head) i;
-    listing = listing-same (s .pieces) xs ys (a .head 5 (omega arith)) (order-same (s .pieces) xs ys (a .head 6 (omega arith)) (r .list) (λ j l. a .pieces 5 j (omega arith) l)) i;
-  }
+  around-at-shape =
+      decode-parts (s .pieces) (s .blocks) xs ys (λ g l. a .head g (omega arith))
+      (pieces-same (s .pieces) xs ys (λ f k l m. a .pieces f k (omega arith) m))
+      refl
+      (extents-same (s .pieces) xs ys (r .extents) (a .head))
+      (listing-same (s .pieces) xs ys (a .head 5 (omega arith)) (order-same (s .pieces) xs ys (a .head 6 (omega arith)) (r .list) (λ j l. a .pieces 5 j (omega arith) l)))
 
   -- the picker has the partials that stand now
   pub around-became : (ds : List Partial) → partialsHeld ys (s .pieces) (s .blocks) ≡ ds → Became s xs ys (withPartials ds (decode xs))

@@ -16,7 +16,7 @@ use Rattle.layout.specs.Layout.{headWord, pieceWord, yes?, piecesHeld, e
 use Rattle.layout.proofs.TabLaws.{tab-ext, tab-front, tab-more, choose-same, choose-other}
 use Rattle.layout.proofs.SpotLaws.{words-needed}
 use Rattle.layout.proofs.Same.{SamePieces, SamePartials, SameBlocks, SameBeyond, head-other, head-stored, pieces-below, partials-below, blocks-below, beyond-same}
-use Rattle.layout.proofs.Readers.{pieces-same, order-same, listing-same}
+use Rattle.layout.proofs.Readers.{pieces-same, order-same, listing-same, decode-parts}
 use Rattle.layout.proofs.RoomLaws.{kept-steady, partials-same, decoded}
 
 -- ---- all regions but the head as they were
@@ -127,18 +127,12 @@ module _ (s : Shape) (xs : List ℕ) (r : Room s xs) (len flag : ℕ) (room : le
   relisted-at-shape : decodeAt (s .pieces) (s .blocks) relisted
       ≡ withListing (cond (yes? flag) stale (fresh (front len (listWords xs (s .pieces))))) (decodeAt (s .pieces) (s .blocks) xs)
   unfolding withListing extentsHeld listingHeld
-  relisted-at-shape = λ i. record {
-    total = others 0 (λ e. omega arith) (λ e. omega arith) i;
-    size = others 1 (λ e. omega arith) (λ e. omega arith) i;
-    seeds = others 2 (λ e. omega arith) (λ e. omega arith) i;
-    cursor = others 3 (λ e. omega arith) (λ e. omega arith) i;
-    reverseCursor = others 4 (λ e. omega arith) (λ e. omega arith) i;
-    pieces = pieces-same (s .pieces) xs relisted (λ f j l m. rest .pieces f j (omega arith) m) i;
-    partials = partials-same s xs relisted r (others 0 (λ e. omega arith) (λ e. omega arith)) (others 1 (λ e. omega arith) (λ e. omega arith)) (others 7 (λ e. omega arith) (λ e. omega arith)) (rest .partials) (rest .blocks) i;
-    extents = (ap (λ (n : ℕ). tab n (λ j. headWord relisted (9 + j))) (others 8 (λ e. omega arith) (λ e. omega arith))
-        ∙ tab-ext (headWord xs 8) (λ j. headWord relisted (9 + j)) (λ j. headWord xs (9 + j)) (λ j l. others (9 + j) (λ e. omega arith) (λ e. omega arith))) i;
-    listing = cond (yes? (word5 i)) stale (fresh (order-front i));
-  }
+  relisted-at-shape =
+      decode-parts (s .pieces) (s .blocks) xs relisted (λ g l. others g (λ e. omega arith) (λ e. omega arith))
+      (pieces-same (s .pieces) xs relisted (λ f j l m. rest .pieces f j (omega arith) m))
+      (partials-same s xs relisted r (others 0 (λ e. omega arith) (λ e. omega arith)) (others 1 (λ e. omega arith) (λ e. omega arith)) (others 7 (λ e. omega arith) (λ e. omega arith)) (rest .partials) (rest .blocks))
+      (ap (λ (n : ℕ). tab n (λ j. headWord relisted (9 + j))) (others 8 (λ e. omega arith) (λ e. omega arith)) ∙ tab-ext (headWord xs 8) (λ j. headWord relisted (9 + j)) (λ j. headWord xs (9 + j)) (λ j l. others (9 + j) (λ e. omega arith) (λ e. omega arith)))
+      (λ i. cond (yes? (word5 i)) stale (fresh (order-front i)))
 
   pub decode-relisted : decode relisted ≡ withListing (cond (yes? flag) stale (fresh (front len (listWords xs (s .pieces))))) (decode xs)
   decode-relisted = decoded s xs relisted r (withListing (cond (yes? flag) stale (fresh (front len (listWords xs (s .pieces)))))) relisted-kept relisted-at-shape
@@ -156,17 +150,12 @@ module _ (s : Shape) (xs ys : List ℕ) (r : Room s xs) (b : Behind s xs ys) (h 
 
   extents-at-shape : decodeAt (s .pieces) (s .blocks) ys ≡ withExtents (extentsHeld ys) (decodeAt (s .pieces) (s .blocks) xs)
   unfolding withExtents
-  extents-at-shape = λ i. record {
-    total = h 0 (omega arith) i;
-    size = h 1 (omega arith) i;
-    seeds = h 2 (omega arith) i;
-    cursor = h 3 (omega arith) i;
-    reverseCursor = h 4 (omega arith) i;
-    pieces = behind-pieces s xs ys r b (h 0 (omega arith)) (h 1 (omega arith)) (h 7 (omega arith)) i;
-    partials = partials-same s xs ys r (h 0 (omega arith)) (h 1 (omega arith)) (h 7 (omega arith)) (b .partials) (b .blocks) i;
-    extents = extentsHeld ys;
-    listing = listing-same (s .pieces) xs ys (h 5 (omega arith)) (order-same (s .pieces) xs ys (h 6 (omega arith)) (r .list) (λ j l. b .pieces 5 j (omega arith) l)) i;
-  }
+  extents-at-shape =
+      decode-parts (s .pieces) (s .blocks) xs ys (λ g l. h g (omega arith))
+      (behind-pieces s xs ys r b (h 0 (omega arith)) (h 1 (omega arith)) (h 7 (omega arith)))
+      (partials-same s xs ys r (h 0 (omega arith)) (h 1 (omega arith)) (h 7 (omega arith)) (b .partials) (b .blocks))
+      refl
+      (listing-same (s .pieces) xs ys (h 5 (omega arith)) (order-same (s .pieces) xs ys (h 6 (omega arith)) (r .list) (λ j l. b .pieces 5 j (omega arith) l)))
 
   pub decode-extents : decode ys ≡ withExtents (extentsHeld ys) (decode xs)
   decode-extents = decoded s xs ys r (withExtents (extentsHeld ys)) extents-kept extents-at-shape

@@ -9,3 +9,5 @@ pub mod HeadStores
 pub mod Meanings
 pub mod BlockStores
 pub mod PartialStores
+pub mod ListPart
+pub mod Cases

@@ -15,7 +15,7 @@ use Rattle.layout.specs.Layout.{placesFor, partialSpot, headWord, partia
 use Rattle.layout.proofs.TabLaws.{tab-put, tab-ext, choose-same, choose-other}
 use Rattle.layout.proofs.SpotLaws.{partial-from, partial-below, partial-field, partial-place, partial-in, words-needed}
 use Rattle.layout.proofs.Same.{SamePieces, SameBlocks, SameBeyond, head-other, head-same, pieces-below, pieces-above, partial-other, blocks-below, beyond-same}
-use Rattle.layout.proofs.Readers.{partial-at, pieces-same, order-same, listing-same, block-same, blocks-same, partial-same}
+use Rattle.layout.proofs.Readers.{partial-at, pieces-same, order-same, listing-same, block-same, blocks-same, partial-same, decode-parts}
 use Rattle.layout.proofs.RoomLaws.{Steady, kept-steady, blocks-within, partial-room, place-room, decoded}
 
 -- ---- all as it was but the partials' words and how many they are
@@ -75,17 +75,12 @@ module _ (s : Shape) (xs ys : List ℕ) (r : Room s xs) (b : Beside s xs ys) whe
 
   beside-at-shape : decodeAt (s .pieces) (s .blocks) ys ≡ withPartials (partialsHeld ys (s .pieces) (s .blocks)) (decodeAt (s .pieces) (s .blocks) xs)
   unfolding withPartials
-  beside-at-shape = λ i. record {
-    total = b .head 0 (omega arith) (omega arith) i;
-    size = b .head 1 (omega arith) (omega arith) i;
-    seeds = b .head 2 (omega arith) (omega arith) i;
-    cursor = b .head 3 (omega arith) (omega arith) i;
-    reverseCursor = b .head 4 (omega arith) (omega arith) i;
-    pieces = pieces-same (s .pieces) xs ys (λ f k l m. b .pieces f k (omega arith) m) i;
-    partials = partialsHeld ys (s .pieces) (s .blocks);
-    extents = extents-held i;
-    listing = listing-same (s .pieces) xs ys (b .head 5 (omega arith) (omega arith)) (order-same (s .pieces) xs ys (b .head 6 (omega arith) (omega arith)) (r .list) (λ j l. b .pieces 5 j (omega arith) l)) i;
-  }
+  beside-at-shape =
+      decode-parts (s .pieces) (s .blocks) xs ys (λ g l. b .head g (omega arith) (λ e. omega arith))
+      (pieces-same (s .pieces) xs ys (λ f k l m. b .pieces f k (omega arith) m))
+      refl
+      extents-held
+      (listing-same (s .pieces) xs ys (b .head 5 (omega arith) (omega arith)) (order-same (s .pieces) xs ys (b .head 6 (omega arith) (omega arith)) (r .list) (λ j l. b .pieces 5 j (omega arith) l)))
 
   -- the picker has the partials that stand now
   pub beside-became : (ds : List Partial) → Kept s xs ys → partialsHeld ys (s .pieces) (s .blocks) ≡ ds → Became s xs ys (withPartials ds (decode xs))

@@ -6,7 +6,7 @@ use Prim.Native.Nat.{ℕ, _+_, _≤_, _<_}
 use native.Mathlib.Omega.{arith}
 use Rattle.model.specs.Lists.{at, size}
 use Rattle.model.specs.Bep3.{blocksInPiece}
-use Rattle.model.specs.State.{Partial, stale, fresh, noPiece, pieceAt}
+use Rattle.model.specs.State.{Piece, Partial, Listing, stale, fresh, noPiece, pieceAt}
 use Rattle.layout.specs.Tables.{tab}
 use Rattle.layout.specs.Layout.{headWord, pieceWord, partialWord, blockWord, queueFrom, yes?, pieceHeld, blockFrom, blockHeld, blocksHeld, partialFrom, partialHeld, piecesHeld, partialsHeld, extentsHeld, listHeld, listingHeld, decodeAt}
 use Rattle.layout.proofs.TabLaws.{size-tab, at-tab, tab-ext}
@@ -87,3 +87,30 @@ module _ (n : ℕ) (xs ys : List ℕ) where
       partial-same k l h g =
           (λ i. partialFrom (h 0 (omega arith) i) (h 1 (omega arith) i) (blocksHeld ys n b (h 0 (omega arith) i) (h 2 (omega arith) i)))
           ∙ ap (partialFrom (partialWord xs n 0 l) (partialWord xs n 1 l)) (blocks-same (partialWord xs n 0 l) (partialWord xs n 2 l) g)
+
+-- ---- the picker from its parts, where total, size, seeds and cursors are the same
+pub decode-parts : (n b : ℕ) (xs ys : List ℕ) → ((k : ℕ) → k < 5 → headWord ys k ≡ headWord xs k) → {ps : List Piece} {ds : List Partial} {es : List ℕ} {l : Listing}
+    → piecesHeld ys n ≡ ps → partialsHeld ys n b ≡ ds → extentsHeld ys ≡ es → listingHeld ys n ≡ l
+    → decodeAt n b ys
+    ≡ record {
+      total = headWord xs 0;
+      size = headWord xs 1;
+      seeds = headWord xs 2;
+      cursor = headWord xs 3;
+      reverseCursor = headWord xs 4;
+      pieces = ps;
+      partials = ds;
+      extents = es;
+      listing = l;
+    }
+decode-parts n b xs ys h p d e l = λ i. record {
+  total = h 0 (omega arith) i;
+  size = h 1 (omega arith) i;
+  seeds = h 2 (omega arith) i;
+  cursor = h 3 (omega arith) i;
+  reverseCursor = h 4 (omega arith) i;
+  pieces = p i;
+  partials = d i;
+  extents = e i;
+  listing = l i;
+}

@@ -8,7 +8,7 @@ use native.Mathlib.Omega.{arith}
 use native.Mathlib.Decide.{ℕ-discrete, decLe}
 use lib.ListN.{getD, set, length-set}
 use lib.Seq.{getD-set-same}
-use Rattle.model.specs.Lists.{at, size, put}
+use Rattle.model.specs.Lists.{at, put}
 use Rattle.model.specs.State.{Piece, Picker, stale, fresh, withPiece, withPieces, withListing}
 use Rattle.layout.specs.declared.spots.Shape.{Shape}
 use Rattle.layout.specs.Tables.{tab, choose}
@@ -16,7 +16,7 @@ use Rattle.layout.specs.Layout.{pieceSpot, headWord, pieceWord, queueFro
 use Rattle.layout.proofs.TabLaws.{size-tab, tab-ext, tab-put, put-past, choose-same, choose-other, choose-map}
 use Rattle.layout.proofs.SpotLaws.{piece-from, piece-below, piece-field, piece-place, piece-in, words-needed}
 use Rattle.layout.proofs.Same.{SameHead, SamePartials, SameBlocks, head-same, piece-other, partials-below, blocks-below, beyond-same}
-use Rattle.layout.proofs.Readers.{piece-at, piece-same, pieces-same, order-same, listing-same, extents-same}
+use Rattle.layout.proofs.Readers.{piece-at, piece-same, pieces-same, order-same, listing-same, extents-same, decode-parts}
 use Rattle.layout.proofs.RoomLaws.{kept-same, partials-same, decoded}
 
 -- ---- a store in field f of piece i
@@ -88,17 +88,12 @@ module _ (s : Shape) (xs : List ℕ) (r : Room s xs) (f i v : ℕ) (hf : f < 6) 
 
     piece-at-shape : decodeAt (s .pieces) (s .blocks) afterPiece ≡ withPiece i (pieceWith f v) (decodeAt (s .pieces) (s .blocks) xs)
     unfolding withPiece withPieces
-    piece-at-shape = λ k. record {
-      total = heads 0 (omega arith) k;
-      size = heads 1 (omega arith) k;
-      seeds = heads 2 (omega arith) k;
-      cursor = heads 3 (omega arith) k;
-      reverseCursor = heads 4 (omega arith) k;
-      pieces = (pieces-put ∙ ap (λ (q : Piece). put i (pieceWith f v q) (piecesHeld xs (s .pieces))) (sym (piece-at (s .pieces) (s .blocks) xs i hi))) k;
-      partials = partials-same s xs afterPiece r (heads 0 (omega arith)) (heads 1 (omega arith)) (heads 7 (omega arith)) partials blocks k;
-      extents = extents-same (s .pieces) xs afterPiece (r .extents) heads k;
-      listing = listing-kept k;
-    }
+    piece-at-shape =
+        decode-parts (s .pieces) (s .blocks) xs afterPiece (λ g l. heads g (omega arith))
+        (pieces-put ∙ ap (λ (q : Piece). put i (pieceWith f v q) (piecesHeld xs (s .pieces))) (sym (piece-at (s .pieces) (s .blocks) xs i hi)))
+        (partials-same s xs afterPiece r (heads 0 (omega arith)) (heads 1 (omega arith)) (heads 7 (omega arith)) partials blocks)
+        (extents-same (s .pieces) xs afterPiece (r .extents) heads)
+        listing-kept
 
     pub decode-piece : decode afterPiece ≡ withPiece i (pieceWith f v) (decode xs)
     decode-piece = decoded s xs afterPiece r (withPiece i (pieceWith f v)) piece-kept piece-at-shape
@@ -150,17 +145,12 @@ module _ (s : Shape) (xs : List ℕ) (r : Room s xs) (i v : ℕ) (hi : i < s .pi
 
   list-at-shape : decodeAt (s .pieces) (s .blocks) afterList ≡ withListing (inListing (put i v) (listingHeld xs (s .pieces))) (decodeAt (s .pieces) (s .blocks) xs)
   unfolding withListing
-  list-at-shape = λ k. record {
-    total = heads5 0 (omega arith) k;
-    size = heads5 1 (omega arith) k;
-    seeds = heads5 2 (omega arith) k;
-    cursor = heads5 3 (omega arith) k;
-    reverseCursor = heads5 4 (omega arith) k;
-    pieces = pieces-same (s .pieces) xs afterList (λ g j o l. field-others s xs r 5 i v (omega arith) hi g j l (λ e. omega arith)) k;
-    partials = partials-same s xs afterList r (heads5 0 (omega arith)) (heads5 1 (omega arith)) (heads5 7 (omega arith)) (partials s xs r 5 i v (omega arith) hi) (blocks s xs r 5 i v (omega arith) hi) k;
-    extents = extents-same (s .pieces) xs afterList (r .extents) heads5 k;
-    listing = listing-put k;
-  }
+  list-at-shape =
+      decode-parts (s .pieces) (s .blocks) xs afterList (λ g l. heads5 g (omega arith))
+      (pieces-same (s .pieces) xs afterList (λ g j o l. field-others s xs r 5 i v (omega arith) hi g j l (λ e. omega arith)))
+      (partials-same s xs afterList r (heads5 0 (omega arith)) (heads5 1 (omega arith)) (heads5 7 (omega arith)) (partials s xs r 5 i v (omega arith) hi) (blocks s xs r 5 i v (omega arith) hi))
+      (extents-same (s .pieces) xs afterList (r .extents) heads5)
+      listing-put
 
   pub decode-list : decode afterList ≡ withListing (inListing (put i v) (decode xs .listing)) (decode xs)
   decode-list = decoded s xs afterList r (λ (d : Picker). withListing (inListing (put i v) (d .listing)) d) list-kept list-at-shape

@@ -5,6 +5,7 @@ mod words;
 
 pub use spots::Shape;
 pub use spots::idx;
+pub use spots::list_start;
 pub use spots::shape_of;
 pub use spots::word;
 pub use words::block_word;

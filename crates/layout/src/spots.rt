@@ -1,7 +1,7 @@
 // The shape of a picker's memory, and where a word of each region stands.
 ghost use mathlib.Core.Path.{_≡_};
 ghost use mathlib.Core.Bool.{true};
-ghost use Prim.Native.Nat.{ℕ, _<_, _≤_, min};
+ghost use Prim.Native.Nat.{_+_, _*_, _<_, _≤_, min};
 ghost use lib.ListN.{length};
 ghost use Rattle.model.specs.Bep3.{partsOf};
 ghost use Rattle.model.specs.State.{validGeometry};
@@ -87,4 +87,12 @@ pub fn block_spot(s: Shape, f: usize, p: usize, j: usize) -> usize
     ensures { λ r. ⌜ r ≡ blockSpot (s .pieces) (s .blocks) f p j ⌝ }
 {
     16 + 6 * s.pieces + 3 * s.places + (f * (s.places * s.blocks) + (p * s.blocks + j))
+}
+
+// Where the list's region starts.
+pub fn list_start(s: Shape) -> usize
+    requires { ⌜ Sizes s ⌝ }
+    ensures { λ r. ⌜ r ≡ 16 + 5 * s .pieces ⌝ }
+{
+    16 + 5 * s.pieces
 }

@@ -1,0 +1,1 @@
+-- The fields of a piece have no definitions of their own.

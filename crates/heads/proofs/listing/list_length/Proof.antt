@@ -1,0 +1,18 @@
+-- `heads::list_length` meets its contract.
+use mathlib.Core.Path.{_∙_}
+use Rattle.layout.proofs.Meanings.{length-is}
+use borrow.Author.Needs.{needs}
+use Rattle.heads.proofs.listing.list_length.Statement.{statement}
+use Rattle.heads.proofs.listing.list_length.Tie as tie
+
+head-word-requires : tie.Need-head-word-requires
+head-word-requires c κs = search needs
+
+idx-requires : tie.Need-idx-requires
+idx-requires c κs = search needs
+
+returns : tie.Need-returns
+returns c = c .idx .ensures ∙ c .before .head-word .ensures ∙ length-is (c .before .before .before .args .s) (c .before .before .before .args .mem .now) (c .before .before .before .pre)
+
+pub list-length-spec : {M : Type 1} → statement M
+list-length-spec = tie.close (tie.spec head-word-requires idx-requires returns)

@@ -1,0 +1,4 @@
+pub mod SlotLaws
+pub mod ShiftLaws
+pub mod FreshLaws
+pub mod ModelLaws

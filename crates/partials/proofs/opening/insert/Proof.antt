@@ -1,0 +1,55 @@
+-- `partials::insert` meets its contract: the blocks of the first free place are filled, and a partial is opened on them.
+use native.Mathlib.Omega.{arith}
+use Rattle.partials.proofs.FreshLaws.{blocks-at-most, filled-ready, inserted}
+use borrow.Author.Needs.{needs}
+use Rattle.partials.proofs.opening.insert.Statement.{statement}
+use Rattle.partials.proofs.opening.insert.Tie as tie
+
+partial-count-requires : tie.Need-partial-count-requires
+partial-count-requires c κs = search needs
+
+partial-word-requires : tie.Need-partial-word-requires
+partial-word-requires c κs = (c .before .before .before .before .pre .0 .spans, (omega arith, omega (arith, c .before .partial-count .ensures, c .before .before .before .before .pre .1 .0)))
+
+idx-requires : tie.Need-idx-requires
+idx-requires c κs = search needs
+
+fill-requires : tie.Need-fill-requires
+fill-requires c κs =
+    let a = c .before .before .before .before .before .before .before .args in
+    let p = c .before .before .before .before .before .before .before .pre in
+    let n = c .before .before .before .before .partial-count .result in
+    let w = p .0 .placed n (omega (arith, c .before .before .before .before .partial-count .ensures, p .1 .0)) in
+    (p .0, (omega (arith, c .before .idx .ensures, c .before .before .partial-word .ensures), omega (arith, p .1 .1 .0, blocks-at-most (a .s) (a .mem .now) (p .0) (a .piece))))
+
+position-requires : tie.Need-position-requires
+position-requires c κs = search needs
+
+open-at-requires : tie.Need-open-at-requires
+open-at-requires c κs =
+    let a = c .before .before .before .before .before .before .before .before .before .before .before .before .before .args in
+    let p = c .before .before .before .before .before .before .before .before .before .before .before .before .before .pre in
+    filled-ready (a .s) (a .mem .now) _ (p .0) (c .before .before .before .before .before .before .before .idx .result) (a .count) (a .payload) (a .piece) _ (c .before .before .before .before .before .fill .ensures) (p .1 .0) (c .before .position .ensures)
+
+same-length : tie.Need-same-length
+same-length c = search needs
+
+returns : tie.Need-returns
+returns c =
+    let a = c .before .before .before .before .before .before .before .before .before .before .before .before .before .before .before .before .args in
+    let p = c .before .before .before .before .before .before .before .before .before .before .before .before .before .before .before .before .pre in
+    inserted (a .s) (a .mem .now) (c .before .before .before .before .before .before .before .before .fill .last .0) _ (p .0) (c .before .before .before .before .before .before .before .before .before .before .before .before .before .partial-count .result) (c .before .before .before .before .before .before .before .before .before .before .before .partial-word .result) (c .before .before .before .before .before .before .before .before .before .before .idx .result) (a .piece) (c .before .before .before .before .position .result) (a .count) (a .payload)
+    (c .before .before .before .before .before .before .before .before .before .before .before .before .before .partial-count .ensures) (p .1 .0) (c .before .before .before .before .before .before .before .before .before .before .before .partial-word .ensures) (c .before .before .before .before .before .before .before .before .before .before .idx .ensures) (p .1 .1 .0) (p .1 .1 .1) (c .before .before .before .before .before .before .before .before .fill .ensures) (c .before .before .before .before .position .ensures) (c .before .before .open-at .ensures)
+
+pub insert-spec : {M : Type 1} → statement M
+insert-spec =
+    tie.close
+    (tie.spec
+    partial-count-requires
+    partial-word-requires
+    idx-requires
+    fill-requires
+    position-requires
+    open-at-requires
+    same-length
+    returns)

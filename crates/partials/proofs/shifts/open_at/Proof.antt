@@ -1,0 +1,96 @@
+-- `partials::open_at` meets its contract: those from k on have moved up.
+use mathlib.Core.Path.{_∙_, ap, refl}
+use Prim.Native.Nat.{ℕ, _-_}
+use native.Mathlib.Omega.{arith}
+use lib.ListN.{length, set, length-set}
+use Rattle.layout.proofs.SpotLaws.{places-min}
+use Rattle.layout.proofs.RoomLaws.{became-at}
+use Rattle.partials.proofs.ShiftLaws.{Rising, rising-start, rising-next, opened-became}
+use borrow.Author.Needs.{needs}
+use Rattle.partials.proofs.shifts.open_at.Statement.{statement}
+use Rattle.partials.proofs.shifts.open_at.Tie as tie
+
+abbrev Inv-loop : tie.InvT-loop
+Inv-loop mem₀ s q piece n free k₀ mem k = Rising s mem₀ q n k mem
+
+abbrev μ-loop : tie.MeasureT-loop
+μ-loop mem₀ s q piece n free k₀ mem k = k
+
+head-word-requires : tie.Need-head-word-requires Inv-loop μ-loop
+head-word-requires c κs = search needs
+
+idx-requires : tie.Need-idx-requires Inv-loop μ-loop
+idx-requires c κs = search needs
+
+partial-word-requires : tie.Need-partial-word-requires Inv-loop μ-loop
+partial-word-requires c κs = (c .before .before .before .before .before .pre .0 .spans, (omega arith, omega (arith, c .before .idx .ensures, c .before .before .head-word .ensures)))
+
+loop-holds : tie.Need-loop-holds Inv-loop μ-loop
+loop-holds c = rising-start (c .before .before .before .before .before .before .args .s) (c .before .before .before .before .before .before .args .mem .now) (c .before .before .before .before .before .before .args .q) (c .before .before .idx .result) (c .before .before .before .before .before .before .pre .0) (omega (arith, c .before .before .idx .ensures, c .before .before .before .head-word .ensures)) (omega (arith, c .before .before .idx .ensures, c .before .before .before .head-word .ensures))
+
+sub-get-record : tie.Need-sub-get-record Inv-loop μ-loop
+sub-get-record c = search needs
+
+get-record-requires : tie.Need-get-record-requires Inv-loop μ-loop
+get-record-requires c κs = (c .before .before .loop .inv .spans, omega (arith, c .before .before .loop .inv .to, c .before .before .loop .inv .room))
+
+put-record-requires : tie.Need-put-record-requires Inv-loop μ-loop
+put-record-requires c κs = (c .before .before .before .before .loop .inv .spans, omega (arith, c .before .before .before .before .loop .inv .to, c .before .before .before .before .loop .inv .room))
+
+sub-k : tie.Need-sub-k Inv-loop μ-loop
+sub-k c = search needs
+
+loop-less : tie.Need-loop-less Inv-loop μ-loop
+loop-less c = search needs
+
+loop-again : tie.Need-loop-again Inv-loop μ-loop
+loop-again c =
+    let a = c .before .before .before .before .before .before .before .before .before .before .before .before .before .before .args in
+    let l = c .before .before .before .before .before .before .before .loop in
+    rising-next (a .s) (a .mem .now) (a .q) (c .before .before .before .before .before .before .before .before .before .before .idx .result) (l .k) (l .mem) _ _ (l .inv) (omega arith) (c .before .before .before .before .get-record .ensures) (c .before .before .put-record .ensures)
+
+put-record-requires-2 : tie.Need-put-record-requires-2 Inv-loop μ-loop
+put-record-requires-2 c κs = (c .before .before .loop .inv .spans, omega (arith, c .before .before .loop .inv .from, c .before .before .loop .inv .to, c .before .before .loop .inv .room))
+
+add-word : tie.Need-add-word Inv-loop μ-loop
+add-word c = omega (arith, c .before .before .before .before .before .loop .inv .room, c .before .before .before .before .before .loop .inv .spans .sizes .places, places-min (c .before .before .before .before .before .before .before .before .before .before .before .before .args .s .pieces))
+
+word-requires : tie.Need-word-requires Inv-loop μ-loop
+word-requires c κs = search needs
+
+set-head-word-requires : tie.Need-set-head-word-requires Inv-loop μ-loop
+set-head-word-requires c κs = omega (arith, c .before .before .before .before .put-record2 .ensures .beside .long, c .before .before .before .before .before .before .before .loop .inv .spans .head)
+
+same-length : tie.Need-same-length Inv-loop μ-loop
+same-length c = ap length (c .before .before .set-head-word .ensures) ∙ length-set (c .before .before .before .before .before .before .before .put-record2 .last .0) 7 (c .before .before .before .before .word .result) ∙ c .before .before .before .before .before .before .before .put-record2 .ensures .beside .long ∙ c .before .before .before .before .before .before .before .before .before .before .loop .inv .beside .long
+
+returns : tie.Need-returns Inv-loop μ-loop
+returns c =
+    let a = c .before .before .before .before .before .before .before .before .before .before .before .before .before .before .before .before .before .args in
+    let l = c .before .before .before .before .before .before .before .before .before .before .loop in
+    became-at _ _ _ _ _ (c .before .before .set-head-word .ensures ∙ ap (λ (v : ℕ). set (c .before .before .before .before .before .before .before .put-record2 .last .0) 7 v) (c .before .before .before .before .word .ensures))
+    (opened-became (a .s) (a .mem .now) (c .before .before .before .before .before .before .before .before .before .before .before .before .before .before .before .before .before .pre .0) (a .q) (c .before .before .before .before .before .before .before .before .before .before .before .before .before .idx .result) (l .k) (l .mem) (c .before .before .before .before .before .before .before .put-record2 .last .0) (l .inv) (c .before .before .before .before .before .before .before .before .before .before .before .before .before .idx .ensures ∙ c .before .before .before .before .before .before .before .before .before .before .before .before .before .before .head-word .ensures) (omega arith) (a .piece) _ refl refl
+    (c .before .before .before .before .before .before .before .before .before .before .before .partial-word .ensures) (c .before .before .before .before .before .before .before .put-record2 .ensures))
+
+pub open-at-spec : {M : Type 1} → statement M
+open-at-spec =
+    tie.close
+    (tie.spec
+    Inv-loop
+    μ-loop
+    head-word-requires
+    idx-requires
+    partial-word-requires
+    loop-holds
+    sub-get-record
+    get-record-requires
+    put-record-requires
+    sub-k
+    loop-less
+    loop-again
+    put-record-requires-2
+    add-word
+    word-requires
+    set-head-word-requires
+    same-length
+    returns)

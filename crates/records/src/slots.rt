@@ -1,0 +1,86 @@
+// The partials by their places among the partials, which are by rising piece.
+ghost use mathlib.Core.Path.{_≡_};
+ghost use Prim.Native.Nat.{_<_};
+ghost use Rattle.model.specs.Lists.{size};
+ghost use Rattle.model.specs.State.{Partial};
+ghost use Rattle.layout.specs.Layout.{decode, partialIn, withPartial, Room, Became};
+ghost use Rattle.records.specs.Rows.{FlagsRead, flagNumber, flagged};
+ghost use Rattle.records.specs.Finding.{placeFrom};
+use crate::blocks::bit_of;
+
+pub enum Found {
+    At(usize),
+    Nothing,
+}
+
+pub struct PartialFlags {
+    pub passed: bool,
+    pub locked: bool,
+    pub hashing: bool,
+}
+
+pub fn partial_count(mem: &[u64], s: layout::Shape) -> usize
+    requires { ⌜ Room s (now mem) ⌝ }
+    ensures { λ r. ⌜ r ≡ size (decode (now (mem .entry)) .partials) ⌝ }
+{
+    layout::idx(layout::head_word(mem, 7))
+}
+
+pub fn partial_piece(mem: &[u64], s: layout::Shape, k: usize) -> u64
+    requires { ⌜ Room s (now mem) ⌝ }
+    requires { ⌜ k < size (decode (now mem) .partials) ⌝ }
+    ensures { λ r. ⌜ r ≡ partialIn (decode (now (mem .entry))) k .piece ⌝ }
+{
+    layout::partial_word(mem, s, 0, k)
+}
+
+pub fn partial_flags(mem: &[u64], s: layout::Shape, k: usize) -> PartialFlags
+    requires { ⌜ Room s (now mem) ⌝ }
+    requires { ⌜ k < size (decode (now mem) .partials) ⌝ }
+    ensures { λ r. ⌜ FlagsRead r (partialIn (decode (now (mem .entry))) k) ⌝ }
+{
+    let w = layout::partial_word(mem, s, 1, k);
+    let passed = w % 2 == 1;
+    let locked = w / 2 % 2 == 1;
+    let hashing = w / 4 % 2 == 1;
+    PartialFlags {
+        passed: passed,
+        locked: locked,
+        hashing: hashing,
+    }
+}
+
+// Bits: 1 passed, 2 locked, 4 hashing.
+fn flag_word(f: PartialFlags) -> u64
+    ensures { λ r. ⌜ r ≡ flagNumber f ⌝ }
+{
+    let passed = bit_of(f.passed);
+    let locked = bit_of(f.locked);
+    let hashing = bit_of(f.hashing);
+    passed + 2 * locked + 4 * hashing
+}
+
+pub fn set_partial_flags(mem: &mut [u64], s: layout::Shape, k: usize, f: PartialFlags)
+    requires { ⌜ Room s (now mem) ⌝ }
+    requires { ⌜ k < size (decode (now mem) .partials) ⌝ }
+    ensures { λ _. ⌜ Became s (now (mem .entry)) (now (mem .exit)) (withPartial k (flagged f) (decode (now (mem .entry)))) ⌝ }
+{
+    let w = flag_word(f);
+    layout::set_partial_word(mem, s, 1, k, w);
+}
+
+// The partial of a piece.
+pub fn find(mem: &[u64], s: layout::Shape, piece: u64) -> Found
+    requires { ⌜ Room s (now mem) ⌝ }
+    ensures { λ r. ⌜ r ≡ placeFrom 0 piece (decode (now (mem .entry)) .partials) ⌝ }
+{
+    let n = layout::idx(layout::head_word(mem, 7));
+    let mut k = 0;
+    while k < n {
+        if layout::partial_word(mem, s, 0, k) == piece {
+            return Found::At(k);
+        }
+        k += 1;
+    }
+    Found::Nothing
+}
