@@ -1,0 +1,118 @@
+//! Times the proved list operations against the Rust's: the rebuild of a stale list, and the list mended after a piece's count changed.
+//! `harness/bench` builds and runs it. A line for each size: microseconds here, and the ratio to the Rust.
+
+use bitdaemon_common::{Bitfield, PieceIndex};
+use picker_rs::{NullPickerStats, PickerOptions, PiecePicker};
+use std::hint::black_box;
+use std::time::Instant;
+
+#[repr(C)]
+struct Listed {
+    len: usize,
+    used: usize,
+}
+
+#[link(name = "lists_c", kind = "static")]
+extern "C" {
+    fn ls_relist(list: *mut u64, list_len: usize, keys: *const u64, keys_len: usize, n: usize, x: u64, old: u64, draws: *const u32, draws_len: usize, t: usize) -> Listed;
+    fn ls_update_pieces(list: *mut u64, list_len: usize, keys: *const u64, keys_len: usize, n: usize, draws: *const u32, draws_len: usize, t: usize) -> Listed;
+}
+
+const ROUNDS: usize = 400;
+
+fn counts(n: usize) -> Vec<u64> {
+    (0..n).map(|i| 1 + (i * 7 % 23) as u64).collect()
+}
+
+/// The rank of an Open piece of wish 4.
+fn rank(count: u64) -> u64 {
+    (count + 1) * 4 * 3 - 1
+}
+
+fn best(mut f: impl FnMut() -> f64) -> f64 {
+    (0..ROUNDS).map(|_| f()).fold(f64::MAX, f64::min)
+}
+
+fn since(start: Instant) -> f64 {
+    start.elapsed().as_secs_f64() * 1e6
+}
+
+/// A pick that finds nothing: with a stale list it rebuilds it first.
+fn empty_pick(p: &mut PiecePicker, none: &Bitfield) -> f64 {
+    let start = Instant::now();
+    let mut out = Vec::new();
+    p.pick_pieces(none, &mut out, 1, 0, None, PickerOptions::RAREST_FIRST, &[], 1000, &mut NullPickerStats);
+    black_box(&out);
+    since(start)
+}
+
+fn rust_picker(n: usize) -> PiecePicker {
+    let mut p = PiecePicker::new(n as i64 * 16384, 16384);
+    for (i, c) in counts(n).into_iter().enumerate() {
+        for _ in 0..c {
+            p.inc_refcount(PieceIndex(i as i32));
+        }
+    }
+    p
+}
+
+fn rust_rebuild(n: usize) -> f64 {
+    let mut p = rust_picker(n);
+    let none = Bitfield::with_size(n);
+    let stale = best(|| {
+        p.inc_refcount_all();
+        p.dec_refcount_all();
+        empty_pick(&mut p, &none)
+    });
+    stale - best(|| empty_pick(&mut p, &none))
+}
+
+fn rust_change(n: usize) -> f64 {
+    let mut p = rust_picker(n);
+    empty_pick(&mut p, &Bitfield::with_size(n));
+    let mut i = 0;
+    best(|| {
+        i = (i + 37) % n as i32;
+        let start = Instant::now();
+        p.inc_refcount(PieceIndex(i));
+        p.dec_refcount(PieceIndex(i));
+        since(start) / 2.0
+    })
+}
+
+fn our_rebuild(n: usize, draws: &[u32]) -> f64 {
+    let counts = counts(n);
+    let mut list = vec![0; n];
+    best(|| {
+        let start = Instant::now();
+        let keys: Vec<u64> = counts.iter().map(|c| rank(*c)).collect();
+        black_box(unsafe { ls_update_pieces(list.as_mut_ptr(), n, keys.as_ptr(), n, n, draws.as_ptr(), draws.len(), 0) }.used);
+        since(start)
+    })
+}
+
+fn our_change(n: usize, draws: &[u32]) -> f64 {
+    let mut keys: Vec<u64> = counts(n).iter().map(|c| rank(*c)).collect();
+    let mut list = vec![0; n];
+    unsafe { ls_update_pieces(list.as_mut_ptr(), n, keys.as_ptr(), n, n, draws.as_ptr(), draws.len(), 0) };
+    let mut i = 0;
+    best(|| {
+        i = (i + 37) % n;
+        let (old, new) = (keys[i], keys[i] + 12);
+        let start = Instant::now();
+        for (from, to) in [(old, new), (new, old)] {
+            keys[i] = to;
+            black_box(unsafe { ls_relist(list.as_mut_ptr(), n, keys.as_ptr(), n, n, i as u64, from, draws.as_ptr(), draws.len(), 0) }.len);
+        }
+        since(start) / 2.0
+    })
+}
+
+fn main() {
+    let draws: Vec<u32> = (0..4352u32).map(|i| i.wrapping_mul(2654435761)).collect();
+    println!("pieces   rebuild µs   to the Rust   change µs   to the Rust");
+    for n in [64, 1024, 4096] {
+        let (a, b) = (our_rebuild(n, &draws), our_change(n, &draws));
+        println!("{n:6} {a:12.2} {:13.2} {b:11.2} {:13.2}", a / rust_rebuild(n), b / rust_change(n));
+    }
+}
