@@ -12,7 +12,7 @@ use Rattle.layout.specs.declared.spots.Shape.{Shape}
 use Rattle.layout.specs.Layout.{placesFor, headWord, partialWord, partialHeld, piecesOn, blocksOn, yes?, partialsHeld, decode, decodeAt, Room, Kept, Became}
 use Rattle.layout.specs.Tables.{tab}
 use Rattle.layout.proofs.TabLaws.{tab-ext}
-use Rattle.layout.proofs.Geometry.{valid}
+use Rattle.geometry.proofs.ValidLaws.{bounds}
 use Rattle.layout.proofs.Same.{SameHead, SamePartials, SameBlocks, SameBeyond}
 use Rattle.layout.proofs.Readers.{partial-same, block-same}
 
@@ -25,7 +25,7 @@ module _ (s : Shape) (xs : List ℕ) (r : Room s xs) where
   pub blocks-within : (i : ℕ) → blocksInPiece (headWord xs 0) (headWord xs 1) i ≤ s .blocks
   unfolding blocksOn
   blocks-within i =
-      rw (r .blocks) (blocksInPiece-le (headWord xs 0) (headWord xs 1) i (valid (headWord xs 0) (headWord xs 1) (r .geometry) .long))
+      rw (r .blocks) (blocksInPiece-le (headWord xs 0) (headWord xs 1) i (bounds (headWord xs 0) (headWord xs 1) (r .geometry) .some-size))
 
   pub partial-room : (k : ℕ) → k < headWord xs 7 → k < placesFor (s .pieces)
   partial-room k h = omega (arith, r .partials, r .spans .sizes .places)

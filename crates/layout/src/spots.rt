@@ -1,9 +1,10 @@
 // The shape of a picker's memory, and where a word of each region stands.
+use geometry::blocks_per_piece;
+use geometry::num_pieces;
 ghost use mathlib.Core.Path.{_≡_};
 ghost use mathlib.Core.Bool.{true};
 ghost use Prim.Native.Nat.{_+_, _*_, _<_, _≤_, min};
 ghost use lib.ListN.{length};
-ghost use Rattle.model.specs.Bep3.{partsOf};
 ghost use Rattle.model.specs.State.{validGeometry};
 ghost use Rattle.layout.specs.Layout.{headWord, pieceSpot, partialSpot, blockSpot, Sizes, ShapeOf};
 
@@ -37,23 +38,14 @@ fn lesser(a: usize, b: usize) -> usize
     b
 }
 
-// How many parts of one length a whole has, the last one shorter where it is no multiple.
-fn parts(whole: usize, part: usize) -> usize
-    requires { ⌜ (1 ≤ part) × (part ≤ 4194304) × (whole ≤ 17179869184) ⌝ }
-    ensures { λ r. ⌜ r ≡ partsOf whole part ⌝ }
-{
-    (whole + part - 1) / part
-}
-
+// The shape that the head gives.
 pub fn shape_of(mem: &[u64]) -> Shape
     requires { ⌜ 16 ≤ length (now mem) ⌝ }
     requires { ⌜ validGeometry (headWord (now mem) 0) (headWord (now mem) 1) ≡ true ⌝ }
     ensures { λ r. ⌜ ShapeOf r (now (mem .entry)) ⌝ }
 {
-    let total = idx(mem[0]);
-    let size = idx(mem[1]);
-    let pieces = parts(total, size);
-    let blocks = parts(size, lesser(16384, size));
+    let pieces = idx(num_pieces(mem[0], mem[1]));
+    let blocks = idx(blocks_per_piece(mem[1]));
     let places = lesser(pieces, 512);
     Shape {
         pieces: pieces,

@@ -11,7 +11,7 @@ use Rattle.model.specs.Bep3.{numPieces, blocksInPiece}
 use Rattle.model.proofs.Bep3Laws.{blocksInPiece-le}
 use Rattle.layout.specs.declared.spots.Shape.{Shape}
 use Rattle.layout.specs.Layout.{headWord, pieceWord, partialWord, placesFor, piecesOn, blocksOn}
-use Rattle.layout.proofs.Geometry.{valid}
+use Rattle.geometry.proofs.ValidLaws.{bounds}
 use Rattle.partial_rows.specs.Rows.{countBelow, stateBy, rowsOk, requestedIn, busyIn, blocksGood, partialGood, atWork, Ready}
 use Rattle.partial_rows.proofs.BelowLaws.{count-next}
 
@@ -46,7 +46,7 @@ module _ (s : Shape) (xs : List ℕ) (r : Ready s xs) (i t z : ℕ) (et : t ≡ 
   pub blocks-few : (m : ℕ) → m ≡ blocksInPiece t z i → m ≤ s .blocks
   unfolding blocksOn
   blocks-few m e =
-      rw (e, et, ez, r .blocks) (blocksInPiece-le (headWord xs 0) (headWord xs 1) i (valid (headWord xs 0) (headWord xs 1) (r .geometry) .long))
+      rw (e, et, ez, r .blocks) (blocksInPiece-le (headWord xs 0) (headWord xs 1) i (bounds (headWord xs 0) (headWord xs 1) (r .geometry) .some-size))
 
 module _ (xs : List ℕ) (n b i p t z m : ℕ) (h : Bool) (et : t ≡ headWord xs 0) (ez : z ≡ headWord xs 1) (em : m ≡ blocksInPiece t z i) (ok : Bool) (eo : ok ≡ rowsOk xs n b p m) where
   many-is : blocksInPiece (headWord xs 0) (headWord xs 1) i ≡ m
