@@ -1,22 +1,13 @@
 //! Times the proved list operations against the Rust's: the rebuild of a stale list, and the list mended after a piece's count changed.
 //! `harness/bench` builds and runs it. A line for each size: microseconds here, and the ratio to the Rust.
 
+mod list_operations;
+
 use bitdaemon_common::{Bitfield, PieceIndex};
+use list_operations::{relist, update_pieces};
 use picker_rs::{NullPickerStats, PickerOptions, PiecePicker};
 use std::hint::black_box;
 use std::time::Instant;
-
-#[repr(C)]
-struct Listed {
-    len: usize,
-    used: usize,
-}
-
-#[link(name = "lists_c", kind = "static")]
-extern "C" {
-    fn ls_relist(list: *mut u64, list_len: usize, keys: *const u64, keys_len: usize, n: usize, x: u64, old: u64, draws: *const u32, draws_len: usize, t: usize) -> Listed;
-    fn ls_update_pieces(list: *mut u64, list_len: usize, keys: *const u64, keys_len: usize, n: usize, draws: *const u32, draws_len: usize, t: usize) -> Listed;
-}
 
 const ROUNDS: usize = 400;
 
@@ -86,7 +77,7 @@ fn our_rebuild(n: usize, draws: &[u32]) -> f64 {
     best(|| {
         let start = Instant::now();
         let keys: Vec<u64> = counts.iter().map(|c| rank(*c)).collect();
-        black_box(unsafe { ls_update_pieces(list.as_mut_ptr(), n, keys.as_ptr(), n, n, draws.as_ptr(), draws.len(), 0) }.used);
+        black_box(update_pieces(&mut list, &keys, draws).used);
         since(start)
     })
 }
@@ -94,7 +85,7 @@ fn our_rebuild(n: usize, draws: &[u32]) -> f64 {
 fn our_change(n: usize, draws: &[u32]) -> f64 {
     let mut keys: Vec<u64> = counts(n).iter().map(|c| rank(*c)).collect();
     let mut list = vec![0; n];
-    unsafe { ls_update_pieces(list.as_mut_ptr(), n, keys.as_ptr(), n, n, draws.as_ptr(), draws.len(), 0) };
+    update_pieces(&mut list, &keys, draws);
     let mut i = 0;
     best(|| {
         i = (i + 37) % n;
@@ -102,7 +93,7 @@ fn our_change(n: usize, draws: &[u32]) -> f64 {
         let start = Instant::now();
         for (from, to) in [(old, new), (new, old)] {
             keys[i] = to;
-            black_box(unsafe { ls_relist(list.as_mut_ptr(), n, keys.as_ptr(), n, n, i as u64, from, draws.as_ptr(), draws.len(), 0) }.len);
+            black_box(relist(&mut list, &keys, n, i as u64, from, draws).len);
         }
         since(start) / 2.0
     })

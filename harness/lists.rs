@@ -1,20 +1,11 @@
 //! Runs the proved list operations on those of standard input, which the unchanged Rust made, and compares list and draws used.
 //! `harness/run` builds it. Prints how many were compared; ends with status 1 at the first difference, 2 on bad input.
 
+mod list_operations;
+
+use list_operations::Listed;
 use std::io::BufRead;
 use std::process::exit;
-
-#[repr(C)]
-struct Listed {
-    len: usize,
-    used: usize,
-}
-
-#[link(name = "lists_c", kind = "static")]
-extern "C" {
-    fn ls_relist(list: *mut u64, list_len: usize, keys: *const u64, keys_len: usize, n: usize, x: u64, old: u64, draws: *const u32, draws_len: usize, t: usize) -> Listed;
-    fn ls_update_pieces(list: *mut u64, list_len: usize, keys: *const u64, keys_len: usize, n: usize, draws: *const u32, draws_len: usize, t: usize) -> Listed;
-}
 
 const BEYOND: u64 = 77;
 
@@ -53,7 +44,7 @@ fn relist(line: usize, w: &[&str]) {
     let (keys, list, draws, after) = (numbers(line, w[3]), numbers(line, w[4]), words(line, w[5]), numbers(line, w[6]));
     let mut mem = lent(&list, keys.len());
     let room = keys.len();
-    let made = unsafe { ls_relist(mem.as_mut_ptr(), room, keys.as_ptr(), keys.len(), list.len(), x, old, draws.as_ptr(), draws.len(), 0) };
+    let made = list_operations::relist(&mut mem[..room], &keys, list.len(), x, old, &draws);
     compare(line, &mem, made, used, &after);
 }
 
@@ -62,7 +53,7 @@ fn rebuild(line: usize, w: &[&str]) {
     let (keys, draws, after) = (numbers(line, w[1]), words(line, w[2]), numbers(line, w[3]));
     let mut mem = lent(&[], keys.len());
     let room = keys.len();
-    let made = unsafe { ls_update_pieces(mem.as_mut_ptr(), room, keys.as_ptr(), keys.len(), keys.len(), draws.as_ptr(), draws.len(), 0) };
+    let made = list_operations::update_pieces(&mut mem[..room], &keys, &draws);
     compare(line, &mem, made, used, &after);
 }
 
