@@ -1,6 +1,6 @@
 """`python3 -m compare.memory COUNT SEED`: memories, whole and damaged, and whether a well-formed picker stands in them.
 
-The words are laid out as docs/MEMORY.md has them; places and unused words are random. Whether a picker stands there is judged by writing
+The words are laid out as docs/MEMORY.md has them; which slot has which place, and unused words, are random. Whether a picker stands there is judged by writing
 the words as an image and reading that. A line for each: 1 or 0, then the words, parted by spaces; `end` is the last line."""
 import argparse
 import random
@@ -45,11 +45,12 @@ def encode(rng, s):
             words[shape.piece(f, i)] = int(v)
     for k, i in enumerate(s.order):
         words[shape.piece(5, k)] = i
-    places = rng.sample(range(shape.m), len(s.partials))
+    places = rng.sample(range(shape.m), shape.m)
+    for k, place in enumerate(places):
+        words[shape.partial(2, k)] = place
     for k, (d, place) in enumerate(zip(s.partials, places)):
-        flags = d.passed + 2 * d.locked + 4 * d.hashing
-        for f, v in enumerate((d.piece, flags, place)):
-            words[shape.partial(f, k)] = v
+        words[shape.partial(0, k)] = d.piece
+        words[shape.partial(1, k)] = d.passed + 2 * d.locked + 4 * d.hashing
         for j, b in enumerate(d.blocks):
             row = (b.state, b.requesters, int(b.peer is not None), b.peer or 0)
             for f, v in enumerate(row):
@@ -62,13 +63,13 @@ def image_of(words, shape):
     total, size, seeds, cursor, reverse_cursor, stale, listed, many, extents = words[:9]
     if stale > 1 or listed > (0 if stale else shape.n) or many > shape.m or extents > MAX_EXTENTS:
         return None
-    places = [words[shape.partial(2, k)] for k in range(many)]
-    if any(p >= shape.m for p in places) or len(set(places)) < many:
+    places = [words[shape.partial(2, k)] for k in range(shape.m)]
+    if sorted(places) != list(range(shape.m)):
         return None
     out = record(HEAD, (total, size, seeds, cursor, reverse_cursor, stale))
     for i in range(shape.n):
         out += record(PIECE, [words[shape.piece(f, i)] for f in range(5)])
-    for k, place in enumerate(places):
+    for k, place in enumerate(places[:many]):
         piece = words[shape.partial(0, k)]
         out += record(PARTIAL, (piece, words[shape.partial(1, k)]))
         blocks = blocks_of(length_of_piece(total, size, piece), size) if piece < shape.n else 0

@@ -52,13 +52,15 @@ fn memory(n: usize, b: usize, partials: usize) -> Vec<u64> {
         mem[s.piece(1, i)] = 4;
         mem[s.piece(2, i)] = 1 + (i % 7) as u64;
     }
+    for k in 0..s.m {
+        mem[s.partial(2, k)] = (s.m - 1 - k) as u64;
+    }
     for k in 0..partials {
         let i = k * step;
         mem[s.piece(1, i)] = 0;
         mem[s.partial(0, k)] = i as u64;
-        mem[s.partial(2, k)] = (partials - 1 - k) as u64;
         for j in (0..b).step_by(2) {
-            let place = partials - 1 - k;
+            let place = s.m - 1 - k;
             for (f, v) in [1, 1, 1, j as u64].into_iter().enumerate() {
                 mem[s.block(f, place, j)] = v;
             }
@@ -128,14 +130,20 @@ fn rows_by_hand(mem: &[u64], s: &Shape, total: u64, size: u64, unit: u64) -> boo
 
 fn partials_by_hand(mem: &[u64], s: &Shape, total: u64, size: u64, unit: u64) -> bool {
     let mut taken = [false; 512];
+    for k in 0..s.m {
+        let place = mem[s.partial(2, k)] as usize;
+        if place >= s.m || taken[place] {
+            return false;
+        }
+        taken[place] = true;
+    }
     let mut low = 0;
     for k in 0..mem[7] as usize {
         let (piece, flags, place) = (mem[s.partial(0, k)], mem[s.partial(1, k)], mem[s.partial(2, k)] as usize);
-        if piece < low || piece >= s.n as u64 || flags > 7 || place >= s.m || taken[place] {
+        if piece < low || piece >= s.n as u64 || flags > 7 {
             return false;
         }
         let i = piece as usize;
-        taken[place] = true;
         low = piece + 1;
         let many = size.min(total - piece * size).div_ceil(unit) as usize;
         let region = |f: usize| &mem[s.block(f, place, 0)..s.block(f, place, 0) + many];
@@ -196,7 +204,7 @@ fn bare_pass(mem: &[u64]) -> u64 {
     let b = mem[1].div_ceil(mem[1].min(BLOCK)) as usize;
     let s = Shape { n, b, m: n.min(512) };
     let sum = |a: usize, k: usize| mem[a..a + k].iter().fold(0u64, |x, y| x.wrapping_add(*y));
-    let mut out = sum(0, 9) + sum(s.piece(0, 0), 5 * n) + sum(s.piece(5, 0), mem[6] as usize);
+    let mut out = sum(0, 9) + sum(s.piece(0, 0), 5 * n) + sum(s.piece(5, 0), mem[6] as usize) + sum(s.partial(2, 0), s.m);
     for k in 0..mem[7] as usize {
         let place = mem[s.partial(2, k)] as usize;
         out = out.wrapping_add(mem[s.partial(0, k)]).wrapping_add(mem[s.partial(1, k)]);

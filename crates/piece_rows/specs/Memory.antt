@@ -47,6 +47,11 @@ partialRaw xs n b k =
 unfoldable pub partialsRaw : List ℕ → Bool
 partialsRaw xs = every (partialRaw xs (piecesOn xs) (blocksOn xs)) (from 0 (headWord xs 7))
 
+-- slot k, whether a partial stands in it or not: a place that is there and that no slot before it has
+unfoldable pub placeRaw : List ℕ → ℕ → ℕ → Bool
+placeRaw xs n k =
+    ltb (partialWord xs n 2 k) (placesFor n) && not (member (partialWord xs n 2 k) (tab k (partialWord xs n 2)))
+
 -- ---- the parts of the test, in the order in which they are made
 unfoldable pub roomy : List ℕ → Bool
 roomy xs =
@@ -62,6 +67,10 @@ goodPieces xs = piecesRaw xs && piecesOk (decode xs) 0 (decode xs .pieces)
 unfoldable pub goodPartials : List ℕ → Bool
 goodPartials xs = partialsRaw xs && partialsOk (decode xs) 0 0 (decode xs .pieces) (decode xs .partials)
 
+-- all places stand in the slots, so that a free one is found behind the last partial
+unfoldable pub goodPlaces : List ℕ → Bool
+goodPlaces xs = every (placeRaw xs (piecesOn xs)) (from 0 (placesFor (piecesOn xs)))
+
 unfoldable pub goodExtents : List ℕ → Bool
 goodExtents xs = extentsOk (decode xs) [] (decode xs .extents)
 
@@ -71,7 +80,7 @@ goodList xs = listingOk (decode xs) (decode xs .listing)
 -- ---- the whole test, behind refusal 3
 unfoldable pub goodMemory : List ℕ → Bool
 goodMemory xs =
-    roomy xs && (goodHead xs && (goodPieces xs && (goodPartials xs && (goodExtents xs && goodList xs))))
+    roomy xs && (goodHead xs && (goodPieces xs && (goodPartials xs && (goodPlaces xs && (goodExtents xs && goodList xs)))))
 
 -- ---- ranks beside the memory
 -- the first n keys are the ranks of the picker's pieces
