@@ -10,6 +10,7 @@ pub mod Phases
 pub mod Tallies
 pub mod WalkLaws
 -- ---- the list
+pub mod BucketLaws
 pub mod GroupTurns
 pub mod GroupRise
 pub mod GroupMoves
