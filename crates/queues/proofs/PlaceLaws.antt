@@ -1,0 +1,140 @@
+-- The places of a queue: one partial more, the partials that stand at them, and that they rise below the number of partials. Assumes nothing.
+use mathlib.Core.Path.{_≡_, refl, ap, _∙_}
+use mathlib.Core.Bool.{Bool, true, false, cond}
+use mathlib.Core.List.{List, [], _∷_, _++_, append-nil}
+use Prim.Native.Nat.{ℕ, zero, suc, _+_, _≤_, _<_}
+use native.Mathlib.Nat.{not-suc-le-zero, le-of-suc-le-suc}
+use native.Mathlib.Numerals.{add-one}
+use native.Mathlib.Omega.{arith}
+use Rattle.types.specs.declared.queue.DownloadQueue.{DownloadQueue}
+use Rattle.types.specs.Queue.{plainOf}
+use Rattle.model.specs.Lists.{at, each, filter, from, size}
+use Rattle.model.specs.State.{Partial, Picker, sameQueue, pieceAt}
+use Rattle.model.specs.Partials.{inQueue}
+use Rattle.model.proofs.Tallies.{length-from}
+use Rattle.model.proofs.PartialLaws.{size-filter-le}
+use Rattle.layout.specs.Layout.{noPartial, partialIn}
+use Rattle.queues.specs.Queues.{queueIn, placesBelow, placesIn}
+
+-- ---- one more
+module _ {A : Type 0} (t : A → Bool) where
+  filter-append : (l m : List A) → filter t (l ++ m) ≡ filter t l ++ filter t m
+  unfolding filter
+  filter-append [] m = refl
+  filter-append (x ∷ xs) m = go (t x) (filter-append xs m)
+    where
+      go : (p : Bool) → filter t (xs ++ m) ≡ filter t xs ++ filter t m
+          → cond p (x ∷ filter t (xs ++ m)) (filter t (xs ++ m)) ≡ cond p (x ∷ filter t xs) (filter t xs) ++ filter t m
+      go true e = ap (λ (l : List A). x ∷ l) e
+      go false e = e
+
+  filter-one : (x : A) → filter t (x ∷ []) ≡ cond (t x) (x ∷ []) []
+  unfolding filter
+  filter-one x = refl
+
+from-more : (k n : ℕ) → from k (suc n) ≡ from k n ++ ((k + n) ∷ [])
+unfolding from
+from-more k zero = ap (λ (j : ℕ). j ∷ []) (omega arith)
+from-more k (suc n) =
+    ap (λ (l : List ℕ). k ∷ l) (from-more (suc k) n ∙ ap (λ (j : ℕ). from (suc k) n ++ (j ∷ [])) (omega arith))
+
+module _ (q : DownloadQueue) (s : Picker) (n : ℕ) where
+  below-more : placesBelow q s (n + 1) ≡ placesBelow q s n ++ cond (sameQueue (queueIn s n) q) (n ∷ []) []
+  unfolding placesBelow
+  below-more =
+      let t : ℕ → Bool = λ k. sameQueue (queueIn s k) q in
+      ap (λ (m : ℕ). filter t (from 0 m)) (add-one n)
+      ∙ ap (filter t) (from-more 0 n ∙ ap (λ (j : ℕ). from 0 n ++ (j ∷ [])) (omega arith))
+      ∙ filter-append t (from 0 n) (n ∷ []) ∙ ap (λ (l : List ℕ). filter t (from 0 n) ++ l) (filter-one t n)
+
+  -- the next partial is in the queue
+  pub below-in : sameQueue (queueIn s n) q ≡ true → placesBelow q s (n + 1) ≡ placesBelow q s n ++ (n ∷ [])
+  below-in e = below-more ∙ ap (λ (p : Bool). placesBelow q s n ++ cond p (n ∷ []) []) e
+
+  -- or in another
+  pub below-out : sameQueue (queueIn s n) q ≡ false → placesBelow q s (n + 1) ≡ placesBelow q s n
+  below-out e = below-more ∙ ap (λ (p : Bool). placesBelow q s n ++ cond p (n ∷ []) []) e ∙ append-nil (placesBelow q s n)
+
+  pub below-few : size (placesBelow q s n) ≤ n
+  unfolding placesBelow size
+  below-few = omega (arith, size-filter-le (λ k. sameQueue (queueIn s k) q) (from 0 n), length-from 0 n)
+
+pub below-none : (q : DownloadQueue) (s : Picker) → placesBelow q s 0 ≡ []
+unfolding placesBelow filter from
+below-none q s = refl
+
+-- ---- the partials of a queue
+module _ {A B : Type 0} (f : A → B) (t : B → Bool) where
+  each-filter : (l : List A) → each f (filter (λ x. t (f x)) l) ≡ filter t (each f l)
+  unfolding each filter
+  each-filter [] = refl
+  each-filter (x ∷ xs) = go (t (f x)) (each-filter xs)
+    where
+      go : (p : Bool) → each f (filter (λ y. t (f y)) xs) ≡ filter t (each f xs)
+          → each f (cond p (x ∷ filter (λ y. t (f y)) xs) (filter (λ y. t (f y)) xs)) ≡ cond p (f x ∷ filter t (each f xs)) (filter t (each f xs))
+      go true e = ap (λ (l : List B). f x ∷ l) e
+      go false e = e
+
+each-shift : {A : Type 0} (f : ℕ → A) (k n : ℕ) → each f (from (suc k) n) ≡ each (λ j. f (suc j)) (from k n)
+unfolding each from
+each-shift f k zero = refl
+each-shift {A = A} f k (suc n) = ap (λ (l : List A). f (suc k) ∷ l) (each-shift f (suc k) n)
+
+each-at : {A : Type 0} (d : A) (l : List A) → each (at d l) (from 0 (size l)) ≡ l
+unfolding each from at size
+each-at d [] = refl
+each-at {A = A} d (x ∷ xs) = ap (λ (l : List A). x ∷ l) (each-shift (at d (x ∷ xs)) 0 (size xs) ∙ each-at d xs)
+
+-- the partials at a queue's places are the queue's
+pub places-queue : (q : DownloadQueue) (s : Picker) → each (partialIn s) (placesIn q s) ≡ inQueue q s
+unfolding placesIn placesBelow inQueue queueIn partialIn
+places-queue q s =
+    let t : Partial → Bool = λ d. sameQueue (plainOf (pieceAt s (d .piece) .state)) q in
+    each-filter (at noPartial (s .partials)) t (from 0 (size (s .partials))) ∙ ap (filter t) (each-at noPartial (s .partials))
+
+-- ---- their order
+-- strictly rising, from lo up to and without hi
+pub record Rising (lo hi : ℕ) (l : List ℕ) : Type 0 where
+  pub above : (i : ℕ) → i < size l → lo ≤ at 0 l i
+  pub below : (i : ℕ) → i < size l → at 0 l i < hi
+  pub rises : (i j : ℕ) → i < j → j < size l → at 0 l i < at 0 l j
+
+module _ (lo hi : ℕ) (l : List ℕ) (r : Rising (suc lo) hi l) where
+  rising-cons : lo < hi → Rising lo hi (lo ∷ l)
+  unfolding size at
+  rising-cons h = record { above = low; below = high; rises = up }
+    where
+      low : (i : ℕ) → i < size (lo ∷ l) → lo ≤ at 0 (lo ∷ l) i
+      low zero g = omega arith
+      low (suc i) g = omega (arith, r .above i (le-of-suc-le-suc g))
+
+      high : (i : ℕ) → i < size (lo ∷ l) → at 0 (lo ∷ l) i < hi
+      high zero g = h
+      high (suc i) g = r .below i (le-of-suc-le-suc g)
+
+      up : (i j : ℕ) → i < j → j < size (lo ∷ l) → at 0 (lo ∷ l) i < at 0 (lo ∷ l) j
+      up i zero e g = absurd (not-suc-le-zero e)
+      up zero (suc j) e g = r .above j (le-of-suc-le-suc g)
+      up (suc i) (suc j) e g = r .rises i j (le-of-suc-le-suc e) (le-of-suc-le-suc g)
+
+  rising-lower : Rising lo hi l
+  rising-lower = record { above = λ i h. omega (arith, r .above i h); below = r .below; rises = r .rises }
+
+rising-filter : (t : ℕ → Bool) (k n hi : ℕ) → k + n ≤ hi → Rising k hi (filter t (from k n))
+unfolding filter from size
+rising-filter t k zero hi h =
+    record {
+      above = λ i g. absurd (not-suc-le-zero g);
+      below = λ i g. absurd (not-suc-le-zero g);
+      rises = λ i j e g. absurd (not-suc-le-zero g);
+    }
+rising-filter t k (suc n) hi h = go (t k) (rising-filter t (suc k) n hi (omega arith))
+  where
+    go : (p : Bool) → Rising (suc k) hi (filter t (from (suc k) n)) → Rising k hi (cond p (k ∷ filter t (from (suc k) n)) (filter t (from (suc k) n)))
+    go true r = rising-cons k hi _ r (omega arith)
+    go false r = rising-lower k hi _ r
+
+-- the places of a queue rise, and are places of partials
+pub places-rising : (q : DownloadQueue) (s : Picker) → Rising 0 (size (s .partials)) (placesIn q s)
+unfolding placesIn placesBelow
+places-rising q s = rising-filter (λ k. sameQueue (queueIn s k) q) 0 (size (s .partials)) (size (s .partials)) (omega arith)

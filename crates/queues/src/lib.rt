@@ -1,0 +1,74 @@
+// The download queues: four rows of 512 places, one sorted row for each queue. A row holds the places, among the partials, of the partials whose
+// pieces are in its queue.
+ghost use mathlib.Core.Path.{_≡_};
+ghost use mathlib.Core.Bool.{true};
+ghost use mathlib.Core.List.{[]};
+ghost use Prim.Native.Nat.{_+_, _<_};
+ghost use Rattle.types.specs.Queue.{queueNumber};
+ghost use Rattle.model.specs.Lists.{at, put, size};
+ghost use Rattle.model.specs.WellFormed.{wellFormed};
+ghost use Rattle.layout.specs.Layout.{decode, Room};
+ghost use Rattle.queues.specs.Queues.{queueIn, Shaped, Queued};
+
+// The number of the queue of partial k, without its direction.
+pub fn queue_of(mem: &[u64], s: layout::Shape, k: usize) -> usize
+    requires { ⌜ Room s (now mem) ⌝ }
+    requires { ⌜ wellFormed (decode (now mem)) ≡ true ⌝ }
+    requires { ⌜ k < size (decode (now mem) .partials) ⌝ }
+    ensures { λ r. ⌜ r ≡ queueNumber (queueIn (decode (now (mem .entry))) k) ⌝ }
+{
+    let piece = layout::idx(records::partial_piece(mem, s, k));
+    let state = layout::idx(fields::get_state(mem, s, piece));
+    if state < 5 {
+        return state;
+    }
+    state - 5
+}
+
+// Place k behind those that row q has.
+fn enter(rows: &mut [[u32; 512]; 4], sizes: &mut [usize; 4], q: usize, k: usize)
+    requires { ⌜ q < 4 ⌝ }
+    requires { ⌜ (at 0 (now sizes) q < 512) × (k < 512) ⌝ }
+    ensures { λ _. ⌜ now (rows .exit) ≡ put q (put (at 0 (now (sizes .entry)) q) k (at [] (now (rows .entry)) q)) (now (rows .entry)) ⌝ }
+    ensures { λ _. ⌜ now (sizes .exit) ≡ put q (at 0 (now (sizes .entry)) q + 1) (now (sizes .entry)) ⌝ }
+{
+    let n = sizes[q];
+    rows[q][n] = k as u32;
+    sizes[q] = n + 1;
+}
+
+// All partials in the rows of their queues, whatever the rows held before.
+pub fn download_queues(
+    mem: &[u64],
+    s: layout::Shape,
+    rows: &mut [[u32; 512]; 4],
+    sizes: &mut [usize; 4],
+)
+    requires { ⌜ Room s (now mem) ⌝ }
+    requires { ⌜ wellFormed (decode (now mem)) ≡ true ⌝ }
+    requires { ⌜ Shaped (now rows) ⌝ }
+    ensures { λ _. ⌜ Queued (decode (now (mem .entry))) (now (rows .exit)) (now (sizes .exit)) ⌝ }
+{
+    let n = records::partial_count(mem, s);
+    *sizes = [0; 4];
+    let mut k = 0;
+    while k < n {
+        let q = queue_of(mem, s, k);
+        enter(rows, sizes, q, k);
+        k += 1;
+    }
+}
+
+fn index_of(x: u32) -> usize
+    ensures { λ r. ⌜ r ≡ x ⌝ }
+{
+    x as usize
+}
+
+// Place j of row q.
+pub fn place_at(rows: &[[u32; 512]; 4], q: usize, j: usize) -> usize
+    requires { ⌜ (q < 4) × (j < 512) ⌝ }
+    ensures { λ r. ⌜ r ≡ at 0 (at [] (now (rows .entry)) q) j ⌝ }
+{
+    index_of(rows[q][j])
+}
