@@ -1,24 +1,28 @@
-"""`python3 -m compare.list_ops COUNT SEED`: list operations as the unchanged Rust does them, for a program that runs the proved code.
+"""`python3 -m compare.list_ops COUNT SEED`: pickers led through list operations, for a program that runs the proved code beside.
 
-Each is a call of the oracle on a picker built field by field that changes the list once: a peer more or less, another wish of an Open
-piece, or the rebuild of a stale list by a pick. A line for each, words parted by spaces, lists by commas (`-` for none):
+Oracle and reference go through the same calls and are compared after each. Each call changes the list once: a peer more or less, another
+wish of an Open piece, the rebuild of a stale list by a pick; or it makes the list stale: a whole-copy peer more or less. A line for
+each, words parted by spaces, lists by commas (`-` for none):
 
-    relist PIECE OLD USED KEYS LIST DRAWS AFTER
-    rebuild USED KEYS DRAWS AFTER
+    start SEEDS PIECES LIST
+    relist PIECE USED SEEDS PIECES DRAWS AFTER
+    stale
+    rebuild USED SEEDS PIECES DRAWS AFTER
 
-KEYS are the ranks of all pieces after the change, OLD the piece's rank before it, DRAWS the words lent, USED how many were used."""
+PIECES are all pieces after the call, each as count.state.wish.had; DRAWS the words lent, USED how many were used; AFTER is the list."""
 import argparse
 import random
 import sys
 
-from compare.run import Mismatch, ask_oracle
+from compare.lists import Limits, Step, follow, led
+from compare.run import Figures, Mismatch, compare
 from compare.states import a_picker, huge_geometry, small_geometry, wide_geometry
-from reference.bucket import bucket_at
 from reference.calls import Seeded
-from reference.image import image, read
+from reference.image import image
 from reference.state import MIN_DRAWS, OPEN
 
 SHOWN_DRAWS = 8
+LENGTH = 15
 
 
 def a_geometry(rng):
@@ -26,72 +30,70 @@ def a_geometry(rng):
     return (huge_geometry if kind < 0.02 else wide_geometry if kind < 0.3 else small_geometry)(rng)
 
 
-def call_on(rng, s, seed):
-    """A call that changes the list once, and the piece it is about, or None for a rebuild."""
-    draws = f" draws={MIN_DRAWS}~{seed}"
-    n = len(s.pieces)
-    if s.stale:
-        return f"pick_pieces 1 1 0 1000 - {n} {bytes(-(-n // 8)).hex()} -{draws}", None
+def a_call(rng, s):
+    """A call that changes the list once, makes it anew or makes it stale, and the piece it is about."""
+    n, kind = len(s.pieces), rng.random()
+    if s.stale and kind < 0.7:
+        return f"pick_pieces 1 1 0 1000 - {n} {bytes(-(-n // 8)).hex()} -", None
+    if kind < 0.05:
+        return rng.choice(["inc_refcount_all", "dec_refcount_all"]), None
     i = rng.randrange(n)
-    calls = [f"inc_refcount {i}", f"dec_refcount {i}"]
-    if s.pieces[i].state == OPEN:
-        calls.append(f"set_piece_priority {i} {rng.randint(0, 7)}")
-    return rng.choice(calls) + draws, i
+    if s.pieces[i].state == OPEN and rng.random() < 0.4:
+        return f"set_piece_priority {i} {rng.randint(0, 7)}", i
+    return rng.choice(["inc_refcount", "dec_refcount"]) + f" {i}", i
 
 
 def shown(numbers):
     return ",".join(map(str, numbers)) or "-"
 
 
-def ranks(s):
-    return [bucket_at(s, i) + 1 for i in range(len(s.pieces))]
+def pieces(s):
+    return f"{s.seeds} " + shown(f"{p.count}.{p.state}.{p.wish}.{int(p.had)}" for p in s.pieces)
 
 
-def line_of(s, t, i, used, draws):
-    """The operation that led from s to t, or None where the list was not changed once."""
-    if i is None:
-        words = [draws[k] for k in range(used)]
-        return f"rebuild {used} {shown(ranks(t))} {shown(words)} {shown(t.order)}"
-    if t.stale:
+def operation(before, after, i, used, draws):
+    """The line of a call that led from one state to the other, or None where it left the list as it was, or stale."""
+    if after.stale:
+        return None if before.stale else "stale"
+    if i is None and not before.stale:
         return None
-    words = [draws[k] for k in range(SHOWN_DRAWS)]
-    return f"relist {i} {bucket_at(s, i) + 1} {used} {shown(ranks(t))} {shown(s.order)} {shown(words)} {shown(t.order)}"
+    words = shown(draws[k] for k in range(used if before.stale else SHOWN_DRAWS))
+    what = "rebuild" if before.stale else f"relist {i}"
+    return f"{what} {used} {pieces(after)} {words} {shown(after.order)}"
 
 
-def operations(rng, count):
-    """Calls in one script, and what each is about."""
-    jobs = []
-    for _ in range(count):
-        s, seed = a_picker(rng, *a_geometry(rng)), rng.getrandbits(32)
-        line, i = call_on(rng, s, seed)
-        jobs.append((s, i, seed, line))
-    return jobs
-
-
-def ask(jobs):
-    script = "".join(f"read {image(s).hex()}\n{line}\n" for s, _, _, line in jobs) + "end\n"
-    found = ask_oracle(script)
-    for k, (s, i, seed, _) in enumerate(jobs):
-        _, answer, shown_image = found[2 * k + 1]
-        if answer.startswith("refused"):
-            continue
-        t = s if shown_image == "image same" else read(bytes.fromhex(shown_image[6:]))
-        line = line_of(s, t, i, int(answer.rsplit(" ", 1)[1]), Seeded(MIN_DRAWS, seed))
-        if line:
-            yield line
+def lead(rng):
+    """A picker led through calls: the steps, and the lines of its list operations."""
+    s = a_picker(rng, *a_geometry(rng))
+    steps = follow(["zero", f"read {image(s).hex()}"])
+    lines = [f"start {pieces(s)} {shown(s.order)}"]
+    for _ in range(LENGTH):
+        call, i = a_call(rng, s)
+        seed = rng.getrandbits(32)
+        line = call if call.endswith("_all") else f"{call} draws={MIN_DRAWS}~{seed}"
+        outcome = led(s, line)
+        now = steps[-1].image if outcome.state is s else image(outcome.state)
+        steps.append(Step(line, outcome.answer, now))
+        if not outcome.answer.startswith("refused"):
+            lines.append(operation(s, outcome.state, i, outcome.used, Seeded(MIN_DRAWS, seed)))
+        s = outcome.state
+    return steps, [line for line in lines if line]
 
 
 def main():
     ap = argparse.ArgumentParser()
-    ap.add_argument("count", type=int)
+    ap.add_argument("count", type=int, help="pickers")
     ap.add_argument("seed", type=int)
     a = ap.parse_args()
+    rng = random.Random(a.seed)
+    led_ones = [lead(rng) for _ in range(a.count)]
     try:
-        for line in ask(operations(random.Random(a.seed), a.count)):
-            print(line)
-    except Mismatch as why:
+        compare([step for steps, _ in led_ones for step in steps], Figures())
+    except (Mismatch, Limits) as why:
         print(f"list_ops: {why}", file=sys.stderr)
         return 1
+    for _, lines in led_ones:
+        print("\n".join(lines))
     print("end")
     return 0
 

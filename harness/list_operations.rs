@@ -8,8 +8,15 @@ pub struct Listed {
 
 #[link(name = "lists_c", kind = "static")]
 extern "C" {
+    fn ls_bucket(seeds: u64, count: u64, state: u64, wish: u64, had: bool) -> u64;
     fn ls_relist(list: *mut u64, list_len: usize, keys: *const u64, keys_len: usize, n: usize, x: u64, old: u64, draws: *const u32, draws_len: usize, t: usize) -> Listed;
     fn ls_update_pieces(list: *mut u64, list_len: usize, keys: *const u64, keys_len: usize, n: usize, draws: *const u32, draws_len: usize, t: usize) -> Listed;
+}
+
+/// The rank of a piece.
+pub fn bucket(seeds: u64, count: u64, state: u64, wish: u64, had: bool) -> u64 {
+    assert!(count <= 1000 && wish <= 7);
+    unsafe { ls_bucket(seeds, count, state, wish, had) }
 }
 
 /// The first n places mended after x came from rank `old` to the one that `keys` has. They hold a list that was right before.

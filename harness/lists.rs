@@ -1,4 +1,5 @@
-//! Runs the proved list operations on those of standard input, which the unchanged Rust made, and compares list and draws used.
+//! Leads lists in lent memory through the list operations of standard input, by the proved code, and compares list and draws used with
+//! what oracle and reference have after each.
 //! `harness/run` builds it. Prints how many were compared; ends with status 1 at the first difference, 2 on bad input.
 
 mod list_operations;
@@ -25,56 +26,78 @@ fn words(line: usize, text: &str) -> Vec<u32> {
     numbers(line, text).into_iter().map(|w| u32::try_from(w).unwrap_or_else(|_| bad(line, "not a word of 32 bits"))).collect()
 }
 
-/// The list in a slice of as many places as there are pieces, and one that nobody may touch.
-fn lent(list: &[u64], pieces: usize) -> Vec<u64> {
-    let mut out = list.to_vec();
-    out.resize(pieces + 1, BEYOND);
-    out
+/// A picker's list in lent memory, of as many places as there are pieces and one that nobody may touch, and its pieces' ranks.
+struct Memory {
+    words: Vec<u64>,
+    len: usize,
+    keys: Vec<u64>,
 }
 
-fn compare(line: usize, lent: &[u64], made: Listed, used: u64, after: &[u64]) {
-    if lent[..made.len] != *after || made.used as u64 != used || lent[lent.len() - 1] != BEYOND {
-        eprintln!("lists: line {line}: {:?} with {} draws where {after:?} with {used} is due", &lent[..made.len], made.used);
-        exit(1);
+/// The ranks of pieces, each as count.state.wish.had.
+fn ranks(line: usize, seeds: &str, pieces: &str) -> Vec<u64> {
+    let seeds = numbers(line, seeds)[0];
+    let rank = |piece: &str| {
+        let w: Vec<u64> = piece.split('.').map(|w| w.parse().unwrap_or_else(|_| bad(line, "not a number"))).collect();
+        match w[..] {
+            [count, state, wish, had] => list_operations::bucket(seeds, count, state, wish, had == 1),
+            _ => bad(line, "not a piece"),
+        }
+    };
+    pieces.split(',').map(rank).collect()
+}
+
+impl Memory {
+    fn start(line: usize, w: &[&str]) -> Memory {
+        let (keys, list) = (ranks(line, w[0], w[1]), numbers(line, w[2]));
+        let mut words = list.clone();
+        words.resize(keys.len() + 1, BEYOND);
+        Memory { words, len: list.len(), keys }
+    }
+
+    fn relist(&mut self, line: usize, w: &[&str]) {
+        let x = numbers(line, w[0])[0];
+        let old = self.keys[x as usize];
+        self.keys = ranks(line, w[2], w[3]);
+        let room = self.keys.len();
+        let made = list_operations::relist(&mut self.words[..room], &self.keys, self.len, x, old, &words(line, w[4]));
+        self.compare(line, made, numbers(line, w[1])[0], &numbers(line, w[5]));
+    }
+
+    fn rebuild(&mut self, line: usize, w: &[&str]) {
+        self.keys = ranks(line, w[1], w[2]);
+        let room = self.keys.len();
+        let made = list_operations::update_pieces(&mut self.words[..room], &self.keys, &words(line, w[3]));
+        self.compare(line, made, numbers(line, w[0])[0], &numbers(line, w[4]));
+    }
+
+    fn compare(&mut self, line: usize, made: Listed, used: u64, after: &[u64]) {
+        self.len = made.len;
+        let list = &self.words[..made.len];
+        if *list != *after || made.used as u64 != used || self.words[self.keys.len()] != BEYOND {
+            eprintln!("lists: line {line}: {list:?} with {} draws where {after:?} with {used} is due", made.used);
+            exit(1);
+        }
     }
 }
 
-fn relist(line: usize, w: &[&str]) {
-    let (x, old, used) = (numbers(line, w[0])[0], numbers(line, w[1])[0], numbers(line, w[2])[0]);
-    let (keys, list, draws, after) = (numbers(line, w[3]), numbers(line, w[4]), words(line, w[5]), numbers(line, w[6]));
-    let mut mem = lent(&list, keys.len());
-    let room = keys.len();
-    let made = list_operations::relist(&mut mem[..room], &keys, list.len(), x, old, &draws);
-    compare(line, &mem, made, used, &after);
-}
-
-fn rebuild(line: usize, w: &[&str]) {
-    let used = numbers(line, w[0])[0];
-    let (keys, draws, after) = (numbers(line, w[1]), words(line, w[2]), numbers(line, w[3]));
-    let mut mem = lent(&[], keys.len());
-    let room = keys.len();
-    let made = list_operations::update_pieces(&mut mem[..room], &keys, &draws);
-    compare(line, &mem, made, used, &after);
-}
-
 fn main() {
-    let (mut done, mut ended) = (0u64, false);
+    let (mut done, mut ended, mut memory) = (0u64, false, None);
     for (k, line) in std::io::stdin().lock().lines().enumerate() {
         let line = line.unwrap_or_else(|e| bad(k + 1, &e.to_string()));
         let w: Vec<&str> = line.split(' ').collect();
-        match (ended, w[0], w.len()) {
-            (false, "relist", 8) => relist(k + 1, &w[1..]),
-            (false, "rebuild", 5) => rebuild(k + 1, &w[1..]),
-            (false, "end", 1) => {
-                ended = true;
-                continue;
-            }
+        match (w[0], w.len(), &mut memory) {
+            _ if ended => bad(k + 1, "a line after `end`"),
+            ("start", 4, _) => memory = Some(Memory::start(k + 1, &w[1..])),
+            ("relist", 7, Some(m)) => m.relist(k + 1, &w[1..]),
+            ("rebuild", 6, Some(m)) => m.rebuild(k + 1, &w[1..]),
+            ("stale", 1, Some(m)) => m.len = 0,
+            ("end", 1, _) => ended = true,
             _ => bad(k + 1, "no list operation"),
         }
-        done += 1;
+        done += u64::from(w[0].starts_with("re"));
     }
     if !ended {
         bad(0, "the input has no `end`");
     }
-    println!("{done} list operations as the Rust does them");
+    println!("{done} list operations: memory, reference and oracle agree");
 }

@@ -1,4 +1,4 @@
-// The list operations for callers in C and Rust. Only for comparison and timing: a caller has to meet what they require.
+// The bucket number and the list operations for callers in C and Rust. Only for comparison and timing: a caller has to meet what they require.
 ghost use Prim.Native.Nat.{_+_, _≤_, _<_};
 ghost use mathlib.Core.Path.{_≡_};
 ghost use lib.ListN.{length, take};
@@ -12,6 +12,15 @@ ghost use Rattle.rebuild.specs.Rebuilding.{Ranked};
 pub struct Listed {
     pub len: usize,
     pub used: usize,
+}
+
+// The rank of a piece.
+#[no_mangle]
+pub extern "C" fn ls_bucket(seeds: u64, count: u64, state: u64, wish: u64, had: bool) -> u64
+    requires { ⌜ count ≤ 1000 ⌝ }
+    requires { ⌜ wish ≤ 7 ⌝ }
+{
+    bucket::bucket(seeds, count, state, wish, had)
 }
 
 #[no_mangle]
