@@ -1,6 +1,8 @@
 //! Times the proved memory test against the same test written by hand in Rust, on the same memory, and against a bare pass that sums the
 //! same live words. `harness/bench` builds and runs it. A line for each size: microseconds, and the two ratios.
 
+mod floor;
+
 use std::hint::black_box;
 use std::time::Instant;
 
@@ -243,4 +245,5 @@ fn main() {
             }
         }
     }
+    floor::report();
 }

@@ -1,0 +1,109 @@
+//! How near to a bare pass the memory test can come: what no form of it leaves out, each part alone in the fastest form known, by hand.
+
+use super::{memory, time, Shape};
+use std::hint::black_box;
+
+/// The ranges of the pieces' words, by bits alone and without a branch.
+fn ranges_alone(mem: &[u64], s: &Shape) -> bool {
+    let (most, size) = (1000 - mem[2], mem[1]);
+    let region = |f: usize| &mem[s.piece(f, 0)..s.piece(f, 0) + s.n];
+    let (counts, states, wishes, hads, pads) = (region(0), region(1), region(2), region(3), region(4));
+    let (mut high, mut low) = (0u64, 0u64);
+    for i in 0..s.n {
+        high |= counts[i] | most.wrapping_sub(counts[i]) | pads[i] | size.wrapping_sub(pads[i]) | states[i] | 6u64.wrapping_sub(states[i]);
+        low |= (wishes[i] & !7) | (hads[i] & !1) | ((states[i] ^ 4) & 0u64.wrapping_sub(hads[i]));
+    }
+    high >> 63 == 0 && low == 0
+}
+
+/// By had, wish and state: the factor of a piece's rank, and what is taken off.
+fn rank_table() -> [u32; 128] {
+    std::array::from_fn(|i| {
+        let (had, wish, state) = (i >> 6, i >> 3 & 7, i & 7);
+        let listed = had == 0 && wish > 0 && state != 1 && state != 2;
+        let off = if state >= 5 { 0 } else if state == 4 { 1 } else { 2 };
+        if listed { (8 - wish as u32) * 3 | off << 8 } else { 0 }
+    })
+}
+
+/// The ranks of pieces whose words are in range, by that table.
+fn ranks_alone(mem: &[u64], s: &Shape, table: &[u32; 128], keys: &mut [u16; 4096]) {
+    let seeds = mem[2];
+    let region = |f: usize| &mem[s.piece(f, 0)..s.piece(f, 0) + s.n];
+    let (counts, states, wishes, hads) = (region(0), region(1), region(2), region(3));
+    for (i, key) in keys[..s.n].iter_mut().enumerate() {
+        let entry = table[(hads[i] << 6 | wishes[i] << 3 | states[i]) as usize & 127];
+        let rank = (counts[i] as u32 + 1) * (entry & 255) - (entry >> 8);
+        *key = if counts[i] | seeds == 0 { 0 } else { rank as u16 };
+    }
+}
+
+/// The list, each piece's key taken as it is met: none twice, none without a rank, ranks never falling, none left.
+fn list_alone(mem: &[u64], s: &Shape, keys: &mut [u16; 4096]) -> bool {
+    let mut last = 1;
+    for &i in &mem[s.piece(5, 0)..s.piece(5, 0) + mem[6] as usize] {
+        let i = i as usize;
+        if i >= s.n || keys[i & 4095] < last {
+            return false;
+        }
+        last = std::mem::take(&mut keys[i & 4095]);
+    }
+    keys[..s.n].iter().fold(0, |any, key| any | key) == 0
+}
+
+/// The blocks of a place, by bits alone: whether all are in range, how many are requested, how many not free.
+fn blocks_alone(mem: &[u64], s: &Shape, place: usize) -> (bool, u64, u64) {
+    let region = |f: usize| &mem[s.block(f, place, 0)..s.block(f, place, 0) + s.b];
+    let (states, asked, has, peers) = (region(0), region(1), region(2), region(3));
+    let (mut low, mut high, mut requested, mut busy) = (0u64, 0u64, 0, 0);
+    for j in 0..s.b {
+        low |= (states[j] & !3) | (has[j] & !1) | (peers[j] & has[j].wrapping_sub(1));
+        high |= asked[j] | 1000u64.wrapping_sub(asked[j]);
+        requested += states[j] & 1 & !(states[j] >> 1);
+        busy += (states[j] | states[j] >> 1) & 1;
+    }
+    (low == 0 && high >> 63 == 0, requested, busy)
+}
+
+/// The pieces' parts to a bare pass over the words of so many pieces.
+fn pieces_floor(n: usize) {
+    let (mem, s, table) = (memory(n, 16, 8), Shape { n, b: 16, m: n.min(512) }, rank_table());
+    let (mut keys, mut left) = ([0; 4096], [0; 4096]);
+    ranks_alone(&mem, &s, &table, &mut keys);
+    left[..n].copy_from_slice(&keys[..n]);
+    assert!(ranges_alone(&mem, &s) && list_alone(&mem, &s, &mut left));
+    let words = &mem[s.piece(0, 0)..s.piece(6, 0)];
+    let bare = time(|| { black_box(black_box(words).iter().fold(0u64, |x, y| x.wrapping_add(*y))); });
+    let ranges = time(|| { black_box(ranges_alone(black_box(&mem), &s)); }) / bare;
+    let ranks = time(|| ranks_alone(black_box(&mem), &s, &table, black_box(&mut left))) / bare;
+    let list = time(|| {
+        left[..n].copy_from_slice(&keys[..n]);
+        black_box(list_alone(black_box(&mem), &s, &mut left));
+    }) / bare;
+    println!("{n:6} pieces: ranges {ranges:.2}, ranks {ranks:.2}, list {list:.2}, together {:.2}", ranges + ranks + list);
+}
+
+/// The blocks to a bare pass over the words of so many partials of 256 blocks.
+fn blocks_floor(partials: usize) {
+    let (mem, s) = (memory(512, 256, partials), Shape { n: 512, b: 256, m: 512 });
+    let sum = |a: usize| mem[a..a + s.b].iter().fold(0u64, |x, y| x.wrapping_add(*y));
+    let places: Vec<usize> = (0..partials).map(|k| mem[s.partial(2, k)] as usize).collect();
+    let bare = time(|| for &place in black_box(&places) {
+        black_box((0..4).fold(0u64, |x, f| x.wrapping_add(sum(s.block(f, place, 0)))));
+    });
+    let blocks = time(|| for &place in black_box(&places) {
+        black_box(blocks_alone(black_box(&mem), &s, place));
+    });
+    println!("{partials:6} partials of 256 blocks: blocks {:.2}", blocks / bare);
+}
+
+/// What no form of the test leaves out, each part alone in the fastest form known, to a bare pass over the same words.
+pub fn report() {
+    println!("parts that no form of the test leaves out, to a bare pass over their words");
+    for n in [64, 1024, 4096] {
+        pieces_floor(n);
+    }
+    for partials in [8, 64, 400] {
+        blocks_floor(partials);
+    }
+}
