@@ -1,5 +1,5 @@
 //! Times the proved list operations against the Rust's: the rebuild of a stale list, and the list mended after a piece's count changed.
-//! `harness/bench` builds and runs it. A line for each size: microseconds here, and the ratio to the Rust.
+//! `harness/bench` builds and runs it. A line for each size and spread of counts: microseconds here, and the ratio to the Rust.
 
 mod list_operations;
 
@@ -11,8 +11,9 @@ use std::time::Instant;
 
 const ROUNDS: usize = 400;
 
-fn counts(n: usize) -> Vec<u64> {
-    (0..n).map(|i| 1 + (i * 7 % 23) as u64).collect()
+/// The counts of n pieces, spread from 1 to `most`.
+fn counts(n: usize, most: usize) -> Vec<u64> {
+    (0..n).map(|i| 1 + (i * 547 % most) as u64).collect()
 }
 
 /// The rank of an Open piece of wish 4.
@@ -37,19 +38,19 @@ fn empty_pick(p: &mut PiecePicker, none: &Bitfield) -> f64 {
     since(start)
 }
 
-fn rust_picker(n: usize) -> PiecePicker {
-    let mut p = PiecePicker::new(n as i64 * 16384, 16384);
-    for (i, c) in counts(n).into_iter().enumerate() {
-        for _ in 0..c {
+fn rust_picker(counts: &[u64]) -> PiecePicker {
+    let mut p = PiecePicker::new(counts.len() as i64 * 16384, 16384);
+    for (i, c) in counts.iter().enumerate() {
+        for _ in 0..*c {
             p.inc_refcount(PieceIndex(i as i32));
         }
     }
     p
 }
 
-fn rust_rebuild(n: usize) -> f64 {
-    let mut p = rust_picker(n);
-    let none = Bitfield::with_size(n);
+fn rust_rebuild(counts: &[u64]) -> f64 {
+    let mut p = rust_picker(counts);
+    let none = Bitfield::with_size(counts.len());
     let stale = best(|| {
         p.inc_refcount_all();
         p.dec_refcount_all();
@@ -58,12 +59,12 @@ fn rust_rebuild(n: usize) -> f64 {
     stale - best(|| empty_pick(&mut p, &none))
 }
 
-fn rust_change(n: usize) -> f64 {
-    let mut p = rust_picker(n);
-    empty_pick(&mut p, &Bitfield::with_size(n));
+fn rust_change(counts: &[u64]) -> f64 {
+    let mut p = rust_picker(counts);
+    empty_pick(&mut p, &Bitfield::with_size(counts.len()));
     let mut i = 0;
     best(|| {
-        i = (i + 37) % n as i32;
+        i = (i + 37) % counts.len() as i32;
         let start = Instant::now();
         p.inc_refcount(PieceIndex(i));
         p.dec_refcount(PieceIndex(i));
@@ -71,9 +72,8 @@ fn rust_change(n: usize) -> f64 {
     })
 }
 
-fn our_rebuild(n: usize, draws: &[u32]) -> f64 {
-    let counts = counts(n);
-    let mut list = vec![0; n];
+fn our_rebuild(counts: &[u64], draws: &[u32]) -> f64 {
+    let mut list = vec![0; counts.len()];
     best(|| {
         let start = Instant::now();
         let keys: Vec<u64> = counts.iter().map(|c| rank(*c)).collect();
@@ -82,8 +82,9 @@ fn our_rebuild(n: usize, draws: &[u32]) -> f64 {
     })
 }
 
-fn our_change(n: usize, draws: &[u32]) -> f64 {
-    let mut keys: Vec<u64> = counts(n).iter().map(|c| rank(*c)).collect();
+fn our_change(counts: &[u64], draws: &[u32]) -> f64 {
+    let n = counts.len();
+    let mut keys: Vec<u64> = counts.iter().map(|c| rank(*c)).collect();
     let mut list = vec![0; n];
     update_pieces(&mut list, &keys, draws);
     let mut i = 0;
@@ -101,9 +102,10 @@ fn our_change(n: usize, draws: &[u32]) -> f64 {
 
 fn main() {
     let draws: Vec<u32> = (0..4352u32).map(|i| i.wrapping_mul(2654435761)).collect();
-    println!("pieces   rebuild µs   to the Rust   change µs   to the Rust");
-    for n in [64, 1024, 4096] {
-        let (a, b) = (our_rebuild(n, &draws), our_change(n, &draws));
-        println!("{n:6} {a:12.2} {:13.2} {b:11.2} {:13.2}", a / rust_rebuild(n), b / rust_change(n));
+    println!("pieces   counts to   rebuild µs   to the Rust   change µs   to the Rust");
+    for (n, most) in [(64, 23), (1024, 23), (4096, 23), (64, 900), (1024, 900), (4096, 900)] {
+        let counts = counts(n, most);
+        let (a, b) = (our_rebuild(&counts, &draws), our_change(&counts, &draws));
+        println!("{n:6} {most:11} {a:12.2} {:13.2} {b:11.2} {:13.2}", a / rust_rebuild(&counts), b / rust_change(&counts));
     }
 }
