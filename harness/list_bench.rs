@@ -1,10 +1,10 @@
-//! Times the proved list operations against the Rust's: the rebuild of a stale list, and the list mended after a piece's count changed.
+//! Times the proved list operations against the Rust's: the rebuild of a stale list, a piece added, its rank changed, a piece removed.
 //! `harness/bench` builds and runs it. A line for each size and spread of counts: microseconds here, and the ratio to the Rust.
 
 mod list_operations;
 
-use bitdaemon_common::{Bitfield, PieceIndex};
-use list_operations::{relist, update_pieces};
+use bitdaemon_common::{Bitfield, DownloadPriority, PieceIndex};
+use list_operations::{bucket, relist, update_pieces};
 use picker_rs::{NullPickerStats, PickerOptions, PiecePicker};
 use std::hint::black_box;
 use std::time::Instant;
@@ -18,7 +18,7 @@ fn counts(n: usize, most: usize) -> Vec<u64> {
 
 /// The rank of an Open piece of wish 4.
 fn rank(count: u64) -> u64 {
-    (count + 1) * 4 * 3 - 1
+    bucket(0, count, 4, 4, false)
 }
 
 fn best(mut f: impl FnMut() -> f64) -> f64 {
@@ -59,16 +59,40 @@ fn rust_rebuild(counts: &[u64]) -> f64 {
     stale - best(|| empty_pick(&mut p, &none))
 }
 
-fn rust_change(counts: &[u64]) -> f64 {
+/// A piece added, its count changed by one, a piece removed: so many microseconds each, on average over the pieces of a round.
+type Moves = [f64; 3];
+
+/// The pieces of a round, spread over all of them.
+fn spread(n: usize) -> Vec<usize> {
+    (0..16).map(|k| k * n / 16).collect()
+}
+
+fn each(pieces: &[usize], mut f: impl FnMut(usize)) -> f64 {
+    let start = Instant::now();
+    for &i in pieces {
+        f(i);
+    }
+    since(start) / pieces.len() as f64
+}
+
+fn best_moves(mut round: impl FnMut() -> Moves) -> Moves {
+    (0..ROUNDS).fold([f64::MAX; 3], |low, _| {
+        let now = round();
+        std::array::from_fn(|k| low[k].min(now[k]))
+    })
+}
+
+fn rust_moves(counts: &[u64]) -> Moves {
     let mut p = rust_picker(counts);
     empty_pick(&mut p, &Bitfield::with_size(counts.len()));
-    let mut i = 0;
-    best(|| {
-        i = (i + 37) % counts.len() as i32;
-        let start = Instant::now();
-        p.inc_refcount(PieceIndex(i));
-        p.dec_refcount(PieceIndex(i));
-        since(start) / 2.0
+    let pieces = spread(counts.len());
+    let piece = |i: usize| PieceIndex(i as i32);
+    best_moves(|| {
+        let up = each(&pieces, |i| p.inc_refcount(piece(i)));
+        let down = each(&pieces, |i| p.dec_refcount(piece(i)));
+        let remove = each(&pieces, |i| { black_box(p.set_piece_priority(piece(i), DownloadPriority::DONT_DOWNLOAD)); });
+        let add = each(&pieces, |i| { black_box(p.set_piece_priority(piece(i), DownloadPriority::DEFAULT)); });
+        [add, (up + down) / 2.0, remove]
     })
 }
 
@@ -82,30 +106,35 @@ fn our_rebuild(counts: &[u64], draws: &[u32]) -> f64 {
     })
 }
 
-fn our_change(counts: &[u64], draws: &[u32]) -> f64 {
+fn our_moves(counts: &[u64], draws: &[u32]) -> Moves {
     let n = counts.len();
     let mut keys: Vec<u64> = counts.iter().map(|c| rank(*c)).collect();
-    let mut list = vec![0; n];
+    let (mut list, mut len) = (vec![0; n], n);
     update_pieces(&mut list, &keys, draws);
-    let mut i = 0;
-    best(|| {
-        i = (i + 37) % n;
-        let (old, new) = (keys[i], keys[i] + 12);
-        let start = Instant::now();
-        for (from, to) in [(old, new), (new, old)] {
-            keys[i] = to;
-            black_box(relist(&mut list, &keys, n, i as u64, from, draws).len);
-        }
-        since(start) / 2.0
+    let pieces = spread(n);
+    let mut to = |i: usize, key: u64| {
+        let old = std::mem::replace(&mut keys[i], key);
+        len = relist(&mut list, &keys, len, i as u64, old, draws).len;
+    };
+    best_moves(|| {
+        let up = each(&pieces, |i| to(i, rank(counts[i] + 1)));
+        let down = each(&pieces, |i| to(i, rank(counts[i])));
+        let remove = each(&pieces, |i| to(i, 0));
+        let add = each(&pieces, |i| to(i, rank(counts[i])));
+        [add, (up + down) / 2.0, remove]
     })
 }
 
 fn main() {
     let draws: Vec<u32> = (0..4352u32).map(|i| i.wrapping_mul(2654435761)).collect();
-    println!("pieces   counts to   rebuild µs   to the Rust   change µs   to the Rust");
+    println!("pieces   counts to    rebuild µs, to the Rust        add           update         remove");
     for (n, most) in [(64, 23), (1024, 23), (4096, 23), (64, 900), (1024, 900), (4096, 900)] {
         let counts = counts(n, most);
-        let (a, b) = (our_rebuild(&counts, &draws), our_change(&counts, &draws));
-        println!("{n:6} {most:11} {a:12.2} {:13.2} {b:11.2} {:13.2}", a / rust_rebuild(&counts), b / rust_change(&counts));
+        let rebuild = our_rebuild(&counts, &draws);
+        print!("{n:6} {most:11} {rebuild:13.2} {:12.2}", rebuild / rust_rebuild(&counts));
+        for (ours, theirs) in our_moves(&counts, &draws).into_iter().zip(rust_moves(&counts)) {
+            print!(" {ours:8.2} {:6.2}", ours / theirs);
+        }
+        println!();
     }
 }

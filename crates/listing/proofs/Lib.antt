@@ -1,0 +1,5 @@
+pub mod Ranking
+pub mod Regions
+pub mod Renewals
+pub mod Mendings
+pub mod Moving

@@ -1,0 +1,111 @@
+-- The ranks by the words of the memory: of one piece, and of the pieces up to one. Assumes nothing.
+use mathlib.Core.Path.{_≡_, refl, sym, ap, _∙_}
+use mathlib.Core.Bool.{true}
+use mathlib.Core.List.{List}
+use Prim.Native.Nat.{ℕ, _+_, _≤_, _<_}
+use native.Mathlib.Decide.{ℕ-discrete}
+use native.Mathlib.Omega.{arith}
+use lib.Dec.{eqb, leb}
+use lib.ListN.{length, getD, set, length-set}
+use lib.Seq.{getD-set-same, getD-set-other}
+use borrow.Author.Tests.{leb-true}
+use Rattle.types.specs.Queue.{queueNumber}
+use Rattle.model.specs.State.{Picker, mostPeers, pieceAt, piecesIn}
+use Rattle.model.specs.Order.{rank, rankOf, bucket}
+use Rattle.model.specs.WellFormed.{pieceOk, wellFormed}
+use Rattle.model.proofs.SoundBody.{Frame, sound-body}
+use Rattle.model.proofs.SoundLaws.{wellFormed-sound}
+use Rattle.model.proofs.ListingLaws.{OnlyListing}
+use Rattle.model.proofs.Truths.{and-left, and-right}
+use Rattle.layout.specs.declared.spots.Shape.{Shape}
+use Rattle.layout.specs.Layout.{headWord, pieceWord, queueFrom, yes?, decode, Room}
+use Rattle.layout.proofs.Meanings.{pieces-number, count-is, state-is, wish-is, had-is}
+use Rattle.bucket.specs.Ranks.{Numbers, IsRank}
+use Rattle.listing.specs.Listings.{Ranges, Keyed}
+
+-- ---- a picker whose pieces pass their test has its numbers in range
+pub frame-ranges : (p : Picker) → Frame p → Ranges p
+unfolding pieceOk
+frame-ranges p g =
+    record {
+      count = λ i h. (
+          let l = leb-true (pieceAt p i .count + p .seeds) mostPeers (and-left _ _ (g .piece i h)) in
+          omega arith
+          );
+      wish = λ i h. leb-true (pieceAt p i .wish) 7 (and-left _ _ (and-right (leb (pieceAt p i .count + p .seeds) mostPeers) _ (g .piece i h)));
+    }
+
+-- and so a well-formed one
+pub well-formed-ranges : (p : Picker) → wellFormed p ≡ true → Ranges p
+well-formed-ranges p e = frame-ranges p (sound-body p (wellFormed-sound p e) .frame)
+
+-- the list does not matter to them
+pub only-ranges : (p q : Picker) → OnlyListing p q → Ranges p → Ranges q
+unfolding pieceAt piecesIn
+only-ranges p q o g =
+    record { count = λ i h. rw (o .pieces) (g .count i (rw (o .pieces) at h)); wish = λ i h. rw (o .pieces) (g .wish i (rw (o .pieces) at h)) }
+
+-- ---- one piece
+module _ (s : Shape) (xs : List ℕ) (r : Room s xs) (g : Ranges (decode xs)) (i : ℕ) (h : i < s .pieces) where
+  there : i < piecesIn (decode xs)
+  there = rw (pieces-number s xs r) h
+
+  pub count-most : (w : ℕ) → w ≡ pieceWord xs (s .pieces) 0 i → w ≤ 1000
+  count-most w e = rw (e ∙ count-is s xs r i h) (g .count i there)
+
+  pub wish-most : (w : ℕ) → w ≡ pieceWord xs (s .pieces) 2 i → w ≤ 7
+  wish-most w e = rw (e ∙ wish-is s xs r i h) (g .wish i there)
+
+  -- its rank is the one that its words give
+  pub rank-is : (seeds count word state wish had v : ℕ) → seeds ≡ headWord xs 2 → count ≡ pieceWord xs (s .pieces) 0 i
+      → word ≡ pieceWord xs (s .pieces) 1 i → state ≡ queueNumber (queueFrom word) → wish ≡ pieceWord xs (s .pieces) 2 i
+      → had ≡ pieceWord xs (s .pieces) 3 i → IsRank seeds count state wish (eqb had 1) v
+      → (v ≡ rank (decode xs) i) × (v < 21022)
+  unfolding rank yes?
+  rank-is seeds count word state wish had v es ec ew et ei eh k =
+      let n : Numbers count state wish (eqb had 1) (pieceAt (decode xs) i) = record {
+        counts = sym (ec ∙ count-is s xs r i h);
+        states = sym (et ∙ ap (λ (w : ℕ). queueNumber (queueFrom w)) ew ∙ ap queueNumber (state-is s xs r i h));
+        wishes = sym (ei ∙ wish-is s xs r i h);
+        haves = sym (ap (λ (w : ℕ). eqb w 1) eh ∙ had-is s xs r i h);
+      } in
+      (k .is (pieceAt (decode xs) i) n ∙ ap (λ (m : ℕ). rankOf (bucket m (pieceAt (decode xs) i))) es, omega (arith, k .low))
+
+-- ---- the pieces up to i
+-- the first i keys are ranks, the others are as they were
+pub record Keying (p : Picker) (n i : ℕ) (before keys : List ℕ) : Type 0 where
+  pub keyed : Keyed p i before keys
+  pub at : i ≤ n
+
+pub keying-start : (p : Picker) (n : ℕ) (keys : List ℕ) → length keys ≡ 4096 → Keying p n 0 keys keys
+keying-start p n keys e =
+    record {
+      keyed = record { ranks = λ i h. absurd (omega arith); low = λ i h. absurd (omega arith); rest = λ i h. refl; long = e };
+      at = omega arith;
+    }
+
+pub keying-next : (p : Picker) (n i : ℕ) (before keys : List ℕ) → Keying p n i before keys → n ≤ 4096 → i < n
+    → (v : ℕ) → (v ≡ rank p i) × (v < 21022) → Keying p n (i + 1) before (set keys i v)
+keying-next p n i before keys k m h v e =
+    let same : getD (set keys i v) i 0 ≡ v = getD-set-same keys i v 0 (omega (arith, k .keyed .long)) in
+    let other : (j : ℕ) → (j ≡ i → ⊥) → getD (set keys i v) j 0 ≡ getD keys j 0 = λ j q. getD-set-other keys i j v 0 q in
+    record {
+      keyed = record {
+        ranks = λ j l. elim (ℕ-discrete j i) [
+          | yes q ↦ rw q (same ∙ e .0)
+          | no q ↦ other j q ∙ k .keyed .ranks j (omega arith)
+        ];
+        low = λ j l. elim (ℕ-discrete j i) [
+          | yes q ↦ rw (q, same) (e .1)
+          | no q ↦ rw (other j q) (k .keyed .low j (omega arith))
+        ];
+        rest = λ j l. other j (λ q. omega arith) ∙ k .keyed .rest j (omega arith);
+        long = length-set keys i v ∙ k .keyed .long;
+      };
+      at = omega arith;
+    }
+
+pub keying-end : (p : Picker) (n i : ℕ) (before keys : List ℕ) → Keying p n i before keys → n ≤ i → Keyed p n before keys
+keying-end p n i before keys k h =
+    let e : i ≡ n = omega (arith, k .at) in
+    rw e at (k .keyed)

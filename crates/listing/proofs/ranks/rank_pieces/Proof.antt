@@ -1,0 +1,54 @@
+-- `listing::rank_pieces` meets its contract. The invariant: the first i keys are ranks. Assumes nothing.
+use borrow.Author.Needs.{needs}
+use Prim.Native.Nat.{_-_}
+use native.Mathlib.Omega.{arith}
+use Rattle.layout.specs.Layout.{decode}
+use Rattle.listing.proofs.Ranking.{Keying, keying-start, keying-next, keying-end}
+use Rattle.listing.proofs.ranks.rank_pieces.Statement.{statement}
+use Rattle.listing.proofs.ranks.rank_pieces.Tie as tie
+
+abbrev Inv-loop : tie.InvT-loop
+Inv-loop mem s keys₀ n i₀ keys i = Keying (decode mem) (s .pieces) i keys₀ keys
+
+abbrev μ-loop : tie.MeasureT-loop
+μ-loop mem s keys₀ n i₀ keys i = s .pieces - i
+
+loop-holds : tie.Need-loop-holds Inv-loop μ-loop
+loop-holds c = keying-start _ _ _ (c .before .pre .1 .1)
+
+rank-at-requires : tie.Need-rank-at-requires Inv-loop μ-loop
+rank-at-requires c κs = let t = c .before .before .before in (t .pre .0, (t .pre .1 .0, c .loop-test .taken))
+
+mul-keys : tie.Need-mul-keys Inv-loop μ-loop
+mul-keys c = omega (arith, c .before .before .before .before .pre .0 .spans .sizes .many)
+
+element-write-keys : tie.Need-element-write-keys Inv-loop μ-loop
+element-write-keys c = omega (arith, c .before .before .before .before .pre .0 .spans .sizes .many, c .before .before .loop .inv .keyed .long)
+
+add-i : tie.Need-add-i Inv-loop μ-loop
+add-i c = omega (arith, c .before .before .before .before .pre .0 .spans .sizes .many)
+
+loop-less : tie.Need-loop-less Inv-loop μ-loop
+loop-less c = search needs
+
+loop-again : tie.Need-loop-again Inv-loop μ-loop
+loop-again c =
+    keying-next _ _ _ _ _ (c .before .before .loop .inv) (c .before .before .before .before .pre .0 .spans .sizes .many) (c .before .loop-test .taken) _ (c .rank-at .ensures)
+
+returns : tie.Need-returns Inv-loop μ-loop
+returns c = keying-end _ _ _ _ _ (c .before .loop .inv) (c .loop-test .left)
+
+pub rank-pieces-spec : {M : Type 1} → statement M
+rank-pieces-spec =
+    tie.close
+    (tie.spec
+    Inv-loop
+    μ-loop
+    loop-holds
+    rank-at-requires
+    mul-keys
+    element-write-keys
+    add-i
+    loop-less
+    loop-again
+    returns)

@@ -1,0 +1,100 @@
+// The list in its region of the memory: rebuilt, and mended.
+ghost use mathlib.Core.Path.{_≡_};
+ghost use Prim.Native.Nat.{_+_, _≤_, _<_};
+ghost use lib.ListN.{length};
+ghost use Rattle.types.specs.Piece.{indexOf};
+ghost use Rattle.model.specs.State.{fresh, orderOf, withListing};
+ghost use Rattle.model.specs.Order.{rank, rebuilt, rebuildDraws, relisted, relistDraws, led, refresh, relist};
+ghost use Rattle.layout.specs.Layout.{decode, Room, Became};
+ghost use Rattle.listing.specs.Listings.{Ranges, OrderBefore, ListedBefore};
+use crate::ranks::rank_at;
+use crate::ranks::rank_pieces;
+
+// The list made anew, whatever it was; draws from number t on. Answers the number of the next draw.
+fn rebuild_list(mem: &mut [u64], s: layout::Shape, draws: &[u32], t: usize) -> usize
+    requires { ⌜ Room s (now mem) ⌝ }
+    requires { ⌜ Ranges (decode (now mem)) ⌝ }
+    requires { ⌜ t ≤ length (now draws) ⌝ }
+    ensures { λ _. ⌜ Became s (now (mem .entry)) (now (mem .exit))
+        (withListing (fresh (rebuilt (now (draws .entry)) t (decode (now (mem .entry))))) (decode (now (mem .entry)))) ⌝ }
+    ensures { λ r. ⌜ r ≡ t + rebuildDraws (decode (now (mem .entry))) ⌝ }
+{
+    let mut keys = [0; 4096];
+    rank_pieces(mem, s, &mut keys);
+    let n = s.pieces;
+    let a = layout::list_start(s);
+    let done = rebuild::update_pieces(&mut mem[a..a + n], &keys, n, draws, t);
+    heads::set_list_length(mem, s, done.len);
+    done.used
+}
+
+// The list rebuilt where it is stale. Answers the number of the next draw.
+pub fn refresh(mem: &mut [u64], s: layout::Shape, draws: &[u32], t: usize) -> usize
+    requires { ⌜ Room s (now mem) ⌝ }
+    requires { ⌜ Ranges (decode (now mem)) ⌝ }
+    requires { ⌜ t ≤ length (now draws) ⌝ }
+    ensures { λ _. ⌜ Became s (now (mem .entry)) (now (mem .exit)) (refresh (now (draws .entry)) (led t (decode (now (mem .entry)))) .picker) ⌝ }
+    ensures { λ r. ⌜ r ≡ refresh (now (draws .entry)) (led t (decode (now (mem .entry)))) .used ⌝ }
+{
+    if heads::is_stale(mem, s) {
+        return rebuild_list(mem, s, draws, t);
+    }
+    t
+}
+
+// The list mended after piece x came from rank `old` to the one it has. Answers the number of the next draw.
+fn mend_list(
+    mem: &mut [u64],
+    s: layout::Shape,
+    x: usize,
+    old: u64,
+    draws: &[u32],
+    t: usize,
+) -> usize
+    requires { ⌜ Room s (now mem) ⌝ }
+    requires { ⌜ Ranges (decode (now mem)) ⌝ }
+    requires { ⌜ x < s .pieces ⌝ }
+    requires { ⌜ OrderBefore old x (decode (now mem)) ⌝ }
+    requires { ⌜ t ≤ length (now draws) ⌝ }
+    ensures { λ _. ⌜ Became s (now (mem .entry)) (now (mem .exit))
+        (withListing (fresh (relisted (rank (decode (now (mem .entry)))) (now (draws .entry)) t old x (orderOf (decode (now (mem .entry)) .listing))))
+        (decode (now (mem .entry)))) ⌝ }
+    ensures { λ r. ⌜ r ≡ t + relistDraws (rank (decode (now (mem .entry)))) old x (orderOf (decode (now (mem .entry)) .listing)) ⌝ }
+{
+    let mut keys = [0; 4096];
+    rank_pieces(mem, s, &mut keys);
+    let n = s.pieces;
+    let a = layout::list_start(s);
+    let len = heads::list_length(mem, s);
+    let w = layout::word(x);
+    let done = update::relist(&mut mem[a..a + n], &keys, len, w, old, draws, t);
+    heads::set_list_length(mem, s, done.len);
+    done.used
+}
+
+// The list mended after a piece came from rank `old` to the one it has; a stale list stays so. Answers the number of the next draw.
+pub fn relist(
+    mem: &mut [u64],
+    s: layout::Shape,
+    piece: types::PieceIndex,
+    old: u64,
+    draws: &[u32],
+    t: usize,
+) -> usize
+    requires { ⌜ Room s (now mem) ⌝ }
+    requires { ⌜ Ranges (decode (now mem)) ⌝ }
+    requires { ⌜ indexOf (piece .0) < s .pieces ⌝ }
+    requires { ⌜ ListedBefore old (indexOf (piece .0)) (decode (now mem)) ⌝ }
+    requires { ⌜ t ≤ length (now draws) ⌝ }
+    ensures { λ _. ⌜ Became s (now (mem .entry)) (now (mem .exit)) (relist (now (draws .entry)) old (indexOf (piece .0)) (led t (decode (now (mem .entry)))) .picker) ⌝ }
+    ensures { λ r. ⌜ r ≡ relist (now (draws .entry)) old (indexOf (piece .0)) (led t (decode (now (mem .entry)))) .used ⌝ }
+{
+    if heads::is_stale(mem, s) {
+        return t;
+    }
+    let x = piece.get();
+    if rank_at(mem, s, x) == old {
+        return t;
+    }
+    mend_list(mem, s, x, old, draws, t)
+}

@@ -1,0 +1,56 @@
+// The ranks of the pieces, by the words of the memory.
+ghost use mathlib.Core.Path.{_≡_};
+ghost use Prim.Native.Nat.{_<_};
+ghost use lib.ListN.{length};
+ghost use Rattle.types.specs.Piece.{indexOf};
+ghost use Rattle.types.specs.Queue.{queueNumber};
+ghost use Rattle.model.specs.Order.{rank};
+ghost use Rattle.layout.specs.Layout.{queueFrom, decode, Room};
+ghost use Rattle.listing.specs.Listings.{Ranges, Keyed};
+
+// The number of the state that a word means: a word that no state has is read as Open.
+fn state_number(w: u64) -> u64
+    ensures { λ r. ⌜ r ≡ queueNumber (queueFrom w) ⌝ }
+{
+    if w < 7 { w } else { 4 }
+}
+
+// The rank of piece i: one more than its bucket, and 0 where it is in none.
+pub fn rank_at(mem: &[u64], s: layout::Shape, i: usize) -> u64
+    requires { ⌜ Room s (now mem) ⌝ }
+    requires { ⌜ Ranges (decode (now mem)) ⌝ }
+    requires { ⌜ i < s .pieces ⌝ }
+    ensures { λ r. ⌜ (r ≡ rank (decode (now (mem .entry))) i) × (r < 21022) ⌝ }
+{
+    let seeds = layout::head_word(mem, 2);
+    let count = layout::piece_word(mem, s, 0, i);
+    let state = state_number(layout::piece_word(mem, s, 1, i));
+    let wish = layout::piece_word(mem, s, 2, i);
+    let had = layout::piece_word(mem, s, 3, i) == 1;
+    bucket::bucket(seeds, count, state, wish, had)
+}
+
+// The same of a piece by its number.
+pub fn rank(mem: &[u64], s: layout::Shape, piece: types::PieceIndex) -> u64
+    requires { ⌜ Room s (now mem) ⌝ }
+    requires { ⌜ Ranges (decode (now mem)) ⌝ }
+    requires { ⌜ indexOf (piece .0) < s .pieces ⌝ }
+    ensures { λ r. ⌜ r ≡ rank (decode (now (mem .entry))) (indexOf (piece .0)) ⌝ }
+{
+    rank_at(mem, s, piece.get())
+}
+
+// The ranks of all pieces. The keys behind them stay as they were.
+pub fn rank_pieces(mem: &[u64], s: layout::Shape, keys: &mut [u64; 4096])
+    requires { ⌜ Room s (now mem) ⌝ }
+    requires { ⌜ Ranges (decode (now mem)) ⌝ }
+    requires { ⌜ length (now keys) ≡ 4096 ⌝ }
+    ensures { λ _. ⌜ Keyed (decode (now (mem .entry))) (s .pieces) (now (keys .entry)) (now (keys .exit)) ⌝ }
+{
+    let n = s.pieces;
+    let mut i = 0;
+    while i < n {
+        keys[i] = rank_at(mem, s, i);
+        i += 1;
+    }
+}
