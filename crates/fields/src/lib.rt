@@ -1,91 +1,113 @@
 // The fields of a piece, read and stored, in the terms of the picker that the memory means.
+use types::PieceIndex;
 ghost use mathlib.Core.Path.{_≡_};
-ghost use Prim.Native.Nat.{_<_, _≤_};
+ghost use Prim.Native.Nat.{_<_};
+ghost use Rattle.types.specs.Piece.{indexOf};
 ghost use Rattle.types.specs.Queue.{queueNumber};
 ghost use Rattle.model.specs.State.{pieceAt, withPiece, withCount, withState, withWish, withHad};
-ghost use Rattle.layout.specs.Layout.{decode, queueFrom, pieceWith, Room, Became};
+ghost use Rattle.layout.specs.Layout.{decode, queueFrom, pieceWord, pieceWith, Room, Became};
 
-pub fn get_count(mem: &[u64], s: layout::Shape, i: usize) -> u64
+// Field f of a piece: 0 count, 1 state, 2 wish, 3 had, 4 pad.
+fn field(mem: &[u64], s: layout::Shape, f: usize, piece: PieceIndex) -> u64
     requires { ⌜ Room s (now mem) ⌝ }
-    requires { ⌜ i < s .pieces ⌝ }
-    ensures { λ r. ⌜ r ≡ pieceAt (decode (now (mem .entry))) i .count ⌝ }
+    requires { ⌜ (f < 5) × (indexOf (piece .0) < s .pieces) ⌝ }
+    ensures { λ r. ⌜ r ≡ pieceWord (now (mem .entry)) (s .pieces) f (indexOf (piece .0)) ⌝ }
 {
-    layout::piece_word(mem, s, 0, i)
+    let i = piece.get();
+    layout::piece_word(mem, s, f, i)
 }
 
-pub fn set_count(mem: &mut [u64], s: layout::Shape, i: usize, v: u64)
+// Field f stored.
+fn set_field(mem: &mut [u64], s: layout::Shape, f: usize, piece: PieceIndex, v: u64)
     requires { ⌜ Room s (now mem) ⌝ }
-    requires { ⌜ i < s .pieces ⌝ }
-    ensures { λ _. ⌜ Became s (now (mem .entry)) (now (mem .exit)) (withPiece i (withCount v) (decode (now (mem .entry)))) ⌝ }
+    requires { ⌜ (f < 5) × (indexOf (piece .0) < s .pieces) ⌝ }
+    ensures { λ _. ⌜ Became s (now (mem .entry)) (now (mem .exit)) (withPiece (indexOf (piece .0)) (pieceWith f v) (decode (now (mem .entry)))) ⌝ }
 {
-    layout::set_piece_word(mem, s, 0, i, v);
+    let i = piece.get();
+    layout::set_piece_word(mem, s, f, i, v);
+}
+
+pub fn get_count(mem: &[u64], s: layout::Shape, piece: PieceIndex) -> u64
+    requires { ⌜ Room s (now mem) ⌝ }
+    requires { ⌜ indexOf (piece .0) < s .pieces ⌝ }
+    ensures { λ r. ⌜ r ≡ pieceAt (decode (now (mem .entry))) (indexOf (piece .0)) .count ⌝ }
+{
+    field(mem, s, 0, piece)
+}
+
+pub fn set_count(mem: &mut [u64], s: layout::Shape, piece: PieceIndex, v: u64)
+    requires { ⌜ Room s (now mem) ⌝ }
+    requires { ⌜ indexOf (piece .0) < s .pieces ⌝ }
+    ensures { λ _. ⌜ Became s (now (mem .entry)) (now (mem .exit)) (withPiece (indexOf (piece .0)) (withCount v) (decode (now (mem .entry)))) ⌝ }
+{
+    set_field(mem, s, 0, piece, v);
 }
 
 // The number of the piece's state; 4, Open, where the word is the number of none.
-pub fn get_state(mem: &[u64], s: layout::Shape, i: usize) -> u64
+pub fn get_state(mem: &[u64], s: layout::Shape, piece: PieceIndex) -> u64
     requires { ⌜ Room s (now mem) ⌝ }
-    requires { ⌜ i < s .pieces ⌝ }
-    ensures { λ r. ⌜ r ≡ queueNumber (pieceAt (decode (now (mem .entry))) i .state) ⌝ }
+    requires { ⌜ indexOf (piece .0) < s .pieces ⌝ }
+    ensures { λ r. ⌜ r ≡ queueNumber (pieceAt (decode (now (mem .entry))) (indexOf (piece .0)) .state) ⌝ }
 {
-    let w = layout::piece_word(mem, s, 1, i);
+    let w = field(mem, s, 1, piece);
     if w < 7 {
         return w;
     }
     4
 }
 
-pub fn set_state(mem: &mut [u64], s: layout::Shape, i: usize, v: u64)
+pub fn set_state(mem: &mut [u64], s: layout::Shape, piece: PieceIndex, v: u64)
     requires { ⌜ Room s (now mem) ⌝ }
-    requires { ⌜ i < s .pieces ⌝ }
-    ensures { λ _. ⌜ Became s (now (mem .entry)) (now (mem .exit)) (withPiece i (withState (queueFrom v)) (decode (now (mem .entry)))) ⌝ }
+    requires { ⌜ indexOf (piece .0) < s .pieces ⌝ }
+    ensures { λ _. ⌜ Became s (now (mem .entry)) (now (mem .exit)) (withPiece (indexOf (piece .0)) (withState (queueFrom v)) (decode (now (mem .entry)))) ⌝ }
 {
-    layout::set_piece_word(mem, s, 1, i, v);
+    set_field(mem, s, 1, piece, v);
 }
 
-pub fn get_wish(mem: &[u64], s: layout::Shape, i: usize) -> u64
+pub fn get_wish(mem: &[u64], s: layout::Shape, piece: PieceIndex) -> u64
     requires { ⌜ Room s (now mem) ⌝ }
-    requires { ⌜ i < s .pieces ⌝ }
-    ensures { λ r. ⌜ r ≡ pieceAt (decode (now (mem .entry))) i .wish ⌝ }
+    requires { ⌜ indexOf (piece .0) < s .pieces ⌝ }
+    ensures { λ r. ⌜ r ≡ pieceAt (decode (now (mem .entry))) (indexOf (piece .0)) .wish ⌝ }
 {
-    layout::piece_word(mem, s, 2, i)
+    field(mem, s, 2, piece)
 }
 
-pub fn set_wish(mem: &mut [u64], s: layout::Shape, i: usize, v: u64)
+pub fn set_wish(mem: &mut [u64], s: layout::Shape, piece: PieceIndex, v: u64)
     requires { ⌜ Room s (now mem) ⌝ }
-    requires { ⌜ i < s .pieces ⌝ }
-    ensures { λ _. ⌜ Became s (now (mem .entry)) (now (mem .exit)) (withPiece i (withWish v) (decode (now (mem .entry)))) ⌝ }
+    requires { ⌜ indexOf (piece .0) < s .pieces ⌝ }
+    ensures { λ _. ⌜ Became s (now (mem .entry)) (now (mem .exit)) (withPiece (indexOf (piece .0)) (withWish v) (decode (now (mem .entry)))) ⌝ }
 {
-    layout::set_piece_word(mem, s, 2, i, v);
+    set_field(mem, s, 2, piece, v);
 }
 
-pub fn get_had(mem: &[u64], s: layout::Shape, i: usize) -> bool
+pub fn get_had(mem: &[u64], s: layout::Shape, piece: PieceIndex) -> bool
     requires { ⌜ Room s (now mem) ⌝ }
-    requires { ⌜ i < s .pieces ⌝ }
-    ensures { λ r. ⌜ r ≡ pieceAt (decode (now (mem .entry))) i .had ⌝ }
+    requires { ⌜ indexOf (piece .0) < s .pieces ⌝ }
+    ensures { λ r. ⌜ r ≡ pieceAt (decode (now (mem .entry))) (indexOf (piece .0)) .had ⌝ }
 {
-    layout::piece_word(mem, s, 3, i) == 1
+    field(mem, s, 3, piece) == 1
 }
 
-pub fn set_had(mem: &mut [u64], s: layout::Shape, i: usize)
+pub fn set_had(mem: &mut [u64], s: layout::Shape, piece: PieceIndex)
     requires { ⌜ Room s (now mem) ⌝ }
-    requires { ⌜ i < s .pieces ⌝ }
-    ensures { λ _. ⌜ Became s (now (mem .entry)) (now (mem .exit)) (withPiece i (withHad) (decode (now (mem .entry)))) ⌝ }
+    requires { ⌜ indexOf (piece .0) < s .pieces ⌝ }
+    ensures { λ _. ⌜ Became s (now (mem .entry)) (now (mem .exit)) (withPiece (indexOf (piece .0)) withHad (decode (now (mem .entry)))) ⌝ }
 {
-    layout::set_piece_word(mem, s, 3, i, 1);
+    set_field(mem, s, 3, piece, 1);
 }
 
-pub fn get_pad(mem: &[u64], s: layout::Shape, i: usize) -> u64
+pub fn get_pad(mem: &[u64], s: layout::Shape, piece: PieceIndex) -> u64
     requires { ⌜ Room s (now mem) ⌝ }
-    requires { ⌜ i < s .pieces ⌝ }
-    ensures { λ r. ⌜ r ≡ pieceAt (decode (now (mem .entry))) i .pad ⌝ }
+    requires { ⌜ indexOf (piece .0) < s .pieces ⌝ }
+    ensures { λ r. ⌜ r ≡ pieceAt (decode (now (mem .entry))) (indexOf (piece .0)) .pad ⌝ }
 {
-    layout::piece_word(mem, s, 4, i)
+    field(mem, s, 4, piece)
 }
 
-pub fn set_pad(mem: &mut [u64], s: layout::Shape, i: usize, v: u64)
+pub fn set_pad(mem: &mut [u64], s: layout::Shape, piece: PieceIndex, v: u64)
     requires { ⌜ Room s (now mem) ⌝ }
-    requires { ⌜ i < s .pieces ⌝ }
-    ensures { λ _. ⌜ Became s (now (mem .entry)) (now (mem .exit)) (withPiece i (pieceWith 4 v) (decode (now (mem .entry)))) ⌝ }
+    requires { ⌜ indexOf (piece .0) < s .pieces ⌝ }
+    ensures { λ _. ⌜ Became s (now (mem .entry)) (now (mem .exit)) (withPiece (indexOf (piece .0)) (pieceWith 4 v) (decode (now (mem .entry)))) ⌝ }
 {
-    layout::set_piece_word(mem, s, 4, i, v);
+    set_field(mem, s, 4, piece, v);
 }

@@ -1,9 +1,13 @@
 // Blocks: how long they are, and how many of them a piece has.
 use crate::parts::part_length;
 use crate::parts::parts_of;
+use crate::pieces::number_of;
+use crate::pieces::piece_length;
 use crate::pieces::piece_size;
+use types::PieceIndex;
 ghost use mathlib.Core.Path.{_≡_};
 ghost use Prim.Native.Nat.{_<_};
+ghost use Rattle.types.specs.Piece.{indexOf};
 ghost use Rattle.model.specs.Bep3.{numPieces, blockLength, blockLengthAt, blocksPerPiece, blocksInPiece};
 ghost use Rattle.geometry.specs.Numbers.{payloadBlocks};
 
@@ -21,29 +25,37 @@ pub fn blocks_per_piece(size: u64) -> u64
     parts_of(size, block_size(size))
 }
 
-// The number of blocks of piece p.
-pub fn blocks_in_piece(total: u64, size: u64, p: u64) -> u64
+// The number of blocks of piece p, for a number that is a word of memory.
+pub fn blocks_at(total: u64, size: u64, p: u64) -> u64
     requires { ⌜ p < numPieces total size ⌝ }
     ensures { λ r. ⌜ r ≡ blocksInPiece total size p ⌝ }
 {
-    parts_of(piece_size(total, size, p), block_size(size))
+    parts_of(piece_length(total, size, p), block_size(size))
 }
 
-// The blocks of piece p without those that `pad` bytes fill whole; 0 where pads would fill more than there are.
-pub fn payload_blocks_in_piece(total: u64, size: u64, p: u64, pad: u64) -> u64
-    requires { ⌜ p < numPieces total size ⌝ }
-    ensures { λ r. ⌜ r ≡ payloadBlocks total size p pad ⌝ }
+// The number of blocks of a piece.
+pub fn blocks_in_piece(total: u64, size: u64, piece: PieceIndex) -> u64
+    requires { ⌜ indexOf (piece .0) < numPieces total size ⌝ }
+    ensures { λ r. ⌜ r ≡ blocksInPiece total size (indexOf (piece .0)) ⌝ }
 {
-    let blocks = blocks_in_piece(total, size, p);
+    blocks_at(total, size, number_of(piece))
+}
+
+// The blocks of a piece without those that `pad` bytes fill whole; 0 where pads would fill more than there are.
+pub fn payload_blocks_in_piece(total: u64, size: u64, piece: PieceIndex, pad: u64) -> u64
+    requires { ⌜ indexOf (piece .0) < numPieces total size ⌝ }
+    ensures { λ r. ⌜ r ≡ payloadBlocks total size (indexOf (piece .0)) pad ⌝ }
+{
+    let blocks = blocks_in_piece(total, size, piece);
     let pads = pad / block_size(size);
     if pads < blocks { blocks - pads } else { 0 }
 }
 
-// The length of block j of piece p.
-pub fn block_length(total: u64, size: u64, p: u64, j: u64) -> u64
-    requires { ⌜ p < numPieces total size ⌝ }
-    requires { ⌜ j < blocksInPiece total size p ⌝ }
-    ensures { λ r. ⌜ r ≡ blockLengthAt total size p j ⌝ }
+// The length of block j of a piece.
+pub fn block_length(total: u64, size: u64, piece: PieceIndex, j: u64) -> u64
+    requires { ⌜ indexOf (piece .0) < numPieces total size ⌝ }
+    requires { ⌜ j < blocksInPiece total size (indexOf (piece .0)) ⌝ }
+    ensures { λ r. ⌜ r ≡ blockLengthAt total size (indexOf (piece .0)) j ⌝ }
 {
-    part_length(piece_size(total, size, p), block_size(size), j)
+    part_length(piece_size(total, size, piece), block_size(size), j)
 }

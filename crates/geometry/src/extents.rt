@@ -1,7 +1,10 @@
 // Extents: runs of 256 / b pieces, where b is the number of blocks of a piece. There are none where that is 256.
 use crate::parts::parts_of;
+use crate::pieces::number_of;
+use types::PieceIndex;
 ghost use mathlib.Core.Path.{_≡_};
 ghost use Prim.Native.Nat.{_<_};
+ghost use Rattle.types.specs.Piece.{indexOf};
 ghost use Rattle.model.specs.State.{extentSize, extentsOf};
 ghost use Rattle.geometry.specs.Numbers.{extentOf, extentBegin, extentEnd};
 
@@ -31,15 +34,15 @@ pub fn num_extents(n: u64, b: u64) -> u64
     parts_of(n, extent_size(b))
 }
 
-// The extent of piece p.
-pub fn extent_for(b: u64, p: u64) -> u64
-    ensures { λ r. ⌜ r ≡ extentOf b p ⌝ }
+// The extent of a piece.
+pub fn extent_for(b: u64, piece: PieceIndex) -> u64
+    ensures { λ r. ⌜ r ≡ extentOf b (indexOf (piece .0)) ⌝ }
 {
     let long = extent_size(b);
     if long == 0 {
         return 0;
     }
-    p / long
+    number_of(piece) / long
 }
 
 // The pieces of extent e, of n pieces in all: the last extent may be shorter.

@@ -1,8 +1,10 @@
 // Pieces: which geometries are valid, how many pieces there are, and how long each is.
 use crate::parts::part_length;
 use crate::parts::parts_of;
+use types::PieceIndex;
 ghost use mathlib.Core.Path.{_≡_};
 ghost use Prim.Native.Nat.{_<_};
+ghost use Rattle.types.specs.Piece.{indexOf};
 ghost use Rattle.model.specs.Bep3.{numPieces, pieceLength};
 ghost use Rattle.model.specs.State.{validGeometry};
 
@@ -29,10 +31,26 @@ pub fn num_pieces(total: u64, size: u64) -> u64
     parts_of(total, size)
 }
 
-// The length of piece p: the last one may be shorter.
-pub fn piece_size(total: u64, size: u64, p: u64) -> u64
+// The length of piece p, for a number that is a word of memory: the last piece may be shorter.
+pub fn piece_length(total: u64, size: u64, p: u64) -> u64
     requires { ⌜ p < numPieces total size ⌝ }
     ensures { λ r. ⌜ r ≡ pieceLength total size p ⌝ }
 {
     part_length(total, size, p)
+}
+
+// The number of a piece as a word.
+pub fn number_of(piece: PieceIndex) -> u64
+    ensures { λ r. ⌜ r ≡ indexOf (piece .0) ⌝ }
+{
+    let i = piece.get();
+    i as u64
+}
+
+// The length of a piece.
+pub fn piece_size(total: u64, size: u64, piece: PieceIndex) -> u64
+    requires { ⌜ indexOf (piece .0) < numPieces total size ⌝ }
+    ensures { λ r. ⌜ r ≡ pieceLength total size (indexOf (piece .0)) ⌝ }
+{
+    piece_length(total, size, number_of(piece))
 }

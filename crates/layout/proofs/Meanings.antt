@@ -2,14 +2,14 @@
 use mathlib.Core.Path.{_≡_, refl, sym, ap, _∙_}
 use mathlib.Core.Bool.{Bool, true, false, cond}
 use mathlib.Core.List.{List}
-use Prim.Native.Nat.{ℕ, zero, suc, _+_, _≤_, _<_}
+use Prim.Native.Nat.{ℕ, zero, suc, _+_, _-_, _≤_, _<_}
 use native.Mathlib.Omega.{arith}
 use lib.ListN.{List·getD-eq-default}
 use Rattle.types.specs.declared.queue.DownloadQueue.{DownloadQueue}
 use Rattle.types.specs.declared.queue.DownloadQueue.the-variants.{Downloading, Full, Finished, ZeroPrio, Open, DownloadingReverse, FullReverse}
 use Rattle.types.specs.declared.block.BlockState.{BlockState}
 use Rattle.types.specs.declared.block.BlockState.the-variants.{None, Requested, Writing, Finished as FinishedBlock}
-use Rattle.types.specs.Queue.{queueNumber, queues}
+use Rattle.types.specs.Queue.{queueNumber, plainOf, queues}
 use Rattle.types.specs.Block.{blockStateNumber, blockStates}
 use Rattle.model.specs.Lists.{at, size}
 use Rattle.model.specs.State.{Piece, Picker, stale, fresh, isStale, orderOf, pieceAt, piecesIn}
@@ -45,6 +45,25 @@ number-queue ZeroPrio = refl
 number-queue Open = refl
 number-queue DownloadingReverse = refl
 number-queue FullReverse = refl
+
+-- without its direction
+pub plain-low : (w : ℕ) → w < 5 → w ≡ queueNumber (plainOf (queueFrom w))
+unfolding queueFrom at
+plain-low zero h = refl
+plain-low (suc zero) h = refl
+plain-low (suc (suc zero)) h = refl
+plain-low (suc (suc (suc zero))) h = refl
+plain-low (suc (suc (suc (suc zero)))) h = refl
+plain-low (suc (suc (suc (suc (suc w))))) h = absurd (omega arith)
+
+plain-five : (w : ℕ) → w ≤ 1 → w ≡ queueNumber (plainOf (queueFrom (5 + w)))
+unfolding queueFrom at
+plain-five zero h = refl
+plain-five (suc zero) h = refl
+plain-five (suc (suc w)) h = absurd (omega arith)
+
+pub plain-high : (w : ℕ) → 5 ≤ w → w ≤ 6 → w - 5 ≡ queueNumber (plainOf (queueFrom w))
+plain-high w l h = plain-five (w - 5) (omega arith) ∙ ap (λ (k : ℕ). queueNumber (plainOf (queueFrom k))) (omega arith)
 
 pub state-number : (w : ℕ) → w < 4 → blockStateNumber (stateFrom w) ≡ w
 unfolding stateFrom at

@@ -1,6 +1,7 @@
-// The words of the lent memory in which a picker stands: its shape, and a pair of accessors for each kind of region.
+// The words of the lent memory in which a picker stands: its shape, a pair of accessors for each kind of region, and states by their numbers.
 // A head of 16 words; six regions of a word for each piece; three of a word for each partial; four of a word for each block of a partial's place.
 mod spots;
+mod states;
 mod words;
 
 pub use spots::Shape;
@@ -8,6 +9,7 @@ pub use spots::idx;
 pub use spots::list_start;
 pub use spots::shape_of;
 pub use spots::word;
+pub use states::plain_state;
 pub use words::block_word;
 pub use words::head_word;
 pub use words::partial_word;

@@ -37,7 +37,7 @@ bit-forth zero h = refl
 bit-forth (suc zero) h = refl
 bit-forth (suc (suc n)) h = absurd (omega arith)
 
-queue-below : (q : DownloadQueue) → queueNumber q ≤ 6
+pub queue-below : (q : DownloadQueue) → queueNumber q ≤ 6
 queue-below Downloading = omega arith
 queue-below Full = omega arith
 queue-below FinishedQueue = omega arith

@@ -8,7 +8,7 @@ ghost use Rattle.partial_rows.specs.Rows.{allBelow, blocksGood, partialG
 use crate::blocks::blocks_ok;
 use crate::blocks::one_if;
 use crate::states::state_ok;
-use geometry::blocks_in_piece;
+use geometry::blocks_at;
 use layout::Shape;
 use layout::head_word;
 use layout::partial_word;
@@ -34,7 +34,7 @@ fn blocks_good(mem: &[u64], s: Shape, piece: u64, place: usize, hashing: bool) -
     requires { ⌜ (piece < s .pieces) × (place < s .places) ⌝ }
     ensures { λ r. ⌜ r ≡ blocksGood (now (mem .entry)) (s .pieces) (s .blocks) piece place hashing ⌝ }
 {
-    let many = blocks_in_piece(head_word(mem, 0), head_word(mem, 1), piece);
+    let many = blocks_at(head_word(mem, 0), head_word(mem, 1), piece);
     let counted = blocks_ok(mem, s, place, many as usize);
     if !counted.ok {
         return false;

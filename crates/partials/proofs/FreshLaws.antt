@@ -151,10 +151,12 @@ pub filled-ready : (s : Shape) (xs ys : List ℕ) → Room s xs → (p count pay
 filled-ready s xs ys r p count payload i q c w at =
     (c .room, (omega (arith, at .within, partials-number s ys (c .room)), omega (arith, c .around .head 7 (omega arith), partials-number s xs r)))
 
-pub inserted : (s : Shape) (xs ys zs : List ℕ) → Room s xs → (n v p i q count payload : ℕ) → n ≡ size (decode xs .partials) → size (decode xs .partials) < s .places
-    → v ≡ partialWord xs (s .pieces) 2 n → p ≡ v → count ≡ blocksAt (decode xs) i → payload ≡ payloadAt (decode xs) i → Filled s xs ys p count payload → Position (decode ys) i q
-    → Became s ys zs (withPartials (insertAt q (openedWith s ys i) (decode ys .partials)) (decode ys)) → Became s xs zs (addPartial i (decode xs))
-inserted s xs ys zs r n v p i q count payload en w ev ep ec ed c at b =
+-- m is the piece's number as a word
+pub inserted : (s : Shape) (xs ys zs : List ℕ) → Room s xs → (n v p i m q count payload : ℕ) → n ≡ size (decode xs .partials) → size (decode xs .partials) < s .places
+    → v ≡ partialWord xs (s .pieces) 2 n → p ≡ v → m ≡ i → count ≡ blocksAt (decode xs) i → payload ≡ payloadAt (decode xs) i → Filled s xs ys p count payload → Position (decode ys) i q
+    → Became s ys zs (withPartials (insertAt q (openedWith s ys m) (decode ys .partials)) (decode ys)) → Became s xs zs (addPartial i (decode xs))
+inserted s xs ys zs r n v p i m q count payload en w ev ep em ec ed c at b =
     let e7 : headWord xs 7 ≡ size (decode xs .partials) = partials-number s xs r in
     let f : Filled s xs ys p (blocksAt (decode xs) i) (payloadAt (decode xs) i) = rw (ec, ed) at c in
-    opened-added s xs ys zs r p i q f (omega arith) (ep ∙ ev ∙ ap (partialWord xs (s .pieces) 2) (en ∙ sym e7)) at b
+    let o : Became s ys zs (withPartials (insertAt q (openedWith s ys i) (decode ys .partials)) (decode ys)) = rw em at b in
+    opened-added s xs ys zs r p i q f (omega arith) (ep ∙ ev ∙ ap (partialWord xs (s .pieces) 2) (en ∙ sym e7)) at o

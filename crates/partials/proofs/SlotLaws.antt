@@ -14,7 +14,7 @@ use Rattle.layout.proofs.SpotLaws.{partial-from, partial-in}
 use Rattle.layout.proofs.Same.{head-same}
 use Rattle.layout.proofs.PartialStores.{beside-none, beside-store, partial-stored, partial-others}
 use Rattle.partials.specs.declared.slots.Record.{Record}
-use Rattle.partials.specs.Slots.{recordWord, RecordAt, RecordPut}
+use Rattle.partials.specs.Slots.{recordWord, RecordAt, RecordPut, Position}
 
 -- the three words of a field number
 three : (P : ℕ → Type 0) → P 0 → P 1 → P 2 → (f : ℕ) → f < 3 → P f
@@ -93,4 +93,13 @@ passing-next d i k p h l =
         | yes e ↦ rw e l
         | no n ↦ p .before j (omega arith)
       ];
+    }
+
+-- the next one, where there is one, has a higher piece; w is the piece's number as a word
+pub passing-end : (d : Picker) (w i k : ℕ) → w ≡ i → Passing d w k → (k < size (d .partials) → w < partialIn d k .piece) → Position d i k
+passing-end d w i k e p a =
+    record {
+      within = p .within;
+      before = λ j h. omega (arith, e, p .before j h);
+      after = λ h. omega (arith, e, a h);
     }

@@ -1,24 +1,27 @@
 // A partial opened for a piece.
+use crate::fresh::fill;
+use crate::shifts::open_at;
+use crate::slots::position;
+use types::PieceIndex;
 ghost use mathlib.Core.Path.{_≡_};
 ghost use Prim.Native.Nat.{_<_};
+ghost use Rattle.types.specs.Piece.{indexOf};
 ghost use Rattle.model.specs.Lists.{size};
 ghost use Rattle.model.specs.State.{blocksAt, payloadAt};
 ghost use Rattle.model.specs.Partials.{addPartial};
 ghost use Rattle.layout.specs.Layout.{decode, Room, Became};
-use crate::fresh::fill;
-use crate::shifts::open_at;
-use crate::slots::position;
 
 // `count` are the blocks of the piece, `payload` those that hold more than pad bytes.
-pub fn insert(mem: &mut [u64], s: layout::Shape, piece: u64, count: usize, payload: usize)
+pub fn insert(mem: &mut [u64], s: layout::Shape, piece: PieceIndex, count: usize, payload: usize)
     requires { ⌜ Room s (now mem) ⌝ }
     requires { ⌜ size (decode (now mem) .partials) < s .places ⌝ }
-    requires { ⌜ (count ≡ blocksAt (decode (now mem)) piece) × (payload ≡ payloadAt (decode (now mem)) piece) ⌝ }
-    ensures { λ _. ⌜ Became s (now (mem .entry)) (now (mem .exit)) (addPartial piece (decode (now (mem .entry)))) ⌝ }
+    requires { ⌜ (count ≡ blocksAt (decode (now mem)) (indexOf (piece .0))) × (payload ≡ payloadAt (decode (now mem)) (indexOf (piece .0))) ⌝ }
+    ensures { λ _. ⌜ Became s (now (mem .entry)) (now (mem .exit)) (addPartial (indexOf (piece .0)) (decode (now (mem .entry)))) ⌝ }
 {
     let n = records::partial_count(mem, s);
     let p = layout::idx(layout::partial_word(mem, s, 2, n));
     fill(mem, s, p, count, payload);
     let q = position(mem, s, piece);
-    open_at(mem, s, q, piece);
+    let number = layout::word(piece.get());
+    open_at(mem, s, q, number);
 }

@@ -1,6 +1,8 @@
 // The record of a partial, read and stored as a whole, and where one for a piece is to stand.
+use types::PieceIndex;
 ghost use mathlib.Core.Path.{_≡_};
 ghost use Prim.Native.Nat.{_<_};
+ghost use Rattle.types.specs.Piece.{indexOf};
 ghost use Rattle.layout.specs.Layout.{decode, Room, Spans};
 ghost use Rattle.partials.specs.Slots.{RecordAt, RecordPut, Position};
 
@@ -37,14 +39,15 @@ pub fn put_record(mem: &mut [u64], s: layout::Shape, k: usize, r: Record)
 }
 
 // The first partial of a higher piece, or their number.
-pub fn position(mem: &[u64], s: layout::Shape, piece: u64) -> usize
+pub fn position(mem: &[u64], s: layout::Shape, piece: PieceIndex) -> usize
     requires { ⌜ Room s (now mem) ⌝ }
-    ensures { λ r. ⌜ Position (decode (now (mem .entry))) piece r ⌝ }
+    ensures { λ r. ⌜ Position (decode (now (mem .entry))) (indexOf (piece .0)) r ⌝ }
 {
+    let number = layout::word(piece.get());
     let n = records::partial_count(mem, s);
     let mut k = 0;
     while k < n {
-        if piece < records::partial_piece(mem, s, k) {
+        if number < records::piece_number(mem, s, k) {
             return k;
         }
         k += 1;

@@ -2,7 +2,7 @@
 use crate::numbers::word;
 use crate::rows::piece_ok;
 use crate::rows::rank_of;
-use geometry::piece_size;
+use geometry::piece_length;
 use layout::Shape;
 use layout::head_word;
 use layout::piece_word;
@@ -25,7 +25,7 @@ pub fn pieces_ok(mem: &[u64], s: Shape, keys: &mut [u64; 4096]) -> bool
     let n = s.pieces;
     let mut i = 0;
     while i < n {
-        let long = piece_size(total, size, word(i));
+        let long = piece_length(total, size, word(i));
         let count = piece_word(mem, s, 0, i);
         let state = piece_word(mem, s, 1, i);
         let wish = piece_word(mem, s, 2, i);

@@ -3,7 +3,7 @@ use mathlib.Core.Path.{_≡_, refl, sym, ap, _∙_}
 use mathlib.Core.Bool.{true}
 use mathlib.Core.List.{List, [], _∷_}
 use mathlib.Core.Option.{none, Option·none-ne-some}
-use Prim.Native.Nat.{ℕ, zero, suc, _-_, _≤_, _<_}
+use Prim.Native.Nat.{ℕ, zero, suc, _≤_, _<_}
 use native.Mathlib.Nat.{not-suc-le-zero, le-of-suc-le-suc}
 use native.Mathlib.Decide.{ℕ-discrete, decLt}
 use native.Mathlib.Omega.{arith}
@@ -15,10 +15,13 @@ use Rattle.model.specs.State.{Partial, Picker, noPiece, sameQueue, isOpen, piec
 use Rattle.model.specs.Partials.{findIn, partialOf}
 use Rattle.model.specs.WellFormed.{wellFormed}
 use Rattle.model.specs.Sound.{partialsFrom}
+use Rattle.model.proofs.Records.{queue-below}
 use Rattle.model.proofs.PieceLaws.{pieceAt-beyond}
 use Rattle.model.proofs.PartialLaws.{findIn-here, findIn-there, from-head, from-tail}
 use Rattle.model.proofs.SoundLaws.{wellFormed-sound}
-use Rattle.layout.specs.Layout.{noPartial, partialIn}
+use Rattle.layout.specs.declared.spots.Shape.{Shape}
+use Rattle.layout.specs.Layout.{noPartial, partialIn, queueFrom, decode, Room}
+use Rattle.layout.proofs.Meanings.{number-queue, pieces-number}
 use Rattle.queues.specs.Queues.{queueIn, placesIn}
 use Rattle.queues.proofs.PlaceLaws.{places-rising}
 
@@ -90,34 +93,19 @@ queue-sorted s w q i j e h =
     let r = places-rising q s in
     pieces-rise 0 (s .partials) (at 0 (placesIn q s) i) (at 0 (placesIn q s) j) (wellFormed-sound s w .rising) (r .rises i j e h) (r .below j h)
 
--- ---- a state without its direction, by the state's number
-plain-low : (q : DownloadQueue) → queueNumber q < 5 → queueNumber q ≡ queueNumber (plainOf q)
-plain-low Downloading h = refl
-plain-low Full h = refl
-plain-low Finished h = refl
-plain-low ZeroPrio h = refl
-plain-low Open h = refl
-plain-low DownloadingReverse h = absurd (omega arith)
-plain-low FullReverse h = absurd (omega arith)
+-- ---- in memory
+-- the piece of a partial is in range
+pub piece-within : (s : Shape) (xs : List ℕ) → Room s xs → wellFormed (decode xs) ≡ true → (k : ℕ) → k < size (decode xs .partials) → partialIn (decode xs) k .piece < s .pieces
+piece-within s xs r w k h = omega (arith, pieces-number s xs r, piece-there (decode xs) w k h)
 
-plain-high : (q : DownloadQueue) → 5 ≤ queueNumber q → queueNumber q - 5 ≡ queueNumber (plainOf q)
-plain-high Downloading h = absurd (omega arith)
-plain-high Full h = absurd (omega arith)
-plain-high Finished h = absurd (omega arith)
-plain-high ZeroPrio h = absurd (omega arith)
-plain-high Open h = absurd (omega arith)
-plain-high DownloadingReverse h = refl
-plain-high FullReverse h = refl
-
--- the queue of partial k from the number of its piece's state
+-- ---- the queue of partial k, from the number of its piece's state
 module _ (s : Picker) (k piece state : ℕ) (e : piece ≡ partialIn s k .piece) (f : state ≡ queueNumber (pieceAt s piece .state)) where
-  number-is : state ≡ queueNumber (pieceAt s (partialIn s k .piece) .state)
-  number-is = f ∙ ap (λ (i : ℕ). queueNumber (pieceAt s i .state)) e
+  pub state-range : state ≤ 6
+  state-range = omega (arith, f, queue-below (pieceAt s piece .state))
 
-  pub queue-low : state < 5 → state ≡ queueNumber (queueIn s k)
+  pub queue-plain : queueNumber (plainOf (queueFrom state)) ≡ queueNumber (queueIn s k)
   unfolding queueIn
-  queue-low h = number-is ∙ plain-low (pieceAt s (partialIn s k .piece) .state) (omega (arith, number-is))
-
-  pub queue-high : 5 ≤ state → state - 5 ≡ queueNumber (queueIn s k)
-  unfolding queueIn
-  queue-high h = ap (λ (w : ℕ). w - 5) number-is ∙ plain-high (pieceAt s (partialIn s k .piece) .state) (omega (arith, number-is))
+  queue-plain =
+      ap (λ (w : ℕ). queueNumber (plainOf (queueFrom w))) f
+      ∙ ap (λ (q : DownloadQueue). queueNumber (plainOf q)) (number-queue (pieceAt s piece .state))
+      ∙ ap (λ (i : ℕ). queueNumber (plainOf (pieceAt s i .state))) e

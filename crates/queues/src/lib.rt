@@ -17,12 +17,9 @@ pub fn queue_of(mem: &[u64], s: layout::Shape, k: usize) -> usize
     requires { ⌜ k < size (decode (now mem) .partials) ⌝ }
     ensures { λ r. ⌜ r ≡ queueNumber (queueIn (decode (now (mem .entry))) k) ⌝ }
 {
-    let piece = layout::idx(records::partial_piece(mem, s, k));
-    let state = layout::idx(fields::get_state(mem, s, piece));
-    if state < 5 {
-        return state;
-    }
-    state - 5
+    let piece = records::partial_piece(mem, s, k);
+    let state = fields::get_state(mem, s, piece);
+    layout::idx(layout::plain_state(state))
 }
 
 // Place k behind those that row q has.

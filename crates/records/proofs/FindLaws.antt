@@ -47,6 +47,10 @@ module _ (s : Picker) (i k : ℕ) (a : Ahead s i k) where
   unfolding placeFrom size
   found-nothing h = sym (ap (placeFrom k i) (drop-of-length-le (s .partials) {i = k} h)) ∙ a
 
+-- the same number gives the same place
+pub placed-as : (ds : List Partial) {w i : ℕ} → w ≡ i → placeFrom 0 w ds ≡ placeFrom 0 i ds
+placed-as ds e = ap (λ (n : ℕ). placeFrom 0 n ds) e
+
 -- ---- what the model finds
 at-differs : (k l : ℕ) → At k ≡ At l → k ≡ l
 at-differs k l e = cc

@@ -12,4 +12,5 @@ pub use slots::find;
 pub use slots::partial_count;
 pub use slots::partial_flags;
 pub use slots::partial_piece;
+pub use slots::piece_number;
 pub use slots::set_partial_flags;

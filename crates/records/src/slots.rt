@@ -1,12 +1,15 @@
 // The partials by their places among the partials, which are by rising piece.
+use crate::blocks::bit_of;
+use types::PieceIndex;
 ghost use mathlib.Core.Path.{_≡_};
 ghost use Prim.Native.Nat.{_<_};
+ghost use lib.IntN.{pos};
+ghost use Rattle.types.specs.Piece.{indexOf};
 ghost use Rattle.model.specs.Lists.{size};
 ghost use Rattle.model.specs.State.{Partial};
 ghost use Rattle.layout.specs.Layout.{decode, partialIn, withPartial, Room, Became};
 ghost use Rattle.records.specs.Rows.{FlagsRead, flagNumber, flagged};
 ghost use Rattle.records.specs.Finding.{placeFrom};
-use crate::blocks::bit_of;
 
 pub enum Found {
     At(usize),
@@ -26,12 +29,25 @@ pub fn partial_count(mem: &[u64], s: layout::Shape) -> usize
     layout::idx(layout::head_word(mem, 7))
 }
 
-pub fn partial_piece(mem: &[u64], s: layout::Shape, k: usize) -> u64
+// The number of the piece of partial k, as the memory holds it.
+pub fn piece_number(mem: &[u64], s: layout::Shape, k: usize) -> u64
     requires { ⌜ Room s (now mem) ⌝ }
     requires { ⌜ k < size (decode (now mem) .partials) ⌝ }
     ensures { λ r. ⌜ r ≡ partialIn (decode (now (mem .entry))) k .piece ⌝ }
 {
     layout::partial_word(mem, s, 0, k)
+}
+
+// The piece of partial k, where its number is in range.
+pub fn partial_piece(mem: &[u64], s: layout::Shape, k: usize) -> PieceIndex
+    requires { ⌜ Room s (now mem) ⌝ }
+    requires { ⌜ k < size (decode (now mem) .partials) ⌝ }
+    requires { ⌜ partialIn (decode (now mem)) k .piece < s .pieces ⌝ }
+    ensures { λ r. ⌜ r .0 ≡ pos (partialIn (decode (now (mem .entry))) k .piece) ⌝ }
+    ensures { λ r. ⌜ indexOf (r .0) ≡ partialIn (decode (now (mem .entry))) k .piece ⌝ }
+{
+    let i = layout::idx(piece_number(mem, s, k));
+    PieceIndex::at(i)
 }
 
 pub fn partial_flags(mem: &[u64], s: layout::Shape, k: usize) -> PartialFlags
@@ -70,14 +86,15 @@ pub fn set_partial_flags(mem: &mut [u64], s: layout::Shape, k: usize, f: Partial
 }
 
 // The partial of a piece.
-pub fn find(mem: &[u64], s: layout::Shape, piece: u64) -> Found
+pub fn find(mem: &[u64], s: layout::Shape, piece: PieceIndex) -> Found
     requires { ⌜ Room s (now mem) ⌝ }
-    ensures { λ r. ⌜ r ≡ placeFrom 0 piece (decode (now (mem .entry)) .partials) ⌝ }
+    ensures { λ r. ⌜ r ≡ placeFrom 0 (indexOf (piece .0)) (decode (now (mem .entry)) .partials) ⌝ }
 {
-    let n = layout::idx(layout::head_word(mem, 7));
+    let wanted = layout::word(piece.get());
+    let n = partial_count(mem, s);
     let mut k = 0;
     while k < n {
-        if layout::partial_word(mem, s, 0, k) == piece {
+        if piece_number(mem, s, k) == wanted {
             return Found::At(k);
         }
         k += 1;

@@ -2,7 +2,7 @@
 -- is z since z fits (`read`). Assumes nothing.
 use mathlib.Core.Path.{_≡_, refl, sym, subst}
 use mathlib.Core.Bool.{true, false}
-use Prim.Native.Nat.{zero, suc}
+use Prim.Native.Nat.{ℕ, zero, suc, _<_}
 use native.Mathlib.Omega.{arith}
 use borrow.Author.Tests.{ltb-true}
 use lib.IntN.{ℤ, pos, negsuc, natAbs, _+ℤ_, +ℤ-one}
@@ -16,6 +16,14 @@ use Rattle.types.specs.Piece.{indexOf, after, largest}
 -- what holds of a number that fits holds of what its bits read as
 pub read : (P : ℤ → Type 0) {z : ℤ} → SFits w32 z → P z → P (toZ w32 (ofZ w32 z))
 read P {z} fit p = subst P (sym (toZ-ofZ w32 z fit)) p
+
+-- a number below 2^31 reads as itself
+pub reads : (n : ℕ) → n < 2147483648 → toZ w32 n ≡ pos n
+reads n h = toZ-ofZ w32 (pos n) (record { sfits = omega arith })
+
+pub places : (n : ℕ) (z : ℤ) → z ≡ pos n → indexOf z ≡ n
+unfolding indexOf
+places n z e = rw e refl
 
 pub negative : (z : ℤ) → ltZ z (pos 0) ≡ true → 0 ≡ indexOf z
 unfolding indexOf

@@ -1,11 +1,21 @@
 // Piece numbers and block numbers, signed as in the Rust.
 ghost use mathlib.Core.Path.{_≡_};
+ghost use Prim.Native.Nat.{_<_};
+ghost use lib.IntN.{pos};
 ghost use Rattle.types.specs.Piece.{indexOf, after, largest};
 
 // The number of a piece. A number of its own kind, so that it cannot be taken for a block or a list place.
 pub struct PieceIndex(pub i32);
 
 impl PieceIndex {
+    // The piece at place i of a list.
+    pub fn at(i: usize) -> PieceIndex
+        requires { ⌜ i < 2147483648 ⌝ }
+        ensures { λ r. ⌜ (r .0 ≡ pos i) × (indexOf (r .0) ≡ i) ⌝ }
+    {
+        PieceIndex(i as i32)
+    }
+
     // The place of the piece in a list; 0 where the number is negative, as in the Rust's release build.
     pub fn get(self) -> usize
         ensures { λ r. ⌜ r ≡ indexOf (self .0) ⌝ }

@@ -1,19 +1,17 @@
 -- `fields::get_had` meets its contract.
 use mathlib.Core.Path.{_∙_, ap}
-use Prim.Native.Nat.{ℕ}
-use lib.Dec.{eqb}
+use native.Mathlib.Omega.{arith}
 use Rattle.layout.specs.Layout.{yes?}
 use Rattle.layout.proofs.Meanings.{had-is}
-use borrow.Author.Needs.{needs}
 use Rattle.fields.proofs.get_had.Statement.{statement}
 use Rattle.fields.proofs.get_had.Tie as tie
 
-piece-word-requires : tie.Need-piece-word-requires
-piece-word-requires c κs = search needs
+field-requires : tie.Need-field-requires
+field-requires c κs = (c .before .pre .0, (omega arith, c .before .pre .1))
 
 returns : tie.Need-returns
 unfolding yes?
-returns c = ap (λ (w : ℕ). eqb w 1) (c .piece-word .ensures) ∙ had-is (c .before .before .args .s) (c .before .before .args .mem .now) (c .before .before .pre .0) (c .before .before .args .i) (c .before .before .pre .1)
+returns c = let p = c .before .before .pre in ap yes? (c .field .ensures) ∙ had-is _ _ (p .0) _ (p .1)
 
 pub get-had-spec : {M : Type 1} → statement M
-get-had-spec = tie.close (tie.spec piece-word-requires returns)
+get-had-spec = tie.close (tie.spec field-requires returns)

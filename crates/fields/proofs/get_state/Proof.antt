@@ -4,18 +4,21 @@ use native.Mathlib.Omega.{arith}
 use Rattle.types.specs.Queue.{queueNumber}
 use Rattle.layout.specs.Layout.{queueFrom}
 use Rattle.layout.proofs.Meanings.{state-is, queue-number, queue-none}
-use borrow.Author.Needs.{needs}
 use Rattle.fields.proofs.get_state.Statement.{statement}
 use Rattle.fields.proofs.get_state.Tie as tie
 
-piece-word-requires : tie.Need-piece-word-requires
-piece-word-requires c κs = search needs
+field-requires : tie.Need-field-requires
+field-requires c κs = (c .before .pre .0, (omega arith, c .before .pre .1))
 
 returns : tie.Need-returns
-returns c = sym (queue-number (c .before .piece-word .result) (omega arith)) ∙ ap (λ w. queueNumber (queueFrom w)) (c .before .piece-word .ensures) ∙ ap queueNumber (state-is (c .before .before .before .args .s) (c .before .before .before .args .mem .now) (c .before .before .before .pre .0) (c .before .before .before .args .i) (c .before .before .before .pre .1))
+returns c =
+    let p = c .before .before .before .pre in
+    sym (queue-number (c .before .field .result) (omega arith)) ∙ ap (λ w. queueNumber (queueFrom w)) (c .before .field .ensures) ∙ ap queueNumber (state-is _ _ (p .0) _ (p .1))
 
 returns-2 : tie.Need-returns-2
-returns-2 c = sym (queue-none (c .before .piece-word .result) (omega arith)) ∙ ap (λ w. queueNumber (queueFrom w)) (c .before .piece-word .ensures) ∙ ap queueNumber (state-is (c .before .before .before .args .s) (c .before .before .before .args .mem .now) (c .before .before .before .pre .0) (c .before .before .before .args .i) (c .before .before .before .pre .1))
+returns-2 c =
+    let p = c .before .before .before .pre in
+    sym (queue-none (c .before .field .result) (omega arith)) ∙ ap (λ w. queueNumber (queueFrom w)) (c .before .field .ensures) ∙ ap queueNumber (state-is _ _ (p .0) _ (p .1))
 
 pub get-state-spec : {M : Type 1} → statement M
-get-state-spec = tie.close (tie.spec piece-word-requires returns returns-2)
+get-state-spec = tie.close (tie.spec field-requires returns returns-2)

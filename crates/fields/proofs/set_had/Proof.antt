@@ -1,18 +1,21 @@
 -- `fields::set_had` meets its contract.
-use Rattle.layout.proofs.RoomLaws.{became-at}
-use Rattle.fields.proofs.Fields.{had-set}
+use native.Mathlib.Omega.{arith}
+use Rattle.model.specs.State.{withPiece, withHad}
+use Rattle.layout.specs.Tables.{choose}
+use Rattle.layout.specs.Layout.{yes?, pieceWith}
 use borrow.Author.Needs.{needs}
 use Rattle.fields.proofs.set_had.Statement.{statement}
 use Rattle.fields.proofs.set_had.Tie as tie
 
-set-piece-word-requires : tie.Need-set-piece-word-requires
-set-piece-word-requires c κs = search needs
+set-field-requires : tie.Need-set-field-requires
+set-field-requires c κs = (c .before .before .pre .0, (omega arith, c .before .before .pre .1))
 
 same-length : tie.Need-same-length
 same-length c = search needs
 
 returns : tie.Need-returns
-returns c = became-at _ _ _ _ _ (c .before .before .set-piece-word .ensures) (had-set (c .before .before .before .before .before .args .s) (c .before .before .before .before .before .args .mem .now) (c .before .before .before .before .before .pre .0) (c .before .before .before .before .before .args .i) (c .before .before .before .before .before .pre .1))
+unfolding withPiece withHad pieceWith choose yes?
+returns c = c .before .before .set-field .ensures
 
 pub set-had-spec : {M : Type 1} → statement M
-set-had-spec = tie.close (tie.spec set-piece-word-requires same-length returns)
+set-had-spec = tie.close (tie.spec set-field-requires same-length returns)

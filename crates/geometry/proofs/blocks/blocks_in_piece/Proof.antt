@@ -1,22 +1,16 @@
--- `blocks_in_piece` meets its contract: blocks are the parts of a piece. Assumes nothing.
-use Rattle.model.specs.Bep3.{blocksInPiece, blocksIn}
+-- `blocks_in_piece` meets its contract. Assumes nothing.
 use borrow.Author.Needs.{needs}
 use Rattle.geometry.proofs.blocks.blocks_in_piece.Statement.{statement}
 use Rattle.geometry.proofs.blocks.blocks_in_piece.Tie as tie
 
-piece-size-requires : tie.Need-piece-size-requires
-piece-size-requires c κs = search needs
+number-of-requires : tie.Need-number-of-requires
+number-of-requires c κs = search needs
 
-block-size-requires : tie.Need-block-size-requires
-block-size-requires c κs = search needs
-
-parts-of-requires : tie.Need-parts-of-requires
-parts-of-requires c κs = search needs
+blocks-at-requires : tie.Need-blocks-at-requires
+blocks-at-requires c κs = search needs
 
 returns : tie.Need-returns
-unfolding blocksInPiece blocksIn
 returns c = cc
 
 pub blocks-in-piece-spec : {M : Type 1} → statement M
-blocks-in-piece-spec =
-    tie.close (tie.spec piece-size-requires block-size-requires parts-of-requires returns)
+blocks-in-piece-spec = tie.close (tie.spec number-of-requires blocks-at-requires returns)

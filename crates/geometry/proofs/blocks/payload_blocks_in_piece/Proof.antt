@@ -1,4 +1,4 @@
--- `payload_blocks_in_piece` meets its contract. There is a piece p, so blocks have a length. Assumes nothing.
+-- `payload_blocks_in_piece` meets its contract. The piece is there, so blocks have a length. Assumes nothing.
 use native.Mathlib.Omega.{arith}
 use Rattle.model.specs.Bep3.{blockLength, numPieces}
 use Rattle.geometry.specs.Numbers.{payloadBlocks}

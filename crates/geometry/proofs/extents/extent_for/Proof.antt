@@ -13,12 +13,16 @@ extent-size-requires c κs = search needs
 returns : tie.Need-returns
 returns c = extentOf-none _ _ (sym (c .before .extent-size .ensures) ∙ c .if1 .taken)
 
+number-of-requires : tie.Need-number-of-requires
+number-of-requires c κs = search needs
+
 div-result : tie.Need-div-result
 div-result c = omega arith
 
 returns-2 : tie.Need-returns-2
 unfolding extentOf
-returns-2 c = rw (c .before .extent-size .ensures)
+returns-2 c = rw (c .number-of .ensures, c .before .before .extent-size .ensures)
 
 pub extent-for-spec : {M : Type 1} → statement M
-extent-for-spec = tie.close (tie.spec extent-size-requires returns div-result returns-2)
+extent-for-spec =
+    tie.close (tie.spec extent-size-requires returns number-of-requires div-result returns-2)

@@ -1,15 +1,16 @@
--- `piece_size` meets its contract: a piece is a part of the total. Assumes nothing.
-use Rattle.model.specs.Bep3.{numPieces, pieceLength}
+-- `piece_size` meets its contract. Assumes nothing.
+use borrow.Author.Needs.{needs}
 use Rattle.geometry.proofs.pieces.piece_size.Statement.{statement}
 use Rattle.geometry.proofs.pieces.piece_size.Tie as tie
 
-part-length-requires : tie.Need-part-length-requires
-unfolding numPieces
-part-length-requires c κs = c .pre
+number-of-requires : tie.Need-number-of-requires
+number-of-requires c κs = search needs
+
+piece-length-requires : tie.Need-piece-length-requires
+piece-length-requires c κs = search needs
 
 returns : tie.Need-returns
-unfolding pieceLength
-returns c = c .part-length .ensures
+returns c = cc
 
 pub piece-size-spec : {M : Type 1} → statement M
-piece-size-spec = tie.close (tie.spec part-length-requires returns)
+piece-size-spec = tie.close (tie.spec number-of-requires piece-length-requires returns)

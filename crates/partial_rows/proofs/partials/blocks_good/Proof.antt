@@ -12,14 +12,14 @@ head-word-requires c κs = search needs
 head-word-requires-2 : tie.Need-head-word-requires-2
 head-word-requires-2 c κs = search needs
 
-blocks-in-piece-requires : tie.Need-blocks-in-piece-requires
-blocks-in-piece-requires c κs = piece-there _ _ (c .before .before .before .pre .0) _ _ _ (c .before .head-word .ensures) (c .head-word2 .ensures) (omega arith)
+blocks-at-requires : tie.Need-blocks-at-requires
+blocks-at-requires c κs = piece-there _ _ (c .before .before .before .pre .0) _ _ _ (c .before .head-word .ensures) (c .head-word2 .ensures) (omega arith)
 
 blocks-ok-requires : tie.Need-blocks-ok-requires
-blocks-ok-requires c κs = (c .before .before .before .before .pre .0 .spans, (omega arith, blocks-few _ _ (c .before .before .before .before .pre .0) _ _ _ (c .before .before .head-word .ensures) (c .before .head-word2 .ensures) _ (c .blocks-in-piece .ensures)))
+blocks-ok-requires c κs = (c .before .before .before .before .pre .0 .spans, (omega arith, blocks-few _ _ (c .before .before .before .before .pre .0) _ _ _ (c .before .before .head-word .ensures) (c .before .head-word2 .ensures) _ (c .blocks-at .ensures)))
 
 returns : tie.Need-returns
-returns c = good-rows _ _ _ _ _ _ _ _ _ (c .before .before .before .before .before .head-word .ensures) (c .before .before .before .before .head-word2 .ensures) (c .before .before .before .blocks-in-piece .ensures) _ (c .before .before .blocks-ok .ensures .0) (not-true _ (c .if1 .taken))
+returns c = good-rows _ _ _ _ _ _ _ _ _ (c .before .before .before .before .before .head-word .ensures) (c .before .before .before .before .head-word2 .ensures) (c .before .before .before .blocks-at .ensures) _ (c .before .before .blocks-ok .ensures .0) (not-true _ (c .if1 .taken))
 
 piece-word-requires : tie.Need-piece-word-requires
 piece-word-requires c κs = search needs
@@ -31,7 +31,7 @@ state-ok-requires : tie.Need-state-ok-requires
 state-ok-requires c κs = omega (arith, c .before .piece-word .ensures, c .before .before .before .before .before .before .before .before .before .pre .0 .states (c .before .before .before .before .before .before .before .before .before .args .piece) (omega arith))
 
 returns-2 : tie.Need-returns-2
-returns-2 c = good-state _ _ _ _ _ _ _ _ _ (c .before .before .before .before .before .before .before .before .head-word .ensures) (c .before .before .before .before .before .before .before .head-word2 .ensures) (c .before .before .before .before .before .before .blocks-in-piece .ensures) _ (c .before .before .before .before .before .blocks-ok .ensures .0) (not-false _ (c .before .before .before .if1 .left)) _ _ (c .before .before .before .before .before .blocks-ok .ensures .1 .0 (not-false _ (c .before .before .before .if1 .left))) (c .before .before .before .before .before .blocks-ok .ensures .1 .1 (not-false _ (c .before .before .before .if1 .left))) _ _ (c .before .before .piece-word .ensures) (c .before .piece-word2 .ensures) _ (c .state-ok .ensures)
+returns-2 c = good-state _ _ _ _ _ _ _ _ _ (c .before .before .before .before .before .before .before .before .head-word .ensures) (c .before .before .before .before .before .before .before .head-word2 .ensures) (c .before .before .before .before .before .before .blocks-at .ensures) _ (c .before .before .before .before .before .blocks-ok .ensures .0) (not-false _ (c .before .before .before .if1 .left)) _ _ (c .before .before .before .before .before .blocks-ok .ensures .1 .0 (not-false _ (c .before .before .before .if1 .left))) (c .before .before .before .before .before .blocks-ok .ensures .1 .1 (not-false _ (c .before .before .before .if1 .left))) _ _ (c .before .before .piece-word .ensures) (c .before .piece-word2 .ensures) _ (c .state-ok .ensures)
 
 pub blocks-good-spec : {M : Type 1} → statement M
 blocks-good-spec =
@@ -39,7 +39,7 @@ blocks-good-spec =
     (tie.spec
     head-word-requires
     head-word-requires-2
-    blocks-in-piece-requires
+    blocks-at-requires
     blocks-ok-requires
     returns
     piece-word-requires

@@ -5,20 +5,6 @@ use Rattle.model.specs.Partials.{freshBlock}
 use Rattle.model.specs.Lists.{at}
 use Rattle.layout.specs.Layout.{stateFrom}
 use Rattle.records.specs.Rows.{blockOfRow}
--- `partials::fresh_row` meets its contract.
-use native.Mathlib.Omega.{arith}
-use borrow.Author.Tests.{lt-ltb, le-ltb}
-use Rattle.model.specs.Partials.{freshBlock}
-use Rattle.model.specs.Lists.{at}
-use Rattle.layout.specs.Layout.{stateFrom}
-use Rattle.records.specs.Rows.{blockOfRow}
--- `partials::fresh_row` meets its contract.
-use native.Mathlib.Omega.{arith}
-use borrow.Author.Tests.{lt-ltb, le-ltb}
-use Rattle.model.specs.Partials.{freshBlock}
-use Rattle.model.specs.Lists.{at}
-use Rattle.layout.specs.Layout.{stateFrom}
-use Rattle.records.specs.Rows.{blockOfRow}
 use Rattle.partials.proofs.fresh.fresh_row.Statement.{statement}
 use Rattle.partials.proofs.fresh.fresh_row.Tie as tie
 

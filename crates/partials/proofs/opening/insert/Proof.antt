@@ -1,5 +1,7 @@
 -- `partials::insert` meets its contract: the blocks of the first free place are filled, and a partial is opened on them.
+use mathlib.Core.Path.{_∙_}
 use native.Mathlib.Omega.{arith}
+use Rattle.types.specs.Piece.{indexOf}
 use Rattle.partials.proofs.FreshLaws.{blocks-at-most, filled-ready, inserted}
 use borrow.Author.Needs.{needs}
 use Rattle.partials.proofs.opening.insert.Statement.{statement}
@@ -9,7 +11,7 @@ partial-count-requires : tie.Need-partial-count-requires
 partial-count-requires c κs = search needs
 
 partial-word-requires : tie.Need-partial-word-requires
-partial-word-requires c κs = (c .before .before .before .before .pre .0 .spans, (omega arith, omega (arith, c .before .partial-count .ensures, c .before .before .before .before .pre .1 .0)))
+partial-word-requires c κs = let p = c .before .before .before .before .pre in (p .0 .spans, (omega arith, omega (arith, c .before .partial-count .ensures, p .1 .0)))
 
 idx-requires : tie.Need-idx-requires
 idx-requires c κs = search needs
@@ -20,26 +22,38 @@ fill-requires c κs =
     let p = c .before .before .before .before .before .before .before .pre in
     let n = c .before .before .before .before .partial-count .result in
     let w = p .0 .placed n (omega (arith, c .before .before .before .before .partial-count .ensures, p .1 .0)) in
-    (p .0, (omega (arith, c .before .idx .ensures, c .before .before .partial-word .ensures), omega (arith, p .1 .1 .0, blocks-at-most (a .s) (a .mem .now) (p .0) (a .piece))))
+    (p .0, (omega (arith, c .before .idx .ensures, c .before .before .partial-word .ensures), omega (arith, p .1 .1 .0, blocks-at-most (a .s) (a .mem .now) (p .0) (indexOf (a .piece .0)))))
 
 position-requires : tie.Need-position-requires
 position-requires c κs = search needs
 
+get-requires : tie.Need-get-requires
+get-requires c κs = search needs
+
+word-requires : tie.Need-word-requires
+word-requires c κs = search needs
+
 open-at-requires : tie.Need-open-at-requires
 open-at-requires c κs =
-    let a = c .before .before .before .before .before .before .before .before .before .before .before .before .before .args in
-    let p = c .before .before .before .before .before .before .before .before .before .before .before .before .before .pre in
-    filled-ready (a .s) (a .mem .now) _ (p .0) (c .before .before .before .before .before .before .before .idx .result) (a .count) (a .payload) (a .piece) _ (c .before .before .before .before .before .fill .ensures) (p .1 .0) (c .before .position .ensures)
+    let a = c .before .before .before .before .before .before .before .before .before .before .before .before .before .before .before .args in
+    let p = c .before .before .before .before .before .before .before .before .before .before .before .before .before .before .before .pre in
+    filled-ready (a .s) (a .mem .now) _ (p .0) (c .before .before .before .before .before .before .before .before .before .idx .result) (a .count) (a .payload) (indexOf (a .piece .0)) _ (c .before .before .before .before .before .before .before .fill .ensures) (p .1 .0) (c .before .before .before .position .ensures)
 
 same-length : tie.Need-same-length
 same-length c = search needs
 
 returns : tie.Need-returns
 returns c =
-    let a = c .before .before .before .before .before .before .before .before .before .before .before .before .before .before .before .before .args in
-    let p = c .before .before .before .before .before .before .before .before .before .before .before .before .before .before .before .before .pre in
-    inserted (a .s) (a .mem .now) (c .before .before .before .before .before .before .before .before .fill .last .0) _ (p .0) (c .before .before .before .before .before .before .before .before .before .before .before .before .before .partial-count .result) (c .before .before .before .before .before .before .before .before .before .before .before .partial-word .result) (c .before .before .before .before .before .before .before .before .before .before .idx .result) (a .piece) (c .before .before .before .before .position .result) (a .count) (a .payload)
-    (c .before .before .before .before .before .before .before .before .before .before .before .before .before .partial-count .ensures) (p .1 .0) (c .before .before .before .before .before .before .before .before .before .before .before .partial-word .ensures) (c .before .before .before .before .before .before .before .before .before .before .idx .ensures) (p .1 .1 .0) (p .1 .1 .1) (c .before .before .before .before .before .before .before .before .fill .ensures) (c .before .before .before .before .position .ensures) (c .before .before .open-at .ensures)
+    let a = c .before .before .before .before .before .before .before .before .before .before .before .before .before .before .before .before .before .before .args in
+    let p = c .before .before .before .before .before .before .before .before .before .before .before .before .before .before .before .before .before .before .pre in
+    let n = c .before .before .before .before .before .before .before .before .before .before .before .before .before .before .before .partial-count in
+    let v = c .before .before .before .before .before .before .before .before .before .before .before .before .before .partial-word in
+    let w = c .before .before .before .before .before .before .before .before .before .before .before .before .idx in
+    let f = c .before .before .before .before .before .before .before .before .before .before .fill in
+    let q = c .before .before .before .before .before .before .position in
+    let m = c .before .before .before .before .word in
+    inserted (a .s) (a .mem .now) (f .last .0) _ (p .0) (n .result) (v .result) (w .result) (indexOf (a .piece .0)) (m .result) (q .result) (a .count) (a .payload)
+    (n .ensures) (p .1 .0) (v .ensures) (w .ensures) (m .ensures ∙ c .before .before .before .before .before .get .ensures) (p .1 .1 .0) (p .1 .1 .1) (f .ensures) (q .ensures) (c .before .before .open-at .ensures)
 
 pub insert-spec : {M : Type 1} → statement M
 insert-spec =
@@ -50,6 +64,8 @@ insert-spec =
     idx-requires
     fill-requires
     position-requires
+    get-requires
+    word-requires
     open-at-requires
     same-length
     returns)

@@ -31,8 +31,8 @@ loop-holds c = passing-start _ _ (c .before .before .before .before .pre .0) _ (
 word-requires : tie.Need-word-requires Inv-loop μ-loop
 word-requires c κs = search needs
 
-piece-size-requires : tie.Need-piece-size-requires Inv-loop μ-loop
-piece-size-requires c κs = piece-there _ _ (c .before .before .before .before .before .before .before .pre .0) (c .before .before .loop .i) _ _ _ (omega arith) (c .word .ensures) (c .before .before .before .before .before .head-word .ensures) (c .before .before .before .before .head-word2 .ensures)
+piece-length-requires : tie.Need-piece-length-requires Inv-loop μ-loop
+piece-length-requires c κs = piece-there _ _ (c .before .before .before .before .before .before .before .pre .0) (c .before .before .loop .i) _ _ _ (omega arith) (c .word .ensures) (c .before .before .before .before .before .head-word .ensures) (c .before .before .before .before .head-word2 .ensures)
 
 piece-word-requires : tie.Need-piece-word-requires Inv-loop μ-loop
 piece-word-requires c κs = (c .before .before .before .before .before .before .before .before .pre .0 .spans, (omega arith, omega arith))
@@ -55,7 +55,7 @@ piece-ok-requires c κs = omega (arith, c .before .before .before .before .befor
 returns : tie.Need-returns Inv-loop μ-loop
 returns c =
     bad-row _ _ (c .before .before .before .before .before .before .before .before .before .before .before .before .before .before .before .pre .0) (c .before .before .before .before .before .before .before .before .before .before .loop .keys) (c .before .before .before .before .before .before .before .before .before .before .loop .i) (c .before .before .before .before .before .before .before .before .before .before .loop .inv) (omega arith) _ (c .before .before .before .before .before .before .before .before .before .before .before .before .before .head-word .result) (c .before .before .before .before .before .before .before .before .before .before .before .before .head-word2 .result) (c .before .before .before .before .before .before .before .before .word .result) _ _ _ _ _ _
-    (c .before .before .before .before .before .before .before .before .word .ensures) (c .before .before .before .before .before .before .before .before .before .before .before .before .before .head-word .ensures) (c .before .before .before .before .before .before .before .before .before .before .before .before .head-word2 .ensures) (c .before .before .before .before .before .before .before .before .before .before .before .head-word3 .ensures) (c .before .before .before .before .before .before .before .piece-size .ensures)
+    (c .before .before .before .before .before .before .before .before .word .ensures) (c .before .before .before .before .before .before .before .before .before .before .before .before .before .head-word .ensures) (c .before .before .before .before .before .before .before .before .before .before .before .before .head-word2 .ensures) (c .before .before .before .before .before .before .before .before .before .before .before .head-word3 .ensures) (c .before .before .before .before .before .before .before .piece-length .ensures)
     (c .before .before .before .before .before .before .piece-word .ensures) (c .before .before .before .before .before .piece-word2 .ensures) (c .before .before .before .before .piece-word3 .ensures) (c .before .before .before .piece-word4 .ensures) (c .before .before .piece-word5 .ensures)
     (sym (c .before .piece-ok .ensures) ∙ not-true _ (c .if1 .taken))
 
@@ -77,7 +77,7 @@ loop-less c = search needs
 loop-again : tie.Need-loop-again Inv-loop μ-loop
 loop-again c =
     next-row _ _ (c .before .before .before .before .before .before .before .before .before .before .before .before .before .before .before .before .pre .0) (c .before .before .before .before .before .before .before .before .before .before .before .loop .keys) (c .before .before .before .before .before .before .before .before .before .before .before .loop .i) (c .before .before .before .before .before .before .before .before .before .before .before .loop .inv) (omega arith) _ (c .before .before .before .before .before .before .before .before .before .before .before .before .before .before .head-word .result) (c .before .before .before .before .before .before .before .before .before .before .before .before .before .head-word2 .result) (c .before .before .before .before .before .before .before .before .before .word .result) _ _ _ _ _ _
-    (c .before .before .before .before .before .before .before .before .before .word .ensures) (c .before .before .before .before .before .before .before .before .before .before .before .before .before .before .head-word .ensures) (c .before .before .before .before .before .before .before .before .before .before .before .before .before .head-word2 .ensures) (c .before .before .before .before .before .before .before .before .before .before .before .before .head-word3 .ensures) (c .before .before .before .before .before .before .before .before .piece-size .ensures)
+    (c .before .before .before .before .before .before .before .before .before .word .ensures) (c .before .before .before .before .before .before .before .before .before .before .before .before .before .before .head-word .ensures) (c .before .before .before .before .before .before .before .before .before .before .before .before .before .head-word2 .ensures) (c .before .before .before .before .before .before .before .before .before .before .before .before .head-word3 .ensures) (c .before .before .before .before .before .before .before .before .piece-length .ensures)
     (c .before .before .before .before .before .before .before .piece-word .ensures) (c .before .before .before .before .before .before .piece-word2 .ensures) (c .before .before .before .before .before .piece-word3 .ensures) (c .before .before .before .before .piece-word4 .ensures) (c .before .before .before .piece-word5 .ensures)
     (sym (c .before .before .piece-ok .ensures) ∙ not-false _ (c .before .if1 .left)) _ (c .rank-of .ensures)
 
@@ -95,7 +95,7 @@ pieces-ok-spec =
     head-word-requires-3
     loop-holds
     word-requires
-    piece-size-requires
+    piece-length-requires
     piece-word-requires
     piece-word-requires-2
     piece-word-requires-3

@@ -2,10 +2,6 @@
 use mathlib.Core.Path.{sym}
 use native.Mathlib.Omega.{arith}
 use Rattle.layout.proofs.Meanings.{state-number, state-none}
--- `records::known` meets its contract.
-use mathlib.Core.Path.{sym}
-use native.Mathlib.Omega.{arith}
-use Rattle.layout.proofs.Meanings.{state-number, state-none}
 use Rattle.records.proofs.blocks.known.Statement.{statement}
 use Rattle.records.proofs.blocks.known.Tie as tie
 

@@ -2,10 +2,6 @@
 use mathlib.Core.Path.{refl}
 use native.Mathlib.Omega.{arith}
 use Rattle.records.proofs.RowLaws.{slot-room, flags-read}
--- `records::partial_flags` meets its contract.
-use mathlib.Core.Path.{refl}
-use native.Mathlib.Omega.{arith}
-use Rattle.records.proofs.RowLaws.{slot-room, flags-read}
 use Rattle.records.proofs.slots.partial_flags.Statement.{statement}
 use Rattle.records.proofs.slots.partial_flags.Tie as tie
 

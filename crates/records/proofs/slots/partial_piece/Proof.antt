@@ -1,21 +1,24 @@
--- `records::partial_piece` meets its contract.
-use mathlib.Core.Path.{_∙_}
+-- `records::partial_piece` meets its contract: there are at most 4096 pieces, so the number fits.
+use mathlib.Core.Path.{_∙_, ap}
 use native.Mathlib.Omega.{arith}
-use Rattle.layout.proofs.BlockStores.{partial-piece-is}
-use Rattle.records.proofs.RowLaws.{slot-room, slot-held}
--- `records::partial_piece` meets its contract.
-use mathlib.Core.Path.{_∙_}
-use native.Mathlib.Omega.{arith}
-use Rattle.layout.proofs.BlockStores.{partial-piece-is}
-use Rattle.records.proofs.RowLaws.{slot-room, slot-held}
+use lib.IntN.{pos}
+use borrow.Author.Needs.{needs}
 use Rattle.records.proofs.slots.partial_piece.Statement.{statement}
 use Rattle.records.proofs.slots.partial_piece.Tie as tie
 
-partial-word-requires : tie.Need-partial-word-requires
-partial-word-requires c κs = (c .before .pre .0 .spans, (omega arith, slot-room (c .before .args .s) (c .before .args .mem .now) (c .before .pre .0) (c .before .args .k) (c .before .pre .1)))
+piece-number-requires : tie.Need-piece-number-requires
+piece-number-requires c κs = search needs
+
+idx-requires : tie.Need-idx-requires
+idx-requires c κs = search needs
+
+at-requires : tie.Need-at-requires
+at-requires c κs = omega (arith, c .idx .ensures, c .before .piece-number .ensures, c .before .before .before .pre .1 .1, c .before .before .before .pre .0 .spans .sizes .many)
 
 returns : tie.Need-returns
-returns c = c .partial-word .ensures ∙ partial-piece-is (c .before .before .args .s) (c .before .before .args .mem .now) (c .before .before .pre .0) (c .before .before .args .k) (slot-held (c .before .before .args .s) (c .before .before .args .mem .now) (c .before .before .pre .0) (c .before .before .args .k) (c .before .before .pre .1))
+returns c =
+    let e = c .before .idx .ensures ∙ c .before .before .piece-number .ensures in
+    (c .at .ensures .0 ∙ ap pos e, c .at .ensures .1 ∙ e)
 
 pub partial-piece-spec : {M : Type 1} → statement M
-partial-piece-spec = tie.close (tie.spec partial-word-requires returns)
+partial-piece-spec = tie.close (tie.spec piece-number-requires idx-requires at-requires returns)
