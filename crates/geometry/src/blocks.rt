@@ -8,7 +8,7 @@ use types::PieceIndex;
 ghost use mathlib.Core.Path.{_≡_};
 ghost use Prim.Native.Nat.{_<_};
 ghost use Rattle.types.specs.Piece.{indexOf};
-ghost use Rattle.model.specs.Bep3.{numPieces, blockLength, blockLengthAt, blocksPerPiece, blocksInPiece};
+ghost use Rattle.model.specs.Bep3.{numPieces, blockLength, blockLengthAt, blocksIn, blocksPerPiece, blocksInPiece};
 ghost use Rattle.geometry.specs.Numbers.{payloadBlocks};
 
 // The length of a whole block.
@@ -18,11 +18,21 @@ pub fn block_size(size: u64) -> u64
     if 16384 < size { 16384 } else { size }
 }
 
+// The number of blocks of so many bytes. The divisor is a constant where pieces are longer than a block.
+fn blocks_of(long: u64, size: u64) -> u64
+    ensures { λ r. ⌜ r ≡ blocksIn long size ⌝ }
+{
+    if 16384 < size {
+        return parts_of(long, 16384);
+    }
+    parts_of(long, size)
+}
+
 // The number of blocks of a whole piece.
 pub fn blocks_per_piece(size: u64) -> u64
     ensures { λ r. ⌜ r ≡ blocksPerPiece size ⌝ }
 {
-    parts_of(size, block_size(size))
+    blocks_of(size, size)
 }
 
 // The number of blocks of piece p, for a number that is a word of memory.
@@ -30,7 +40,7 @@ pub fn blocks_at(total: u64, size: u64, p: u64) -> u64
     requires { ⌜ p < numPieces total size ⌝ }
     ensures { λ r. ⌜ r ≡ blocksInPiece total size p ⌝ }
 {
-    parts_of(piece_length(total, size, p), block_size(size))
+    blocks_of(piece_length(total, size, p), size)
 }
 
 // The number of blocks of a piece.

@@ -1,7 +1,7 @@
 -- Tests on the numbers below one: one number more, one that fails, and the same tests on lists. Assumes nothing.
 use mathlib.Core.Path.{_≡_, refl, ap, ap₂, _∙_}
 use mathlib.Core.Logic.{inl, inr}
-use mathlib.Core.Bool.{Bool, true, false, not, _||_}
+use mathlib.Core.Bool.{Bool, true, false, not, _&&_, _||_}
 use mathlib.Core.List.{[], _∷_}
 use Prim.Native.Nat.{ℕ, zero, suc, _+_, _≤_, _<_}
 use native.Mathlib.Numerals.{add-one}
@@ -65,6 +65,11 @@ module _ (t : ℕ → Bool) where
 
 -- ---- two tests
 module _ (t u : ℕ → Bool) where
+  pub all-same : (n : ℕ) → ((k : ℕ) → k < n → t k ≡ u k) → allBelow t n ≡ allBelow u n
+  unfolding allBelow
+  all-same zero h = refl
+  all-same (suc n) h = ap₂ (λ (x y : Bool). x && y) (all-same n (λ k l. h k (omega arith))) (h n (omega arith))
+
   pub count-same : (n : ℕ) → ((k : ℕ) → k < n → t k ≡ u k) → countBelow t n ≡ countBelow u n
   unfolding countBelow
   count-same zero h = refl

@@ -1,48 +1,104 @@
--- The pass over a partial's blocks. Assumes nothing.
+-- The pass over blocks whose words stand in a list for each field, and the same over a place of the memory. Assumes nothing.
 use mathlib.Core.Path.{_≡_, refl, sym, ap, ap₂, _∙_}
 use mathlib.Core.Bool.{Bool, true, false, not, true≢false}
 use mathlib.Core.List.{List}
-use Prim.Native.Nat.{ℕ, _+_, _≤_, _<_}
+use Prim.Native.Nat.{ℕ, _+_, _*_, _-_, _≤_, _<_}
+use native.Mathlib.Nat.{mul-le-mul, add-mul}
 use native.Mathlib.Omega.{arith}
 use lib.Dec.{eqb}
+use lib.ListN.{length, getD, take, drop, length-drop}
+use lib.Seq.{length-take-le, getD-take, getD-drop}
 use Rattle.model.specs.Lists.{bit}
-use Rattle.layout.specs.Layout.{blockWord}
-use Rattle.partial_rows.specs.Rows.{allBelow, countBelow, rowAt, rowsOk, requestedIn, busyIn}
-use Rattle.partial_rows.proofs.BelowLaws.{all-next, all-false, count-next}
+use Rattle.layout.specs.declared.spots.Shape.{Shape}
+use Rattle.layout.specs.Layout.{cell, blockSpot, blockWord, Sizes, Spans}
+use Rattle.layout.proofs.SpotLaws.{words-needed, small}
+use Rattle.partial_rows.specs.Rows.{allBelow, countBelow, rowIn, requestedOf, busyOf, FieldOf, rowAt, rowsOk, requestedIn, busyIn}
+use Rattle.partial_rows.proofs.BelowLaws.{all-next, all-false, all-same, count-next, count-same}
 
--- after j blocks of place p, all good
-pub record Counting (xs : List ℕ) (n b p requested busy j : ℕ) : Type 0 where
-  pub good : rowsOk xs n b p j ≡ true
-  pub asked : requested ≡ requestedIn xs n b p j
-  pub taken : busy ≡ busyIn xs n b p j
+-- ---- lists
+-- after j blocks, all good
+pub record Counting (ss rs hs ps : List ℕ) (requested busy j : ℕ) : Type 0 where
+  pub good : allBelow (rowIn ss rs hs ps) j ≡ true
+  pub asked : requested ≡ requestedOf ss j
+  pub taken : busy ≡ busyOf ss j
   pub few-asked : requested ≤ j
   pub few-taken : busy ≤ j
 
-module _ (xs : List ℕ) (n b p : ℕ) where
-  pub counting-start : Counting xs n b p 0 0 0
-  unfolding rowsOk requestedIn busyIn allBelow countBelow
+module _ (ss rs hs ps : List ℕ) where
+  pub counting-start : Counting ss rs hs ps 0 0 0
+  unfolding requestedOf busyOf allBelow countBelow
   counting-start = record { good = refl; asked = refl; taken = refl; few-asked = omega arith; few-taken = omega arith }
 
-  pub counting-next : (r u j w a d : ℕ) → Counting xs n b p r u j → true ≡ rowAt xs n b p j → w ≡ blockWord xs n b 0 p j
-      → a ≡ bit (eqb w 1) → a ≤ 1 → d ≡ bit (not (eqb w 0)) → d ≤ 1 → Counting xs n b p (r + a) (u + d) (j + 1)
-  unfolding rowsOk requestedIn busyIn
-  counting-next r u j w a d g h e ea la ed ld =
+  pub counting-next : (r u j a d : ℕ) → Counting ss rs hs ps r u j → true ≡ rowIn ss rs hs ps j
+      → a ≡ bit (eqb (getD ss j 0) 1) → a ≤ 1 → d ≡ bit (not (eqb (getD ss j 0) 0)) → d ≤ 1 → Counting ss rs hs ps (r + a) (u + d) (j + 1)
+  unfolding requestedOf busyOf
+  counting-next r u j a d g h ea la ed ld =
       record {
-        good = all-next (rowAt xs n b p) j (g .good) (sym h);
-        asked = ap₂ (λ (x y : ℕ). x + y) (g .asked) (ea ∙ ap (λ (x : ℕ). bit (eqb x 1)) e) ∙ sym (count-next (λ i. eqb (blockWord xs n b 0 p i) 1) j);
-        taken = ap₂ (λ (x y : ℕ). x + y) (g .taken) (ed ∙ ap (λ (x : ℕ). bit (not (eqb x 0))) e) ∙ sym (count-next (λ i. not (eqb (blockWord xs n b 0 p i) 0)) j);
+        good = all-next (rowIn ss rs hs ps) j (g .good) (sym h);
+        asked = ap₂ (λ (x y : ℕ). x + y) (g .asked) ea ∙ sym (count-next (λ i. eqb (getD ss i 0) 1) j);
+        taken = ap₂ (λ (x y : ℕ). x + y) (g .taken) ed ∙ sym (count-next (λ i. not (eqb (getD ss i 0) 0)) j);
         few-asked = omega (arith, g .few-asked);
         few-taken = omega (arith, g .few-taken);
       }
 
   abbrev pub Answer : ℕ → Bool → ℕ → ℕ → Type 0
   Answer many ok requested busy =
-      (ok ≡ rowsOk xs n b p many) × ((ok ≡ true → requested ≡ requestedIn xs n b p many) × (ok ≡ true → busy ≡ busyIn xs n b p many))
+      (ok ≡ allBelow (rowIn ss rs hs ps) many) × ((ok ≡ true → requested ≡ requestedOf ss many) × (ok ≡ true → busy ≡ busyOf ss many))
 
-  pub counting-bad : (j many : ℕ) → j < many → false ≡ rowAt xs n b p j → Answer many false 0 0
-  unfolding rowsOk
+  pub counting-bad : (j many : ℕ) → j < many → false ≡ rowIn ss rs hs ps j → Answer many false 0 0
   counting-bad j many l h =
-      (sym (all-false (rowAt xs n b p) j many l (sym h)), (λ e. absurd (true≢false (sym e)), λ e. absurd (true≢false (sym e))))
+      (sym (all-false (rowIn ss rs hs ps) j many l (sym h)), (λ e. absurd (true≢false (sym e)), λ e. absurd (true≢false (sym e))))
 
-  pub counting-end : (r u j many : ℕ) → Counting xs n b p r u j → j ≡ many → Answer many true r u
+  pub counting-end : (r u j many : ℕ) → Counting ss rs hs ps r u j → j ≡ many → Answer many true r u
   counting-end r u j many g e = rw (← e) (sym (g .good), (λ _. g .asked, λ _. g .taken))
+
+-- ---- a place of the memory
+-- a field of its first blocks starts low, and lies in the memory
+pub field-low : (s : Shape) → Sizes s → (f p : ℕ) → f < 4 → p < s .places → blockSpot (s .pieces) (s .blocks) f p 0 < 2000000
+unfolding blockSpot cell
+field-low s z f p lf lp =
+    let n = small s f 0 z (omega arith) (omega arith) in
+    let m = small s f p z (omega arith) (omega (arith, n .places)) in
+    rw (← (z .places)) (omega (arith, z .many, m .places, m .block, m .row))
+
+pub field-in : (s : Shape) (xs : List ℕ) → Spans s xs → (f p many : ℕ) → f < 4 → p < s .places → many ≤ s .blocks
+    → blockSpot (s .pieces) (s .blocks) f p 0 + many ≤ length xs
+unfolding blockSpot cell
+field-in s xs r f p many lf lp lm =
+    let b = s .blocks in
+    let m = s .places in
+    let row : (p + 1) * b ≤ m * b = mul-le-mul (omega arith) (omega arith) in
+    let all : (f + 1) * (m * b) ≤ 4 * (m * b) = mul-le-mul (omega arith) (omega arith) in
+    let w = rw (← (r .sizes .places)) at (words-needed (s .pieces) b) in
+    rw (← (r .sizes .places)) (omega (arith, row, all, add-mul p 1 b, add-mul f 1 (m * b), w, r .body))
+
+-- the part of it that is lent
+pub field-is : (s : Shape) (xs : List ℕ) (f p many a : ℕ) → a ≡ blockSpot (s .pieces) (s .blocks) f p 0 → a + many ≤ length xs → FieldOf xs s f p many (take (a + many - a) (drop a xs))
+field-is s xs f p many a e h =
+    let q : a + many - a ≡ many = omega arith in
+    rw q (record {
+      long = length-take-le many (drop a xs) (rw (length-drop a xs) (omega arith));
+      each = λ j l. getD-take many (drop a xs) j 0 l ∙ getD-drop a xs j 0 ∙ spot j;
+    })
+  where
+    spot : (j : ℕ) → getD xs (a + j) 0 ≡ blockWord xs (s .pieces) (s .blocks) f p j
+    spot j = unfold blockWord in ap (λ (i : ℕ). getD xs i 0) (rw e (unfold blockSpot cell in (omega arith)))
+
+-- the tests on the lists are those on the place
+module _ (s : Shape) (xs ss rs hs ps : List ℕ) (p many : ℕ)
+    (e0 : FieldOf xs s 0 p many ss) (e1 : FieldOf xs s 1 p many rs) (e2 : FieldOf xs s 2 p many hs) (e3 : FieldOf xs s 3 p many ps) where
+  rows-same : allBelow (rowIn ss rs hs ps) many ≡ rowsOk xs (s .pieces) (s .blocks) p many
+  unfolding rowsOk rowIn rowAt
+  rows-same = all-same (rowIn ss rs hs ps) (rowAt xs (s .pieces) (s .blocks) p) many (λ j l. rw (e0 .each j l, e1 .each j l, e2 .each j l, e3 .each j l))
+
+  asked-same : requestedOf ss many ≡ requestedIn xs (s .pieces) (s .blocks) p many
+  unfolding requestedOf requestedIn
+  asked-same = count-same _ _ many (λ j l. ap (λ (x : ℕ). eqb x 1) (e0 .each j l))
+
+  taken-same : busyOf ss many ≡ busyIn xs (s .pieces) (s .blocks) p many
+  unfolding busyOf busyIn
+  taken-same = count-same _ _ many (λ j l. ap (λ (x : ℕ). not (eqb x 0)) (e0 .each j l))
+
+  pub place-answer : (ok : Bool) (r u : ℕ) → Answer ss rs hs ps many ok r u
+      → (ok ≡ rowsOk xs (s .pieces) (s .blocks) p many) × ((ok ≡ true → r ≡ requestedIn xs (s .pieces) (s .blocks) p many) × (ok ≡ true → u ≡ busyIn xs (s .pieces) (s .blocks) p many))
+  place-answer ok r u a = (a .0 ∙ rows-same, (λ e. a .1 .0 e ∙ asked-same, λ e. a .1 .1 e ∙ taken-same))

@@ -10,7 +10,7 @@ use Rattle.model.specs.Lists.{bit}
 use Rattle.model.specs.Bep3.{numPieces, blocksInPiece}
 use Rattle.model.proofs.Bep3Laws.{blocksInPiece-le}
 use Rattle.layout.specs.declared.spots.Shape.{Shape}
-use Rattle.layout.specs.Layout.{headWord, pieceWord, partialWord, placesFor, piecesOn, blocksOn}
+use Rattle.layout.specs.Layout.{headWord, pieceWord, partialWord, piecesOn, blocksOn}
 use Rattle.geometry.proofs.ValidLaws.{bounds}
 use Rattle.partial_rows.specs.Rows.{countBelow, stateBy, rowsOk, requestedIn, busyIn, blocksGood, partialGood, atWork, Ready}
 use Rattle.partial_rows.proofs.BelowLaws.{count-next}
@@ -77,11 +77,6 @@ module _ (xs : List ℕ) (n b k p : ℕ) (ep : p ≡ partialWord xs n 0 k) where
       unfolding partialGood
       part-flags l = rw (← ep, lt-ltb p n lp, ← ew, ne-eqb w 4 nw, ← ef, lt-leb f 7 l)
 
-      module _ (lf : f ≤ 7) (q : ℕ) (eq : q ≡ partialWord xs n 2 k) (m : ℕ) (em : m ≡ placesFor n) where
-        pub part-place : m ≤ q → false ≡ partialGood xs n b k
-        unfolding partialGood
-        part-place l = rw (← ep, lt-ltb p n lp, ← ew, ne-eqb w 4 nw, ← ef, le-leb f 7 lf, ← eq, ← em, le-ltb q m l)
-
-        pub part-rest : q < m → (g : Bool) → g ≡ blocksGood xs n b p q (leb 4 f) → g ≡ partialGood xs n b k
-        unfolding partialGood
-        part-rest l g e = rw (← ep, lt-ltb p n lp, ← ew, ne-eqb w 4 nw, ← ef, le-leb f 7 lf, ← eq, ← em, lt-ltb q m l) e
+      pub part-rest : f ≤ 7 → (q : ℕ) → q ≡ partialWord xs n 2 k → (g : Bool) → g ≡ blocksGood xs n b p q (leb 4 f) → g ≡ partialGood xs n b k
+      unfolding partialGood
+      part-rest lf q eq g e = rw (← ep, lt-ltb p n lp, ← ew, ne-eqb w 4 nw, ← ef, le-leb f 7 lf, ← eq) e

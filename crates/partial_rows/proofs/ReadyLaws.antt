@@ -5,13 +5,14 @@ use mathlib.Core.List.{List}
 use Prim.Native.Nat.{ℕ, _≤_, _<_}
 use lib.Dec.{eqb, leb}
 use lib.ListN.{length}
-use borrow.Author.Tests.{leb-true}
+use borrow.Author.Tests.{leb-true, ltb-true}
+use Rattle.model.specs.Lists.{every, from}
 use Rattle.model.specs.State.{validGeometry}
 use Rattle.model.specs.WellFormed.{headOk}
-use Rattle.model.proofs.Truths.{both-true}
+use Rattle.model.proofs.Truths.{both-true, and-left}
 use Rattle.layout.specs.declared.spots.Shape.{Shape}
-use Rattle.layout.specs.Layout.{headWord, pieceWord, placesFor, piecesOn, blocksOn, decode, ShapeOf, Spans}
-use Rattle.piece_rows.specs.Memory.{headRaw, pieceRaw, piecesRaw, partialsRaw, roomy, goodHead, goodPieces, goodPartials}
+use Rattle.layout.specs.Layout.{headWord, pieceWord, partialWord, placesFor, piecesOn, blocksOn, decode, ShapeOf, Spans}
+use Rattle.piece_rows.specs.Memory.{headRaw, pieceRaw, piecesRaw, placeRaw, partialsRaw, roomy, goodHead, goodPieces, goodPlaces, goodPartials}
 use Rattle.partial_rows.specs.Rows.{allBelow, partialNext, atWork, Ready}
 use Rattle.partial_rows.proofs.BelowLaws.{every-at}
 use Rattle.partial_rows.proofs.WholeLaws.{pass-is}
@@ -37,9 +38,19 @@ states-of xs h i l =
     let b = every-at (pieceRaw xs (piecesOn xs)) (piecesOn xs) (a .0) i l in
     leb-true (pieceWord xs (piecesOn xs) 1 i) 6 (both-true (leb (pieceWord xs (piecesOn xs) 1 i) 6) _ b .0)
 
+place-there : (xs : List ℕ) (n : ℕ) → every (placeRaw xs n) (from 0 (placesFor n)) ≡ true → (k : ℕ) → k < placesFor n → partialWord xs n 2 k < placesFor n
+unfolding placeRaw
+place-there xs n h k l = ltb-true _ _ (and-left _ _ (every-at (placeRaw xs n) (placesFor n) h k l))
+
+-- the place of every slot is there
+pub placed-of : (s : Shape) (xs : List ℕ) → ShapeOf s xs → goodPlaces xs ≡ true → (k : ℕ) → k < s .places → partialWord xs (s .pieces) 2 k < s .places
+unfolding goodPlaces
+placed-of s xs sh h k l =
+    rw (sh .sizes .places) (place-there xs (s .pieces) (rw (← (sh .pieces)) at h) k (rw (sh .sizes .places) at l))
+
 module _ (s : Shape) (xs : List ℕ) (sh : ShapeOf s xs) (sp : Spans s xs) (room : roomy xs ≡ true) (head : goodHead xs ≡ true) (pieces : goodPieces xs ≡ true) where
-  pub ready : Ready s xs
-  ready =
+  pub ready : goodPlaces xs ≡ true → Ready s xs
+  ready places =
       record {
         spans = sp;
         geometry = valid-of xs room;
@@ -47,6 +58,7 @@ module _ (s : Shape) (xs : List ℕ) (sh : ShapeOf s xs) (sp : Spans s xs) (room
         blocks = sh .blocks;
         partials = rw (sh .sizes .places, sh .pieces) (partials-of xs head);
         states = rw (sh .pieces) (states-of xs pieces);
+        placed = placed-of s xs sh places;
       }
 
   answer : (allBelow (partialNext xs (s .pieces) (s .blocks)) (headWord xs 7) && eqb (atWork xs (s .pieces)) (headWord xs 7)) ≡ goodPartials xs

@@ -9,7 +9,7 @@ use native.Mathlib.Decide.{decLe}
 use native.Mathlib.Omega.{arith}
 use lib.Dec.{eqb, ltb, leb}
 use borrow.Author.Tests.{eq-eqb, eqb-true, lt-ltb, le-leb, leb-true}
-use Rattle.model.specs.Lists.{every, from, size, member}
+use Rattle.model.specs.Lists.{every, from, size}
 use Rattle.model.specs.Bep3.{blocksInPiece}
 use Rattle.model.specs.State.{Piece, Partial, mostPartials, noPiece, sameQueue, isOpen, pieceAt, piecesIn, blocksAt}
 use Rattle.model.specs.Partials.{findIn}
@@ -19,7 +19,6 @@ use Rattle.model.proofs.Truths.{both-true, true-both, true-or-false, not-both}
 use Rattle.model.proofs.PieceLaws.{pieceAt-beyond}
 use Rattle.model.proofs.PartialLaws.{found-or-none}
 use Rattle.model.proofs.SoundPartials.{Standing, partials-ok-standing, standing-partials-ok}
-use Rattle.layout.specs.Tables.{tab}
 use Rattle.layout.specs.Layout.{headWord, pieceWord, partialWord, placesFor, pieceHeld, blockHeld, blocksHeld, partialFrom, partialHeld, piecesHeld, partialsHeld, decodeAt}
 use Rattle.layout.proofs.TabLaws.{size-tab}
 use Rattle.layout.proofs.SpotLaws.{places-min}
@@ -46,7 +45,7 @@ module _ (xs : List ℕ) (n b : ℕ) where
       let i = partialWord xs n 0 k in
       let p = partialWord xs n 2 k in
       let m = blocksInPiece (headWord xs 0) (headWord xs 1) i in
-      let d = both-true (rowsOk xs n b p m) _ (g .4) in
+      let d = both-true (rowsOk xs n b p m) _ (g .3) in
       let raw = rows-raw xs n b p m (d .0) in
       record {
         piece = refl;
@@ -56,58 +55,47 @@ module _ (xs : List ℕ) (n b : ℕ) where
       }
 
   sound-good : (k : ℕ) → partialWord xs n 0 k < n → eqb (pieceWord xs n 1 (partialWord xs n 0 k)) 4 ≡ false → leb (partialWord xs n 1 k) 7 ≡ true
-      → ltb (partialWord xs n 2 k) (placesFor n) ≡ true
       → every (blockRaw xs n b (partialWord xs n 2 k)) (from 0 (blocksInPiece (headWord xs 0) (headWord xs 1) (partialWord xs n 0 k))) ≡ true
       → PartialSound (decodeAt n b xs) (partialWord xs n 0 k) (partialHeld xs n b k) → partialGood xs n b k ≡ true
   unfolding partialGood blocksGood partialHeld partialFrom blocksHeld
-  sound-good k l w f q raw g =
+  sound-good k l w f raw g =
       let i = partialWord xs n 0 k in
       let p = partialWord xs n 2 k in
       let m = blocksInPiece (headWord xs 0) (headWord xs 1) i in
       let rows = rows-both xs n b p m raw (g .each) in
       let st = sym (state-words xs n b k m refl f raw i) ∙ rw (piece-at n b xs i l) at (g .state) in
-      rw (lt-ltb i n l, w, f, q, rows) st
+      rw (lt-ltb i n l, w, f, rows) st
 
   raw-parts : (k : ℕ) → partialRaw xs n b k ≡ true → (leb (partialWord xs n 1 k) 7 ≡ true)
-      × (ltb (partialWord xs n 2 k) (placesFor n) ≡ true)
-      × (not (member (partialWord xs n 2 k) (tab k (partialWord xs n 2))) ≡ true)
       × (every (blockRaw xs n b (partialWord xs n 2 k)) (from 0 (blocksInPiece (headWord xs 0) (headWord xs 1) (partialWord xs n 0 k))) ≡ true)
   unfolding partialRaw
-  raw-parts k h =
-      let a = both-true (leb (partialWord xs n 1 k) 7) _ h in
-      let d = both-true (ltb (partialWord xs n 2 k) (placesFor n)) _ (a .1) in
-      let e = both-true (not (member (partialWord xs n 2 k) (tab k (partialWord xs n 2)))) _ (d .1) in
-      (a .0, d .0, e .0, e .1)
+  raw-parts k h = both-true (leb (partialWord xs n 1 k) 7) _ h
 
-  good-raw : (k : ℕ) → partialGood xs n b k ≡ true → not (member (partialWord xs n 2 k) (tab k (partialWord xs n 2))) ≡ true → partialRaw xs n b k ≡ true
+  good-raw : (k : ℕ) → partialGood xs n b k ≡ true → partialRaw xs n b k ≡ true
   unfolding partialRaw blocksGood
-  good-raw k h o =
+  good-raw k h =
       let g = good-parts xs n b k h in
       let m = blocksInPiece (headWord xs 0) (headWord xs 1) (partialWord xs n 0 k) in
-      let d = both-true (rowsOk xs n b (partialWord xs n 2 k) m) _ (g .4) in
-      rw (g .2, g .3, o) (rows-raw xs n b (partialWord xs n 2 k) m (d .0))
+      let d = both-true (rowsOk xs n b (partialWord xs n 2 k) m) _ (g .3) in
+      rw (g .2) (rows-raw xs n b (partialWord xs n 2 k) m (d .0))
 
-  next-parts : (k : ℕ) → partialNext xs n b k ≡ true → (lowest 0 (partialWord xs n 0) k ≤ partialWord xs n 0 k)
-      × (partialGood xs n b k ≡ true)
-      × (not (member (partialWord xs n 2 k) (tab k (partialWord xs n 2))) ≡ true)
+  next-parts : (k : ℕ) → partialNext xs n b k ≡ true → (lowest 0 (partialWord xs n 0) k ≤ partialWord xs n 0 k) × (partialGood xs n b k ≡ true)
   unfolding partialNext
   next-parts k h =
       let a = both-true (leb (lowest 0 (partialWord xs n 0) k) (partialWord xs n 0 k)) _ h in
-      let d = both-true (partialGood xs n b k) _ (a .1) in
-      (leb-true (lowest 0 (partialWord xs n 0) k) (partialWord xs n 0 k) (a .0), d .0, d .1)
+      (leb-true (lowest 0 (partialWord xs n 0) k) (partialWord xs n 0 k) (a .0), a .1)
 
-  -- of a piece that is there and at work: the test of partial k and of its place is that of its words and of what they mean
+  -- of a piece that is there and at work: the test of partial k is that of its words and of what they mean
   pub good-is : (k : ℕ) → partialWord xs n 0 k < n → eqb (pieceWord xs n 1 (partialWord xs n 0 k)) 4 ≡ false → k < mostPartials
-      → (partialGood xs n b k && not (member (partialWord xs n 2 k) (tab k (partialWord xs n 2))))
+      → partialGood xs n b k
       ≡ (partialRaw xs n b k && partialOk (decodeAt n b xs) (partialWord xs n 0 k) k (pieceAt (decodeAt n b xs) (partialWord xs n 0 k)) (partialHeld xs n b k))
   unfolding partialOk
   good-is k l w m =
       let i = partialWord xs n 0 k in
       let d = partialHeld xs n b k in
       same-test _ _ (λ e.
-      let a = both-true (partialGood xs n b k) _ e in
-      let g = good-sound k (a .0) in
-      true-both _ _ (good-raw k (a .0) (a .1)) (rw (
+      let g = good-sound k e in
+      true-both _ _ (good-raw k e) (rw (
         eq-eqb (d .piece) i (g .piece),
         lt-ltb k mostPartials m,
         eq-eqb (size (d .blocks)) (blocksAt (decodeAt n b xs) i) (g .blocks),
@@ -119,12 +107,12 @@ module _ (xs : List ℕ) (n b : ℕ) where
       let g = both-true (ltb k mostPartials) _ (f .1) in
       let h = both-true (eqb (size (d .blocks)) (blocksAt (decodeAt n b xs) i)) _ (g .1) in
       let o = both-true (every blockOk (d .blocks)) _ (h .1) in
-      true-both _ _ (sound-good k l w (r .0) (r .1) (r .3) (record {
+      sound-good k l w (r .0) (r .1) (record {
         piece = eqb-true (d .piece) i (f .0);
         blocks = eqb-true (size (d .blocks)) (blocksAt (decodeAt n b xs) i) (h .0);
         each = o .0;
         state = o .1;
-      })) (r .2))
+      }))
 
   -- ---- pieces
   pieces-size : piecesIn (decodeAt n b xs) ≡ n
@@ -148,7 +136,7 @@ module _ (xs : List ℕ) (n b : ℕ) where
       pass-raw : every (partialRaw xs n b) (from 0 (headWord xs 7)) ≡ true
       pass-raw =
           every-all (partialRaw xs n b) (headWord xs 7) (λ k l.
-          let g = next-parts k (all-at (partialNext xs n b) (headWord xs 7) h k l) in good-raw k (g .1) (g .2))
+          good-raw k (next-parts k (all-at (partialNext xs n b) (headWord xs 7) h k l) .1))
 
       good-at : (k : ℕ) → k < headWord xs 7 → partialGood xs n b k ≡ true
       good-at k l = next-parts k (all-at (partialNext xs n b) (headWord xs 7) h k l) .1
@@ -245,8 +233,8 @@ module _ (xs : List ℕ) (n b : ℕ) where
           let f = here k l in
           let below = found-below i (partialHeld xs n b k) f in
           let shut = sym (open-at i below) ∙ found-not-open i (partialHeld xs n b k) f in
-          let g = sound-good k below shut (r .0) (r .1) (r .3) (stands .partial i (partialHeld xs n b k) (omega arith) f) in
-          rw (le-leb (lowest 0 (partialWord xs n 0) k) i (low-at k l), g) (r .2)
+          let g = sound-good k below shut (r .0) (r .1) (stands .partial i (partialHeld xs n b k) (omega arith) f) in
+          rw (le-leb (lowest 0 (partialWord xs n 0) k) i (low-at k l)) g
 
       all-pass : allBelow (partialNext xs n b) (headWord xs 7) ≡ true
       all-pass = all-from (partialNext xs n b) (headWord xs 7) next-at

@@ -3,17 +3,17 @@ use Prim.Native.Nat.{ℕ, zero, suc, _+_, _≤_, _<_}
 use mathlib.Core.Path.{_≡_}
 use mathlib.Core.Bool.{Bool, true, cond, not, _&&_, _||_}
 use mathlib.Core.List.{List}
+use lib.ListN.{length, getD}
 use lib.Dec.{eqb, ltb, leb}
 use Rattle.types.specs.declared.queue.DownloadQueue.{DownloadQueue}
 use Rattle.types.specs.declared.queue.DownloadQueue.the-variants.{Downloading, Full, Finished, ZeroPrio, Open}
 use Rattle.types.specs.Queue.{plainOf}
-use Rattle.model.specs.Lists.{bit, member}
+use Rattle.model.specs.Lists.{bit}
 use Rattle.model.specs.Bep3.{blocksInPiece}
 use Rattle.model.specs.State.{sameQueue, validGeometry}
 use Rattle.model.specs.WellFormed.{blockOk}
 use Rattle.layout.specs.declared.spots.Shape.{Shape}
-use Rattle.layout.specs.Tables.{tab}
-use Rattle.layout.specs.Layout.{headWord, pieceWord, partialWord, blockWord, placesFor, piecesOn, blocksOn, queueFrom, blockFrom, Spans}
+use Rattle.layout.specs.Layout.{headWord, pieceWord, partialWord, blockWord, piecesOn, blocksOn, queueFrom, blockFrom, Spans}
 
 -- ---- a test on the numbers below one
 -- all pass
@@ -43,6 +43,22 @@ unfoldable pub rowOk : ℕ → ℕ → ℕ → ℕ → Bool
 rowOk state requesters has peer =
     (leb state 3 && (eqb has 1 || (eqb has 0 && eqb peer 0))) && blockOk (blockFrom state requesters has peer)
 
+-- block j, where the words of blocks stand in a list for each field
+unfoldable pub rowIn : List ℕ → List ℕ → List ℕ → List ℕ → ℕ → Bool
+rowIn states requesters has peers j = rowOk (getD states j 0) (getD requesters j 0) (getD has j 0) (getD peers j 0)
+
+-- of the first blocks, by the list of their states: how many are requested; how many are not free
+unfoldable pub requestedOf : List ℕ → ℕ → ℕ
+requestedOf states many = countBelow (λ j. eqb (getD states j 0) 1) many
+
+unfoldable pub busyOf : List ℕ → ℕ → ℕ
+busyOf states many = countBelow (λ j. not (eqb (getD states j 0) 0)) many
+
+-- the list holds field f of the first blocks of place p
+pub record FieldOf (xs : List ℕ) (s : Shape) (f p many : ℕ) (ys : List ℕ) : Type 0 where
+  pub long : length ys ≡ many
+  pub each : (j : ℕ) → j < many → getD ys j 0 ≡ blockWord xs (s .pieces) (s .blocks) f p j
+
 -- block j of place p
 unfoldable pub rowAt : List ℕ → ℕ → ℕ → ℕ → ℕ → Bool
 rowAt xs n b p j = rowOk (blockWord xs n b 0 p j) (blockWord xs n b 1 p j) (blockWord xs n b 2 p j) (blockWord xs n b 3 p j)
@@ -67,25 +83,22 @@ blocksGood xs n b i p hashing =
     (busyIn xs n b p (blocksInPiece (headWord xs 0) (headWord xs 1) i))
     (blocksInPiece (headWord xs 0) (headWord xs 1) i) hashing
 
--- partial k on its own: a piece that is there and not Open, flags, a place that is there, the blocks
+-- partial k on its own: a piece that is there and not Open, flags, the blocks
 unfoldable pub partialGood : List ℕ → ℕ → ℕ → ℕ → Bool
 partialGood xs n b k =
     ltb (partialWord xs n 0 k) n
     && (not (eqb (pieceWord xs n 1 (partialWord xs n 0 k)) 4)
     && (leb (partialWord xs n 1 k) 7
-    && (ltb (partialWord xs n 2 k) (placesFor n)
-    && blocksGood xs n b (partialWord xs n 0 k) (partialWord xs n 2 k) (leb 4 (partialWord xs n 1 k)))))
+    && blocksGood xs n b (partialWord xs n 0 k) (partialWord xs n 2 k) (leb 4 (partialWord xs n 1 k))))
 
 -- the least number that element k of a rising list may have, from lo on
 unfoldable pub lowest : ℕ → (ℕ → ℕ) → ℕ → ℕ
 lowest lo p zero = lo
 lowest lo p (suc k) = suc (p k)
 
--- and beside those before it: a higher piece, another place
+-- partial k is good, and of a higher piece than those before it
 unfoldable pub partialNext : List ℕ → ℕ → ℕ → ℕ → Bool
-partialNext xs n b k =
-    leb (lowest 0 (partialWord xs n 0) k) (partialWord xs n 0 k)
-    && (partialGood xs n b k && not (member (partialWord xs n 2 k) (tab k (partialWord xs n 2))))
+partialNext xs n b k = leb (lowest 0 (partialWord xs n 0) k) (partialWord xs n 0 k) && partialGood xs n b k
 
 -- pieces that are not Open
 unfoldable pub atWork : List ℕ → ℕ → ℕ
@@ -99,3 +112,4 @@ pub record Ready (s : Shape) (xs : List ℕ) : Type 0 where
   pub blocks : s .blocks ≡ blocksOn xs
   pub partials : headWord xs 7 ≤ s .places
   pub states : (i : ℕ) → i < s .pieces → pieceWord xs (s .pieces) 1 i ≤ 6
+  pub placed : (k : ℕ) → k < s .places → partialWord xs (s .pieces) 2 k < s .places

@@ -3,10 +3,10 @@ ghost use mathlib.Core.Path.{_≡_};
 ghost use mathlib.Core.Bool.{true};
 ghost use Prim.Native.Nat.{_<_, _≤_};
 ghost use Rattle.model.specs.Lists.{bit};
-ghost use Rattle.layout.specs.Layout.{Spans};
-ghost use Rattle.partial_rows.specs.Rows.{rowOk, rowAt, rowsOk, requestedIn, busyIn};
+ghost use lib.ListN.{length};
+ghost use Rattle.layout.specs.Layout.{blockSpot, Sizes, Spans};
+ghost use Rattle.partial_rows.specs.Rows.{allBelow, rowOk, rowIn, requestedOf, busyOf, rowsOk, requestedIn, busyIn, FieldOf};
 use layout::Shape;
-use layout::block_word;
 
 pub struct Counted {
     pub ok: bool,
@@ -40,38 +40,26 @@ pub fn one_if(t: bool) -> u64
     if t { 1 } else { 0 }
 }
 
-// Block j of a place.
-fn row_ok(mem: &[u64], s: Shape, place: usize, j: usize) -> bool
-    requires { ⌜ Spans s (now mem) ⌝ }
-    requires { ⌜ (place < s .places) × (j < s .blocks) ⌝ }
-    ensures { λ r. ⌜ r ≡ rowAt (now (mem .entry)) (s .pieces) (s .blocks) place j ⌝ }
-{
-    let state = block_word(mem, s, 0, place, j);
-    let requesters = block_word(mem, s, 1, place, j);
-    let has = block_word(mem, s, 2, place, j);
-    block_row_ok(state, requesters, has, block_word(mem, s, 3, place, j))
-}
-
-// The first blocks of a place, in one pass. The numbers are those of the blocks where all are good.
-pub fn blocks_ok(mem: &[u64], s: Shape, place: usize, many: usize) -> Counted
-    requires { ⌜ Spans s (now mem) ⌝ }
-    requires { ⌜ (place < s .places) × (many ≤ s .blocks) ⌝ }
-    ensures all { λ r. ⌜ r .ok ≡ rowsOk (now (mem .entry)) (s .pieces) (s .blocks) place many ⌝ }
-    ensures requested { λ r. ⌜ (r .ok ≡ true → r .requested ≡ requestedIn (now (mem .entry)) (s .pieces) (s .blocks) place many) ⌝ }
-    ensures busy { λ r. ⌜ (r .ok ≡ true → r .busy ≡ busyIn (now (mem .entry)) (s .pieces) (s .blocks) place many) ⌝ }
+// One pass over the words of many blocks, a slice for each field. The numbers are those of the blocks where all are good.
+fn rows_pass(states: &[u64], requesters: &[u64], has: &[u64], peers: &[u64], many: usize) -> Counted
+    requires { ⌜ (many ≤ length (now states)) × (many ≤ length (now requesters)) ⌝ }
+    requires { ⌜ (many ≤ length (now has)) × (many ≤ length (now peers)) ⌝ }
+    ensures all { λ r. ⌜ r .ok ≡ allBelow (rowIn (now (states .entry)) (now (requesters .entry)) (now (has .entry)) (now (peers .entry))) many ⌝ }
+    ensures requested { λ r. ⌜ (r .ok ≡ true → r .requested ≡ requestedOf (now (states .entry)) many) ⌝ }
+    ensures busy { λ r. ⌜ (r .ok ≡ true → r .busy ≡ busyOf (now (states .entry)) many) ⌝ }
 {
     let mut requested = 0;
     let mut busy = 0;
     let mut j = 0;
     while j < many {
-        if !row_ok(mem, s, place, j) {
+        let state = states[j];
+        if !block_row_ok(state, requesters[j], has[j], peers[j]) {
             return Counted {
                 ok: false,
                 requested: 0,
                 busy: 0,
             };
         }
-        let state = block_word(mem, s, 0, place, j);
         requested += one_if(state == 1);
         busy += one_if(state != 0);
         j += 1;
@@ -81,4 +69,39 @@ pub fn blocks_ok(mem: &[u64], s: Shape, place: usize, many: usize) -> Counted
         requested: requested,
         busy: busy,
     }
+}
+
+// Where field f of the blocks of a place starts.
+fn field_start(s: Shape, f: usize, place: usize) -> usize
+    requires { ⌜ Sizes s ⌝ }
+    requires { ⌜ (f < 4) × (place < s .places) ⌝ }
+    ensures { λ r. ⌜ r ≡ blockSpot (s .pieces) (s .blocks) f place 0 ⌝ }
+{
+    16 + 6 * s.pieces + 3 * s.places + (f * (s.places * s.blocks) + place * s.blocks)
+}
+
+// Field f of the first blocks of a place.
+fn field_of(mem: &[u64], s: Shape, f: usize, place: usize, many: usize) -> &[u64]
+    requires { ⌜ Spans s (now mem) ⌝ }
+    requires { ⌜ (f < 4) × (place < s .places) × (many ≤ s .blocks) ⌝ }
+    ensures { λ r. ⌜ FieldOf (now (mem .entry)) s f place many (now r) ⌝ }
+{
+    let at = field_start(s, f, place);
+    let end = at + many;
+    &mem[at..end]
+}
+
+// The first blocks of a place. The numbers are those of the blocks where all are good.
+pub fn blocks_ok(mem: &[u64], s: Shape, place: usize, many: usize) -> Counted
+    requires { ⌜ Spans s (now mem) ⌝ }
+    requires { ⌜ (place < s .places) × (many ≤ s .blocks) ⌝ }
+    ensures all { λ r. ⌜ r .ok ≡ rowsOk (now (mem .entry)) (s .pieces) (s .blocks) place many ⌝ }
+    ensures requested { λ r. ⌜ (r .ok ≡ true → r .requested ≡ requestedIn (now (mem .entry)) (s .pieces) (s .blocks) place many) ⌝ }
+    ensures busy { λ r. ⌜ (r .ok ≡ true → r .busy ≡ busyIn (now (mem .entry)) (s .pieces) (s .blocks) place many) ⌝ }
+{
+    let states = field_of(mem, s, 0, place, many);
+    let requesters = field_of(mem, s, 1, place, many);
+    let has = field_of(mem, s, 2, place, many);
+    let peers = field_of(mem, s, 3, place, many);
+    rows_pass(states, requesters, has, peers, many)
 }

@@ -3,7 +3,7 @@ ghost use mathlib.Core.Path.{_≡_};
 ghost use mathlib.Core.Bool.{true};
 ghost use Prim.Native.Nat.{_<_};
 ghost use Rattle.layout.specs.Layout.{headWord, Spans, ShapeOf};
-ghost use Rattle.piece_rows.specs.Memory.{roomy, goodHead, goodPieces, goodPartials};
+ghost use Rattle.piece_rows.specs.Memory.{roomy, goodHead, goodPieces, goodPlaces, goodPartials};
 ghost use Rattle.partial_rows.specs.Rows.{allBelow, blocksGood, partialGood, partialNext, atWork, Ready};
 use crate::blocks::blocks_ok;
 use crate::blocks::one_if;
@@ -44,7 +44,7 @@ fn blocks_good(mem: &[u64], s: Shape, piece: u64, place: usize, hashing: bool) -
     state_ok(state, wish, counted.requested, counted.busy, many, hashing)
 }
 
-// Partial k on its own: its piece, flags, place and blocks.
+// Partial k on its own: its piece, flags and blocks.
 pub fn partial_ok(mem: &[u64], s: Shape, k: usize) -> bool
     requires { ⌜ Ready s (now mem) ⌝ }
     requires { ⌜ k < s .places ⌝ }
@@ -61,20 +61,16 @@ pub fn partial_ok(mem: &[u64], s: Shape, k: usize) -> bool
     if 7 < flags {
         return false;
     }
-    let place = partial_word(mem, s, 2, k);
-    if s.places as u64 <= place {
-        return false;
-    }
-    blocks_good(mem, s, piece, place as usize, 4 <= flags)
+    let place = partial_word(mem, s, 2, k) as usize;
+    blocks_good(mem, s, piece, place, 4 <= flags)
 }
 
-// Each partial is good, of a higher piece and at another place than those before it.
+// Each partial is good, and of a higher piece than those before it.
 fn partials_pass(mem: &[u64], s: Shape) -> bool
     requires { ⌜ Ready s (now mem) ⌝ }
     ensures { λ r. ⌜ r ≡ allBelow (partialNext (now (mem .entry)) (s .pieces) (s .blocks)) (headWord (now (mem .entry)) 7) ⌝ }
 {
     let many = head_word(mem, 7) as usize;
-    let mut marks = [false; 512];
     let mut lo = 0;
     let mut k = 0;
     while k < many {
@@ -85,21 +81,16 @@ fn partials_pass(mem: &[u64], s: Shape) -> bool
         if !partial_ok(mem, s, k) {
             return false;
         }
-        let place = partial_word(mem, s, 2, k) as usize;
-        if marks[place] {
-            return false;
-        }
-        marks[place] = true;
         lo = piece + 1;
         k += 1;
     }
     true
 }
 
-// The partials of a memory whose head and pieces have passed their tests: good ones, and one for each piece that is not Open.
+// The partials of a memory whose head, pieces and places have passed their tests: good ones, and one for each piece that is not Open.
 pub fn partials_ok(mem: &[u64], s: Shape) -> bool
     requires { ⌜ (ShapeOf s (now mem)) × (Spans s (now mem)) ⌝ }
-    requires { ⌜ (roomy (now mem) ≡ true) × (goodHead (now mem) ≡ true) × (goodPieces (now mem) ≡ true) ⌝ }
+    requires { ⌜ (roomy (now mem) ≡ true) × (goodHead (now mem) ≡ true) × (goodPieces (now mem) ≡ true) × (goodPlaces (now mem) ≡ true) ⌝ }
     ensures { λ r. ⌜ r ≡ goodPartials (now (mem .entry)) ⌝ }
 {
     if !partials_pass(mem, s) {

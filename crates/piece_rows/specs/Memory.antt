@@ -36,21 +36,19 @@ blockRaw xs n b p j =
     leb (blockWord xs n b 0 p j) 3
     && (eqb (blockWord xs n b 2 p j) 1 || (eqb (blockWord xs n b 2 p j) 0 && eqb (blockWord xs n b 3 p j) 0))
 
--- partial k: flags, a place that is there and that no partial before it has, and the words of its blocks
-unfoldable pub partialRaw : List ℕ → ℕ → ℕ → ℕ → Bool
-partialRaw xs n b k =
-    leb (partialWord xs n 1 k) 7
-    && (ltb (partialWord xs n 2 k) (placesFor n)
-    && (not (member (partialWord xs n 2 k) (tab k (partialWord xs n 2)))
-    && every (blockRaw xs n b (partialWord xs n 2 k)) (from 0 (blocksInPiece (headWord xs 0) (headWord xs 1) (partialWord xs n 0 k)))))
-
-unfoldable pub partialsRaw : List ℕ → Bool
-partialsRaw xs = every (partialRaw xs (piecesOn xs) (blocksOn xs)) (from 0 (headWord xs 7))
-
 -- slot k, whether a partial stands in it or not: a place that is there and that no slot before it has
 unfoldable pub placeRaw : List ℕ → ℕ → ℕ → Bool
 placeRaw xs n k =
     ltb (partialWord xs n 2 k) (placesFor n) && not (member (partialWord xs n 2 k) (tab k (partialWord xs n 2)))
+
+-- partial k: flags, and the words of the blocks at its place
+unfoldable pub partialRaw : List ℕ → ℕ → ℕ → ℕ → Bool
+partialRaw xs n b k =
+    leb (partialWord xs n 1 k) 7
+    && every (blockRaw xs n b (partialWord xs n 2 k)) (from 0 (blocksInPiece (headWord xs 0) (headWord xs 1) (partialWord xs n 0 k)))
+
+unfoldable pub partialsRaw : List ℕ → Bool
+partialsRaw xs = every (partialRaw xs (piecesOn xs) (blocksOn xs)) (from 0 (headWord xs 7))
 
 -- ---- the parts of the test, in the order in which they are made
 unfoldable pub roomy : List ℕ → Bool
@@ -64,12 +62,12 @@ goodHead xs = headRaw xs && headOk (decode xs)
 unfoldable pub goodPieces : List ℕ → Bool
 goodPieces xs = piecesRaw xs && piecesOk (decode xs) 0 (decode xs .pieces)
 
-unfoldable pub goodPartials : List ℕ → Bool
-goodPartials xs = partialsRaw xs && partialsOk (decode xs) 0 0 (decode xs .pieces) (decode xs .partials)
-
--- all places stand in the slots, so that a free one is found behind the last partial
+-- all places stand in the slots: each partial has its own, and a free one is found behind the last partial
 unfoldable pub goodPlaces : List ℕ → Bool
 goodPlaces xs = every (placeRaw xs (piecesOn xs)) (from 0 (placesFor (piecesOn xs)))
+
+unfoldable pub goodPartials : List ℕ → Bool
+goodPartials xs = partialsRaw xs && partialsOk (decode xs) 0 0 (decode xs .pieces) (decode xs .partials)
 
 unfoldable pub goodExtents : List ℕ → Bool
 goodExtents xs = extentsOk (decode xs) [] (decode xs .extents)
@@ -80,7 +78,7 @@ goodList xs = listingOk (decode xs) (decode xs .listing)
 -- ---- the whole test, behind refusal 3
 unfoldable pub goodMemory : List ℕ → Bool
 goodMemory xs =
-    roomy xs && (goodHead xs && (goodPieces xs && (goodPartials xs && (goodPlaces xs && (goodExtents xs && goodList xs)))))
+    roomy xs && (goodHead xs && (goodPieces xs && (goodPlaces xs && (goodPartials xs && (goodExtents xs && goodList xs)))))
 
 -- ---- ranks beside the memory
 -- the first n keys are the ranks of the picker's pieces

@@ -4,8 +4,9 @@ use Prim.Native.Nat.{ℕ, _+_, _≤_, _<_}
 use native.Mathlib.Omega.{arith}
 use native.Mathlib.Numerals.{add-one}
 use native.Mathlib.Decide.{ℕ-discrete}
-use mathlib.Core.Bool.{Bool, true, false, or-true, or-false}
-use mathlib.Core.List.{List}
+use mathlib.Core.Bool.{Bool, true, false, _||_, or-true, or-false}
+use mathlib.Core.List.{List, [], _∷_, _++_}
+use lib.Dec.{eqb}
 use lib.ListN.{length, getD, set, replicate, length-replicate, getD-replicate, length-set}
 use lib.Seq.{getD-set-same, getD-set-other}
 use borrow.Author.Tests.{lt-ltb, le-ltb, eq-eqb, ne-eqb}
@@ -18,7 +19,16 @@ use Rattle.layout.proofs.TabLaws.{tab-more}
 use Rattle.piece_rows.specs.Memory.{placeRaw, goodPlaces}
 use Rattle.partial_rows.specs.Rows.{allBelow}
 use Rattle.partial_rows.proofs.BelowLaws.{all-next, all-false, all-at, all-from, every-at, every-all}
-use Rattle.partial_rows.proofs.PassLaws.{member-more}
+
+-- a list with one more
+member-more : (x y : ℕ) (l : List ℕ) → member x (l ++ (y ∷ [])) ≡ (member x l || eqb x y)
+unfolding member some?
+member-more x y [] = or-false (eqb x y)
+member-more x y (z ∷ zs) = go (eqb x z) (member-more x y zs)
+  where
+    go : (t : Bool) → member x (zs ++ (y ∷ [])) ≡ (member x zs || eqb x y) → (t || some? (eqb x) (zs ++ (y ∷ []))) ≡ ((t || some? (eqb x) zs) || eqb x y)
+    go true e = refl
+    go false e = e
 
 -- after k slots: all passed, and their places are marked
 pub record Slots (xs : List ℕ) (n : ℕ) (marks : List Bool) (k : ℕ) : Type 0 where

@@ -6,7 +6,7 @@ use native.Mathlib.Decide.{decLt}
 use mathlib.Core.Bool.{true, or-true}
 use mathlib.Core.List.{List, []}
 use lib.Dec.{ltb}
-use borrow.Author.Tests.{ltb-true, eq-eqb, eqb-true, not-true}
+use borrow.Author.Tests.{eq-eqb, eqb-true, not-true}
 use Rattle.model.specs.Lists.{member, some?, every, from}
 use Rattle.model.specs.Bep3.{numPieces}
 use Rattle.model.specs.State.{piecesIn}
@@ -15,11 +15,12 @@ use Rattle.model.proofs.Truths.{and-left, and-right, true-both, not-both}
 use Rattle.layout.specs.Tables.{tab}
 use Rattle.layout.specs.declared.spots.Shape.{Shape}
 use Rattle.layout.specs.Layout.{headWord, partialWord, placesFor, piecesOn, yes?, decode, ShapeOf, Room}
-use Rattle.piece_rows.specs.Memory.{headRaw, piecesRaw, partialsRaw, placeRaw, roomy, goodHead, goodPieces, goodPartials, goodPlaces, goodExtents, goodList, goodMemory}
+use Rattle.piece_rows.specs.Memory.{headRaw, piecesRaw, placeRaw, partialsRaw, roomy, goodHead, goodPieces, goodPlaces, goodPartials, goodExtents, goodList, goodMemory}
 use Rattle.piece_rows.proofs.Bounds.{housed}
 use Rattle.piece_rows.proofs.ExtentTests.{pieces-in}
 use Rattle.piece_rows.proofs.HeadLaws.{headed}
 use Rattle.partial_rows.proofs.BelowLaws.{every-at}
+use Rattle.partial_rows.proofs.ReadyLaws.{placed-of}
 
 -- ---- places
 -- an element of a table stands in it
@@ -30,10 +31,6 @@ in-table f (suc l) zero h = rw (eq-eqb (f zero) (f zero) refl)
 in-table f (suc l) (suc k) h = rw (in-table (λ j. f (suc j)) l k (omega arith), or-true)
 
 module _ (xs : List ℕ) (n : ℕ) (h : every (placeRaw xs n) (from 0 (placesFor n)) ≡ true) where
-  pub place-there : (k : ℕ) → k < placesFor n → partialWord xs n 2 k < placesFor n
-  unfolding placeRaw
-  place-there k l = ltb-true _ _ (and-left _ _ (every-at (placeRaw xs n) (placesFor n) h k l))
-
   -- a later slot has another place
   later-other : (k l : ℕ) → k < l → l < placesFor n → partialWord xs n 2 k ≡ partialWord xs n 2 l → ⊥
   unfolding placeRaw
@@ -57,8 +54,8 @@ pub record Good (xs : List ℕ) : Type 0 where
   pub room : roomy xs ≡ true
   pub head : goodHead xs ≡ true
   pub pieces : goodPieces xs ≡ true
-  pub partials : goodPartials xs ≡ true
   pub places : goodPlaces xs ≡ true
+  pub partials : goodPartials xs ≡ true
   pub extents : goodExtents xs ≡ true
   pub list : goodList xs ≡ true
 
@@ -68,14 +65,14 @@ good xs h =
     let a = and-right (roomy xs) _ h in
     let b = and-right (goodHead xs) _ a in
     let c = and-right (goodPieces xs) _ b in
-    let d = and-right (goodPartials xs) _ c in
-    let e = and-right (goodPlaces xs) _ d in
+    let d = and-right (goodPlaces xs) _ c in
+    let e = and-right (goodPartials xs) _ d in
     record {
       room = and-left (roomy xs) _ h;
       head = and-left (goodHead xs) _ a;
       pieces = and-left (goodPieces xs) _ b;
-      partials = and-left (goodPartials xs) _ c;
-      places = and-left (goodPlaces xs) _ d;
+      places = and-left (goodPlaces xs) _ c;
+      partials = and-left (goodPartials xs) _ d;
       extents = and-left (goodExtents xs) _ e;
       list = and-right (goodExtents xs) _ e;
     }
@@ -97,7 +94,7 @@ standing s xs h g =
       idle = λ e. w .idle (eqb-true (headWord xs 5) 1 e);
       partials = rw (g .sizes .places, g .pieces) (w .partials);
       extents = w .extents;
-      placed = λ k l. rw (g .sizes .places) (place-there xs (s .pieces) n k (rw (g .sizes .places) at l));
+      placed = placed-of s xs g (v .places);
       apart = λ k l p q e. places-apart xs (s .pieces) n k l (rw (g .sizes .places) at p) (rw (g .sizes .places) at q) e;
     }
 

@@ -15,7 +15,7 @@ use place_rows::places_ok;
 ghost use mathlib.Core.Path.{_≡_};
 ghost use mathlib.Core.Bool.{true, _&&_};
 ghost use Rattle.layout.specs.Layout.{ShapeOf};
-ghost use Rattle.piece_rows.specs.Memory.{roomy, goodHead, goodPieces, goodPartials, goodPlaces, goodExtents, goodList, goodMemory};
+ghost use Rattle.piece_rows.specs.Memory.{roomy, goodHead, goodPieces, goodPlaces, goodPartials, goodExtents, goodList, goodMemory};
 
 // The memory is long enough for a head, its geometry is valid, and it is long enough for that.
 pub fn fits(mem: &[u64]) -> bool
@@ -30,21 +30,21 @@ pub fn fits(mem: &[u64]) -> bool
     words_needed(num_pieces(mem[0], mem[1]), blocks_per_piece(mem[1])) <= mem.len() as u64
 }
 
-// Pieces, partials and their places, extents and list, where the head is good.
+// Pieces, places, partials, extents and list, where the head is good.
 fn rows_ok(mem: &[u64], s: Shape) -> bool
     requires { ⌜ roomy (now mem) ≡ true ⌝ }
     requires { ⌜ ShapeOf s (now mem) ⌝ }
     requires { ⌜ goodHead (now mem) ≡ true ⌝ }
-    ensures { λ r. ⌜ r ≡ (goodPieces (now (mem .entry)) && (goodPartials (now (mem .entry)) && (goodPlaces (now (mem .entry)) && (goodExtents (now (mem .entry)) && goodList (now (mem .entry)))))) ⌝ }
+    ensures { λ r. ⌜ r ≡ (goodPieces (now (mem .entry)) && (goodPlaces (now (mem .entry)) && (goodPartials (now (mem .entry)) && (goodExtents (now (mem .entry)) && goodList (now (mem .entry)))))) ⌝ }
 {
     let mut keys = [0; 4096];
     if !pieces_ok(mem, s, &mut keys) {
         return false;
     }
-    if !partials_ok(mem, s) {
+    if !places_ok(mem, s) {
         return false;
     }
-    if !places_ok(mem, s) {
+    if !partials_ok(mem, s) {
         return false;
     }
     if !extents_ok(mem, s) {

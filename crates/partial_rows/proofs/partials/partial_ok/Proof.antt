@@ -1,6 +1,6 @@
 -- `partial_ok` meets its contract: a law for each case. Assumes nothing.
 use native.Mathlib.Omega.{arith}
-use Rattle.partial_rows.proofs.GoodLaws.{part-beyond, part-open, part-flags, part-place, part-rest}
+use Rattle.partial_rows.proofs.GoodLaws.{part-beyond, part-open, part-flags, part-rest}
 use borrow.Author.Needs.{needs}
 use Rattle.partial_rows.proofs.partials.partial_ok.Statement.{statement}
 use Rattle.partial_rows.proofs.partials.partial_ok.Tie as tie
@@ -26,14 +26,11 @@ returns-3 c = part-flags _ _ _ _ _ (c .before .before .before .before .before .p
 partial-word-requires-3 : tie.Need-partial-word-requires-3
 partial-word-requires-3 c κs = search needs
 
-returns-4 : tie.Need-returns-4
-returns-4 c = part-place _ _ _ _ _ (c .before .before .before .before .before .before .before .partial-word .ensures) (omega arith) _ (c .before .before .before .before .before .piece-word .ensures) (c .before .before .before .before .if2 .left) _ (c .before .before .before .partial-word2 .ensures) (omega arith) _ (c .before .partial-word3 .ensures) _ (c .before .before .before .before .before .before .before .before .before .pre .0 .spans .sizes .places) (omega arith)
-
 blocks-good-requires : tie.Need-blocks-good-requires
-blocks-good-requires c κs = search needs
+blocks-good-requires c κs = (c .before .before .before .before .before .before .before .before .pre .0, (omega arith, omega (arith, c .partial-word3 .ensures, c .before .before .before .before .before .before .before .before .pre .0 .placed (c .before .before .before .before .before .before .before .before .args .k) (omega arith))))
 
-returns-5 : tie.Need-returns-5
-returns-5 c = part-rest _ _ _ _ _ (c .before .before .before .before .before .before .before .before .partial-word .ensures) (omega arith) _ (c .before .before .before .before .before .before .piece-word .ensures) (c .before .before .before .before .before .if2 .left) _ (c .before .before .before .before .partial-word2 .ensures) (omega arith) _ (c .before .before .partial-word3 .ensures) _ (c .before .before .before .before .before .before .before .before .before .before .pre .0 .spans .sizes .places) (omega arith) _ (c .blocks-good .ensures)
+returns-4 : tie.Need-returns-4
+returns-4 c = part-rest _ _ _ _ _ (c .before .before .before .before .before .before .before .partial-word .ensures) (omega arith) _ (c .before .before .before .before .before .piece-word .ensures) (c .before .before .before .before .if2 .left) _ (c .before .before .before .partial-word2 .ensures) (omega arith) _ (c .before .partial-word3 .ensures) _ (c .blocks-good .ensures)
 
 pub partial-ok-spec : {M : Type 1} → statement M
 partial-ok-spec =
@@ -46,6 +43,5 @@ partial-ok-spec =
     partial-word-requires-2
     returns-3
     partial-word-requires-3
-    returns-4
     blocks-good-requires
-    returns-5)
+    returns-4)

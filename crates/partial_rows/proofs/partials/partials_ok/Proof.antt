@@ -6,7 +6,7 @@ use Rattle.partial_rows.proofs.partials.partials_ok.Statement.{statemen
 use Rattle.partial_rows.proofs.partials.partials_ok.Tie as tie
 
 partials-pass-requires : tie.Need-partials-pass-requires
-partials-pass-requires c κs = ready _ _ (c .before .pre .0 .0) (c .before .pre .0 .1) (c .before .pre .1 .0) (c .before .pre .1 .1) (c .before .pre .1 .2)
+partials-pass-requires c κs = ready _ _ (c .before .pre .0 .0) (c .before .pre .0 .1) (c .before .pre .1 .0) (c .before .pre .1 .1) (c .before .pre .1 .2) (c .before .pre .1 .3)
 
 returns : tie.Need-returns
 returns c = pass-fails _ _ (c .before .before .before .pre .0 .0) (c .before .before .before .pre .0 .1) (c .before .before .before .pre .1 .0) (c .before .before .before .pre .1 .1) (c .before .before .before .pre .1 .2) _ (c .before .partials-pass .ensures) (not-true _ (c .if1 .taken))
