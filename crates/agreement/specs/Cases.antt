@@ -1,17 +1,17 @@
 -- The twelve worked cases of document 01 as a table: what is asked of the definitions, and what they are to give. Assumes nothing.
-use Prim.Native.Nat.{ℕ, zero, suc, _+_, _-_, _*_}
-use mathlib.Core.Bool.{Bool, true, false}
-use mathlib.Core.List.{List, [], _∷_, _++_}
+use Prim.Native.Nat.{ℕ, _-_, _*_}
+use mathlib.Core.Bool.{false}
+use mathlib.Core.List.{List, [], _∷_}
 use mathlib.Core.Option.{Option, none, some}
 use lib.ListN.{replicate}
 use Rattle.types.specs.declared.queue.DownloadQueue.{DownloadQueue}
 use Rattle.types.specs.declared.queue.DownloadQueue.the-variants.{Downloading, Open, DownloadingReverse}
 use Rattle.model.specs.Lists.{bit, filter, each, from}
 use Rattle.model.specs.Bep3.{numPieces, blocksInPiece, bitAt}
-use Rattle.model.specs.State.{Piece, Picker, stale, withPieces, extentFor, extentStart, extentEnd, new}
+use Rattle.model.specs.State.{Piece, Picker, withPieces, extentFor, extentStart, extentEnd, new}
 use Rattle.model.specs.Order.{bucket, draw, rebuilt}
 use Rattle.model.specs.Options.{alignExpandedPieces}
-use Rattle.model.specs.Blocks.{Ask, Run, Span, wholePieces, spanOf}
+use Rattle.model.specs.Blocks.{Ask, Span, wholePieces, spanOf}
 use Rattle.model.specs.Pick.{forced}
 
 -- ---- what a case asks

@@ -1,8 +1,7 @@
 // The recent extents, oldest first.
 ghost use mathlib.Core.Path.{_≡_};
 ghost use mathlib.Core.List.{_++_, _∷_, []};
-ghost use Prim.Native.Nat.{_<_, _≤_};
-ghost use lib.ListN.{length};
+ghost use Prim.Native.Nat.{_<_};
 ghost use Rattle.model.specs.Lists.{at, size, without};
 ghost use Rattle.model.specs.State.{withExtents};
 ghost use Rattle.layout.specs.Layout.{decode, Room, Became};

@@ -2,7 +2,7 @@
 ghost use mathlib.Core.Path.{_≡_};
 ghost use Prim.Native.Nat.{_<_, _≤_};
 ghost use lib.ListN.{length};
-ghost use Rattle.model.specs.Lists.{at, size};
+ghost use Rattle.model.specs.Lists.{size};
 ghost use Rattle.model.specs.State.{isStale, orderOf, outdated, withListing, fresh};
 ghost use Rattle.layout.specs.Tables.{front};
 ghost use Rattle.layout.specs.Layout.{decode, listWords, Room, Became};

@@ -92,7 +92,8 @@ module _ (s : Shape) (xs : List ℕ) (r : Room s xs) (k : ℕ) (room : k ≤ s .
   lent-kept =
       kept-same s xs putBack r (part-long (16 + 5 * s .pieces) k xs ys fits long) heads partials (λ j h. high j (omega (arith, words-needed (s .pieces) (s .blocks))))
 
-  lent-at-shape : decodeAt (s .pieces) (s .blocks) putBack ≡ withListing (listingHeld putBack (s .pieces)) (decodeAt (s .pieces) (s .blocks) xs)
+  -- nothing but the list changed
+  pub lent-at-shape : decodeAt (s .pieces) (s .blocks) putBack ≡ withListing (listingHeld putBack (s .pieces)) (decodeAt (s .pieces) (s .blocks) xs)
   unfolding withListing
   lent-at-shape =
       decode-parts (s .pieces) (s .blocks) xs putBack (λ g l. heads g (omega arith))
@@ -103,7 +104,7 @@ module _ (s : Shape) (xs : List ℕ) (r : Room s xs) (k : ℕ) (room : k ≤ s .
 
 -- ---- the list lent whole
 -- a list of given elements is a table of them
-tab-is : (ys : List ℕ) (n : ℕ) (f : ℕ → ℕ) → length ys ≡ n → ((i : ℕ) → i < n → f i ≡ getD ys i 0) → tab n f ≡ ys
+pub tab-is : (ys : List ℕ) (n : ℕ) (f : ℕ → ℕ) → length ys ≡ n → ((i : ℕ) → i < n → f i ≡ getD ys i 0) → tab n f ≡ ys
 unfolding size at
 tab-is ys n f l h = ext-getD 0 (tab n f) ys (size-tab n f ∙ sym l) (λ i m. let g : i < n = rw (size-tab n f) at m in at-tab n f i 0 g ∙ h i g)
 

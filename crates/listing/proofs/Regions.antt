@@ -1,23 +1,21 @@
 -- The list's whole region lent as a slice of its own, and put back with a list at its front. Assumes nothing.
 use mathlib.Core.Path.{_≡_, refl, sym, ap, ap₂, _∙_, subst}
 use mathlib.Core.List.{List, _++_}
-use Prim.Native.Nat.{ℕ, _+_, _-_, _*_, _≤_, _<_}
+use Prim.Native.Nat.{ℕ, _+_, _-_, _*_, _≤_}
 use native.Mathlib.Omega.{arith}
 use lib.ListN.{length, getD, take, drop, length-append, length-drop}
-use lib.Seq.{getD-take, getD-drop, length-take-le, take-at, ext-getD}
+use lib.Seq.{getD-take, getD-drop, length-take-le, take-at}
 use borrow.Rule.Slice.PartMut.{putMid, midOf}
 use Rattle.model.specs.Lists.{at, size}
 use Rattle.model.specs.State.{Picker, Listing, fresh, orderOf, withListing}
 use Rattle.layout.specs.declared.spots.Shape.{Shape}
-use Rattle.layout.specs.Tables.{tab, front}
-use Rattle.layout.specs.Layout.{pieceSpot, partialSpot, blockSpot, headWord, pieceWord, partialWord, blockWord, listHeld, listingHeld, listWords, decode, Room, Kept, Became}
-use Rattle.layout.proofs.TabLaws.{size-tab, at-tab, tab-front}
-use Rattle.layout.proofs.SpotLaws.{partial-from, block-from, words-needed}
-use Rattle.layout.proofs.Same.{SameHead, SamePartials, SameBlocks}
-use Rattle.layout.proofs.Readers.{pieces-same, extents-same, decode-parts}
-use Rattle.layout.proofs.RoomLaws.{partials-same, decoded, became-again}
+use Rattle.layout.specs.Tables.{front}
+use Rattle.layout.specs.Layout.{headWord, pieceWord, listHeld, listingHeld, listWords, decode, Room, Kept, Became}
+use Rattle.layout.proofs.TabLaws.{tab-front}
+use Rattle.layout.proofs.SpotLaws.{words-needed}
+use Rattle.layout.proofs.RoomLaws.{decoded, became-again}
 use Rattle.layout.proofs.Meanings.{order-is, length-is}
-use Rattle.layout.proofs.ListPart.{part-below, part-above, list-spot, field-below, lent-entry, lent-kept}
+use Rattle.layout.proofs.ListPart.{list-spot, lent-entry, lent-kept, lent-at-shape, tab-is}
 
 -- n words from a on, and the memory with other words in their place
 abbrev pub lentAt : ℕ → ℕ → List ℕ → List ℕ
@@ -25,10 +23,6 @@ lentAt a n xs = midOf a (a + n - a) xs
 
 abbrev pub backAt : ℕ → ℕ → List ℕ → List ℕ → List ℕ
 backAt a n xs ys = putMid a (a + n - a) xs ys
-
-tab-is : (ys : List ℕ) (n : ℕ) (f : ℕ → ℕ) → length ys ≡ n → ((i : ℕ) → i < n → f i ≡ getD ys i 0) → tab n f ≡ ys
-unfolding size at
-tab-is ys n f l h = ext-getD 0 (tab n f) ys (size-tab n f ∙ sym l) (λ i m. let g : i < n = rw (size-tab n f) at m in at-tab n f i 0 g ∙ h i g)
 
 module _ (s : Shape) (xs : List ℕ) (r : Room s xs) where
   -- the region is within the memory
@@ -57,28 +51,6 @@ module _ (s : Shape) (xs : List ℕ) (r : Room s xs) where
     abbrev back : List ℕ
     back = putMid (16 + 5 * s .pieces) (s .pieces) xs ys
 
-    low : (j : ℕ) → j < 16 + 5 * s .pieces → getD back j 0 ≡ getD xs j 0
-    low j h = part-below (16 + 5 * s .pieces) (s .pieces) xs ys region-fits long j h
-
-    high : (j : ℕ) → 16 + 5 * s .pieces + s .pieces ≤ j → getD back j 0 ≡ getD xs j 0
-    high j h = part-above (16 + 5 * s .pieces) (s .pieces) xs ys region-fits long j h
-
-    heads : SameHead xs back
-    unfolding headWord
-    heads j h = low j (omega arith)
-
-    fields : (f i : ℕ) → f < 5 → i < s .pieces → pieceWord back (s .pieces) f i ≡ pieceWord xs (s .pieces) f i
-    unfolding pieceWord
-    fields f i h l = low (pieceSpot (s .pieces) f i) (field-below (s .pieces) f i h l)
-
-    partials : SamePartials (s .pieces) xs back
-    unfolding partialWord
-    partials f j h l = high (partialSpot (s .pieces) f j) (omega (arith, partial-from (s .pieces) f j))
-
-    blocks : SameBlocks (s .pieces) (s .blocks) xs back
-    unfolding blockWord
-    blocks f p j h l m = high (blockSpot (s .pieces) (s .blocks) f p j) (omega (arith, block-from (s .pieces) (s .blocks) f p j))
-
     kept : Kept s xs back
     kept = lent-kept s xs r (s .pieces) (omega arith) ys long
 
@@ -92,11 +64,7 @@ module _ (s : Shape) (xs : List ℕ) (r : Room s xs) where
     unfolding withListing
     region-back = record {
       is = decoded s xs back r (λ (d : Picker). withListing (listingHeld back (s .pieces)) d) kept
-          (decode-parts (s .pieces) (s .blocks) xs back (λ g l. heads g (omega arith))
-          (pieces-same (s .pieces) xs back fields)
-          (partials-same s xs back r (heads 0 (omega arith)) (heads 1 (omega arith)) (heads 7 (omega arith)) partials blocks)
-          (extents-same (s .pieces) xs back (r .extents) heads)
-          refl);
+          (lent-at-shape s xs r (s .pieces) (omega arith) ys long);
       kept = kept;
     }
 

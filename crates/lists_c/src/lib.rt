@@ -1,6 +1,5 @@
 // The bucket number and the list operations for callers in C and Rust. Only for comparison and timing: a caller has to meet what they require.
 ghost use Prim.Native.Nat.{_+_, _≤_, _<_};
-ghost use mathlib.Core.Path.{_≡_};
 ghost use lib.ListN.{length, take};
 ghost use lib.Dec.{eqb};
 ghost use Rattle.model.specs.Lists.{bit};

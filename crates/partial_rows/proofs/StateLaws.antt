@@ -1,14 +1,14 @@
 -- The state of a piece by the numbers of its partial's blocks, case by case. Assumes nothing.
-use mathlib.Core.Path.{_≡_, refl, sym, ap, _∙_}
+use mathlib.Core.Path.{_≡_, sym}
 use mathlib.Core.Logic.{_⊎_, ⊎-elim}
 use mathlib.Core.Bool.{Bool, true, false, _&&_, true≢false}
-use Prim.Native.Nat.{ℕ, zero, suc, _+_, _-_, _≤_, _<_}
+use Prim.Native.Nat.{ℕ, _+_, _≤_, _<_}
 use native.Mathlib.Omega.{arith}
 use native.Mathlib.Decide.{ℕ-discrete}
 use lib.Dec.{eqb, ltb}
 use borrow.Author.Tests.{eq-eqb, ne-eqb, lt-ltb, le-ltb}
 use Rattle.types.specs.Queue.{queueNumber, plainOf}
-use Rattle.model.specs.Lists.{bit, at}
+use Rattle.model.specs.Lists.{bit}
 use Rattle.model.specs.State.{sameQueue}
 use Rattle.model.proofs.Tallies.{and-false}
 use Rattle.layout.specs.Layout.{queueFrom}
@@ -44,27 +44,6 @@ module _ (w r b m : ℕ) (h : Bool) where
       pub due-all : m ≤ b → r ≤ 0 → 2 ≡ queueNumber (dueBy w r b m h)
       unfolding dueBy
       due-all l q = rw (ne-eqb w 0 n, working b h k, le-ltb b m l, le-ltb 0 r q)
-
--- ---- a state without its direction
-pub plain-low : (w : ℕ) → w < 5 → w ≡ queueNumber (plainOf (queueFrom w))
-unfolding queueFrom at
-plain-low zero h = refl
-plain-low (suc zero) h = refl
-plain-low (suc (suc zero)) h = refl
-plain-low (suc (suc (suc zero))) h = refl
-plain-low (suc (suc (suc (suc zero)))) h = refl
-plain-low (suc (suc (suc (suc (suc w))))) h = absurd (omega arith)
-
-pub plain-high : (w : ℕ) → w ≤ 1 → w ≡ queueNumber (plainOf (queueFrom (5 + w)))
-unfolding queueFrom at
-plain-high zero h = refl
-plain-high (suc zero) h = refl
-plain-high (suc (suc w)) h = absurd (omega arith)
-
-pub plain-less : (w : ℕ) → 5 ≤ w → w ≤ 6 → w - 5 ≡ queueNumber (plainOf (queueFrom w))
-plain-less w l h =
-    plain-high (w - 5) (omega arith)
-    ∙ ap (λ (k : ℕ). queueNumber (plainOf (queueFrom k))) (omega arith)
 
 -- ---- the state that is there
 module _ (s w r b m : ℕ) (h : Bool) where

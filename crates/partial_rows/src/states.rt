@@ -1,8 +1,8 @@
 // The state of a piece, by its wish and the numbers of its partial's blocks: requested, not free, all.
+use layout::plain_state;
 ghost use mathlib.Core.Path.{_≡_};
 ghost use Prim.Native.Nat.{_≤_};
-ghost use Rattle.types.specs.Queue.{queueNumber, plainOf};
-ghost use Rattle.layout.specs.Layout.{queueFrom};
+ghost use Rattle.types.specs.Queue.{queueNumber};
 ghost use Rattle.partial_rows.specs.Rows.{dueBy, stateBy};
 
 // The number of the plain state that is due; that of Open where the piece is left as it is.
@@ -24,17 +24,6 @@ pub fn state_due(wish: u64, requested: u64, busy: u64, blocks: u64, hashing: boo
         return 1;
     }
     2
-}
-
-// The number of a state without its direction.
-fn plain_state(state: u64) -> u64
-    requires { ⌜ state ≤ 6 ⌝ }
-    ensures { λ r. ⌜ r ≡ queueNumber (plainOf (queueFrom state)) ⌝ }
-{
-    if state < 5 {
-        return state;
-    }
-    state - 5
 }
 
 // The state is the one that is due, or no block of a wished piece is at work.

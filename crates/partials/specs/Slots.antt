@@ -8,7 +8,7 @@ use Rattle.model.specs.State.{Partial, Picker}
 use Rattle.model.specs.Partials.{freshBlock}
 use Rattle.layout.specs.declared.spots.Shape.{Shape}
 use Rattle.layout.specs.Tables.{choose}
-use Rattle.layout.specs.Layout.{placesFor, headWord, partialWord, blockHeld, blocksHeld, partialFrom, partialIn, Spans, Room}
+use Rattle.layout.specs.Layout.{placesFor, headWord, partialWord, blockHeld, blocksHeld, partialFrom, partialIn, Room}
 use Rattle.layout.proofs.PartialStores.{Beside}
 use Rattle.layout.proofs.BlockStores.{Around}
 use Rattle.partials.specs.declared.slots.Record.{Record}

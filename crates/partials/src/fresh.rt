@@ -2,7 +2,7 @@
 ghost use mathlib.Core.Path.{_≡_};
 ghost use Prim.Native.Nat.{_<_, _≤_};
 ghost use Rattle.model.specs.Partials.{freshBlock};
-ghost use Rattle.layout.specs.Layout.{decode, headWord, partialWord, Room};
+ghost use Rattle.layout.specs.Layout.{Room};
 ghost use Rattle.records.specs.Rows.{blockOfRow};
 ghost use Rattle.partials.specs.Slots.{Filled};
 

@@ -1,7 +1,6 @@
 // A partial opened at a place among the partials, and one closed.
-ghost use mathlib.Core.Path.{_≡_};
 ghost use Prim.Native.Nat.{_<_, _≤_};
-ghost use Rattle.model.specs.Lists.{size, without};
+ghost use Rattle.model.specs.Lists.{without};
 ghost use Rattle.model.specs.State.{withPartials};
 ghost use Rattle.layout.specs.Layout.{decode, headWord, Room, Became};
 ghost use Rattle.partials.specs.Slots.{insertAt, openedWith};

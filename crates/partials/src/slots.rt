@@ -1,6 +1,5 @@
 // The record of a partial, read and stored as a whole, and where one for a piece is to stand.
 use types::PieceIndex;
-ghost use mathlib.Core.Path.{_≡_};
 ghost use Prim.Native.Nat.{_<_};
 ghost use Rattle.types.specs.Piece.{indexOf};
 ghost use Rattle.layout.specs.Layout.{decode, Room, Spans};

@@ -1,7 +1,7 @@
 -- What the rows of a block and the flags of a partial mean. Assumes nothing.
 use mathlib.Core.Path.{_≡_}
 use mathlib.Core.Bool.{cond}
-use mathlib.Core.Option.{Option, none, some}
+use mathlib.Core.Option.{none, some}
 use Prim.Native.Nat.{ℕ, _+_, _*_}
 use Rattle.types.specs.Block.{blockStateNumber}
 use Rattle.model.specs.Lists.{bit}

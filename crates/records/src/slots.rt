@@ -6,7 +6,6 @@ ghost use Prim.Native.Nat.{_<_};
 ghost use lib.IntN.{pos};
 ghost use Rattle.types.specs.Piece.{indexOf};
 ghost use Rattle.model.specs.Lists.{size};
-ghost use Rattle.model.specs.State.{Partial};
 ghost use Rattle.layout.specs.Layout.{decode, partialIn, withPartial, Room, Became};
 ghost use Rattle.records.specs.Rows.{FlagsRead, flagNumber, flagged};
 ghost use Rattle.records.specs.Finding.{placeFrom};

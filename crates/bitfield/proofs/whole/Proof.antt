@@ -1,6 +1,5 @@
 -- `whole` meets its contract, by computation. Assumes nothing.
 use Rattle.bitfield.specs.Bitfield.{digits}
-use Rattle.model.specs.Lists.{bit}
 use Rattle.bitfield.proofs.whole.Statement.{statement}
 use Rattle.bitfield.proofs.whole.Tie as tie
 

@@ -1,7 +1,6 @@
 -- `pull` meets its contract. The invariant: the places from j on are turned, but for the first, which is held. Assumes nothing.
 use borrow.Author.Needs.{needs}
 use mathlib.Core.Path.{sym, _∙_}
-use Prim.Native.Nat.{_-_}
 use native.Mathlib.Omega.{arith}
 use lib.ListN.{length}
 use Rattle.order.specs.Places.{rankIn}

@@ -2,7 +2,6 @@
 use mathlib.Core.Path.{sym, _∙_}
 use borrow.Author.Needs.{needs}
 use borrow.Author.Tests.{not-true, not-false}
-use Rattle.piece_rows.specs.Rows.{Housed}
 use Rattle.piece_rows.proofs.Bounds.{housed, keyed}
 use Rattle.well_formed.proofs.Joining.{ends, goes-on}
 use Rattle.well_formed.proofs.rows_ok.Statement.{statement}

@@ -1,6 +1,6 @@
 -- `partials::open_at` meets its contract: those from k on have moved up.
 use mathlib.Core.Path.{_∙_, ap, refl}
-use Prim.Native.Nat.{ℕ, _-_}
+use Prim.Native.Nat.{ℕ}
 use native.Mathlib.Omega.{arith}
 use lib.ListN.{length, set, length-set}
 use Rattle.layout.proofs.SpotLaws.{places-min}
