@@ -4,17 +4,19 @@ Oracle and reference go through the same calls and are compared after each. Each
 wish of an Open piece, the rebuild of a stale list by a pick; or it makes the list stale: a whole-copy peer more or less. A line for
 each, words parted by spaces, lists by commas (`-` for none):
 
-    start SEEDS PIECES LIST
+    start WORDS
     relist PIECE USED SEEDS PIECES DRAWS AFTER
     stale
     rebuild USED SEEDS PIECES DRAWS AFTER
 
-PIECES are all pieces after the call, each as count.state.wish.had; DRAWS the words lent, USED how many were used; AFTER is the list."""
+WORDS are a memory in which the picker stands; PIECES all pieces after the call, each as count.state.wish.had; DRAWS the words lent, USED
+how many were used; AFTER is the list."""
 import argparse
 import random
 import sys
 
 from compare.lists import Limits, Step, follow, led
+from compare.memory import encode
 from compare.run import Figures, Mismatch, compare
 from compare.states import a_picker, huge_geometry, small_geometry, wide_geometry
 from reference.calls import Seeded
@@ -66,7 +68,7 @@ def lead(rng):
     """A picker led through calls: the steps, and the lines of its list operations."""
     s = a_picker(rng, *a_geometry(rng))
     steps = follow(["zero", f"read {image(s).hex()}"])
-    lines = [f"start {pieces(s)} {shown(s.order)}"]
+    lines = [f"start {shown(encode(rng, s))}"]
     for _ in range(LENGTH):
         call, i = a_call(rng, s)
         seed = rng.getrandbits(32)

@@ -4,7 +4,7 @@
 mod list_operations;
 
 use bitdaemon_common::{Bitfield, DownloadPriority, PieceIndex};
-use list_operations::{bucket, relist, update_pieces};
+use list_operations::{rank, refresh, relist};
 use picker_rs::{NullPickerStats, PickerOptions, PiecePicker};
 use std::hint::black_box;
 use std::time::Instant;
@@ -14,11 +14,6 @@ const ROUNDS: usize = 400;
 /// The counts of n pieces, spread from 1 to `most`.
 fn counts(n: usize, most: usize) -> Vec<u64> {
     (0..n).map(|i| 1 + (i * 547 % most) as u64).collect()
-}
-
-/// The rank of an Open piece of wish 4.
-fn rank(count: u64) -> u64 {
-    bucket(0, count, 4, 4, false)
 }
 
 fn best(mut f: impl FnMut() -> f64) -> f64 {
@@ -96,31 +91,43 @@ fn rust_moves(counts: &[u64]) -> Moves {
     })
 }
 
+/// A picker of one block a piece in lent memory, its list stale: 16 words of head, then count, state, wish, had, pad and list of each piece.
+fn memory(counts: &[u64]) -> Vec<u64> {
+    let (n, places) = (counts.len(), counts.len().min(512));
+    let mut mem = vec![0; 16 + 6 * n + 7 * places];
+    mem[..6].copy_from_slice(&[n as u64 * 16384, 16384, 0, 0, n as u64, 1]);
+    mem[16..16 + n].copy_from_slice(counts);
+    mem[16 + n..16 + 3 * n].fill(4);
+    for k in 0..places {
+        mem[16 + 6 * n + 2 * places + k] = k as u64;
+    }
+    mem
+}
+
 fn our_rebuild(counts: &[u64], draws: &[u32]) -> f64 {
-    let mut list = vec![0; counts.len()];
+    let mut mem = memory(counts);
     best(|| {
+        mem[5..7].copy_from_slice(&[1, 0]);
         let start = Instant::now();
-        let keys: Vec<u64> = counts.iter().map(|c| rank(*c)).collect();
-        black_box(update_pieces(&mut list, &keys, draws).used);
+        black_box(refresh(&mut mem, draws));
         since(start)
     })
 }
 
 fn our_moves(counts: &[u64], draws: &[u32]) -> Moves {
-    let n = counts.len();
-    let mut keys: Vec<u64> = counts.iter().map(|c| rank(*c)).collect();
-    let (mut list, mut len) = (vec![0; n], n);
-    update_pieces(&mut list, &keys, draws);
-    let pieces = spread(n);
-    let mut to = |i: usize, key: u64| {
-        let old = std::mem::replace(&mut keys[i], key);
-        len = relist(&mut list, &keys, len, i as u64, old, draws).len;
+    let mut mem = memory(counts);
+    refresh(&mut mem, draws);
+    let pieces = spread(counts.len());
+    let mut set = |field: usize, i: usize, to: u64| {
+        let old = rank(&mem, i);
+        mem[16 + field * counts.len() + i] = to;
+        relist(&mut mem, i, old, draws);
     };
     best_moves(|| {
-        let up = each(&pieces, |i| to(i, rank(counts[i] + 1)));
-        let down = each(&pieces, |i| to(i, rank(counts[i])));
-        let remove = each(&pieces, |i| to(i, 0));
-        let add = each(&pieces, |i| to(i, rank(counts[i])));
+        let up = each(&pieces, |i| set(0, i, counts[i] + 1));
+        let down = each(&pieces, |i| set(0, i, counts[i]));
+        let remove = each(&pieces, |i| set(2, i, 0));
+        let add = each(&pieces, |i| set(2, i, 4));
         [add, (up + down) / 2.0, remove]
     })
 }

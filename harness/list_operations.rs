@@ -1,32 +1,30 @@
-//! The list operations of the crate `lists_c`.
-
-#[repr(C)]
-pub struct Listed {
-    pub len: usize,
-    pub used: usize,
-}
+//! The list operations of the crate `lists_c`, on memory in which a picker stands.
 
 #[link(name = "lists_c", kind = "static")]
 extern "C" {
-    fn ls_bucket(seeds: u64, count: u64, state: u64, wish: u64, had: bool) -> u64;
-    fn ls_relist(list: *mut u64, list_len: usize, keys: *const u64, keys_len: usize, n: usize, x: u64, old: u64, draws: *const u32, draws_len: usize, t: usize) -> Listed;
-    fn ls_update_pieces(list: *mut u64, list_len: usize, keys: *const u64, keys_len: usize, n: usize, draws: *const u32, draws_len: usize, t: usize) -> Listed;
+    fn ls_rank(mem: *const u64, len: usize, piece: usize) -> u64;
+    fn ls_relist(mem: *mut u64, len: usize, piece: usize, old: u64, draws: *const u32, draws_len: usize) -> usize;
+    fn ls_refresh(mem: *mut u64, len: usize, draws: *const u32, draws_len: usize) -> usize;
+}
+
+/// The number of pieces of the picker.
+pub fn pieces(mem: &[u64]) -> usize {
+    mem[0].div_ceil(mem[1]) as usize
 }
 
 /// The rank of a piece.
-pub fn bucket(seeds: u64, count: u64, state: u64, wish: u64, had: bool) -> u64 {
-    assert!(count <= 1000 && wish <= 7);
-    unsafe { ls_bucket(seeds, count, state, wish, had) }
+pub fn rank(mem: &[u64], piece: usize) -> u64 {
+    assert!(piece < pieces(mem));
+    unsafe { ls_rank(mem.as_ptr(), mem.len(), piece) }
 }
 
-/// The first n places mended after x came from rank `old` to the one that `keys` has. They hold a list that was right before.
-pub fn relist(list: &mut [u64], keys: &[u64], n: usize, x: u64, old: u64, draws: &[u32]) -> Listed {
-    assert!(n + usize::from(old == 0) <= list.len() && (x as usize) < keys.len());
-    unsafe { ls_relist(list.as_mut_ptr(), list.len(), keys.as_ptr(), keys.len(), n, x, old, draws.as_ptr(), draws.len(), 0) }
+/// The list mended after a piece came from rank `old` to the one it has. It was right before.
+pub fn relist(mem: &mut [u64], piece: usize, old: u64, draws: &[u32]) -> usize {
+    assert!(piece < pieces(mem));
+    unsafe { ls_relist(mem.as_mut_ptr(), mem.len(), piece, old, draws.as_ptr(), draws.len()) }
 }
 
-/// The list of all pieces made anew.
-pub fn update_pieces(list: &mut [u64], keys: &[u64], draws: &[u32]) -> Listed {
-    assert!(keys.len() <= 4096 && keys.len() <= list.len() && keys.iter().all(|k| *k < 21022));
-    unsafe { ls_update_pieces(list.as_mut_ptr(), list.len(), keys.as_ptr(), keys.len(), keys.len(), draws.as_ptr(), draws.len(), 0) }
+/// The list made anew where it is stale.
+pub fn refresh(mem: &mut [u64], draws: &[u32]) -> usize {
+    unsafe { ls_refresh(mem.as_mut_ptr(), mem.len(), draws.as_ptr(), draws.len()) }
 }

@@ -1,14 +1,11 @@
-//! Leads lists in lent memory through the list operations of standard input, by the proved code, and compares list and draws used with
-//! what oracle and reference have after each.
+//! Leads pickers in lent memory through the list operations of standard input, by the proved code, and compares list and draws used with
+//! what oracle and reference have after each, and that no other word changed.
 //! `harness/run` builds it. Prints how many were compared; ends with status 1 at the first difference, 2 on bad input.
 
 mod list_operations;
 
-use list_operations::Listed;
 use std::io::BufRead;
 use std::process::exit;
-
-const BEYOND: u64 = 77;
 
 fn bad(line: usize, why: &str) -> ! {
     eprintln!("lists: line {line}: {why}");
@@ -26,55 +23,60 @@ fn words(line: usize, text: &str) -> Vec<u32> {
     numbers(line, text).into_iter().map(|w| u32::try_from(w).unwrap_or_else(|_| bad(line, "not a word of 32 bits"))).collect()
 }
 
-/// A picker's list in lent memory, of as many places as there are pieces and one that nobody may touch, and its pieces' ranks.
+/// Memory in which a picker stands. Head words: 2 seeds, 5 stale, 6 list length.
 struct Memory {
     words: Vec<u64>,
-    len: usize,
-    keys: Vec<u64>,
-}
-
-/// The ranks of pieces, each as count.state.wish.had.
-fn ranks(line: usize, seeds: &str, pieces: &str) -> Vec<u64> {
-    let seeds = numbers(line, seeds)[0];
-    let rank = |piece: &str| {
-        let w: Vec<u64> = piece.split('.').map(|w| w.parse().unwrap_or_else(|_| bad(line, "not a number"))).collect();
-        match w[..] {
-            [count, state, wish, had] => list_operations::bucket(seeds, count, state, wish, had == 1),
-            _ => bad(line, "not a piece"),
-        }
-    };
-    pieces.split(',').map(rank).collect()
 }
 
 impl Memory {
-    fn start(line: usize, w: &[&str]) -> Memory {
-        let (keys, list) = (ranks(line, w[0], w[1]), numbers(line, w[2]));
-        let mut words = list.clone();
-        words.resize(keys.len() + 1, BEYOND);
-        Memory { words, len: list.len(), keys }
+    /// Field f of all pieces; 5 is the list.
+    fn region(&mut self, f: usize) -> &mut [u64] {
+        let n = list_operations::pieces(&self.words);
+        &mut self.words[16 + f * n..16 + (f + 1) * n]
+    }
+
+    /// The pieces as a call leaves them, each given as count.state.wish.had.
+    fn set_pieces(&mut self, line: usize, seeds: &str, pieces: &str) {
+        self.words[2] = numbers(line, seeds)[0];
+        for (i, piece) in pieces.split(',').enumerate() {
+            for (f, word) in piece.split('.').enumerate() {
+                self.region(f)[i] = numbers(line, word)[0];
+            }
+        }
     }
 
     fn relist(&mut self, line: usize, w: &[&str]) {
-        let x = numbers(line, w[0])[0];
-        let old = self.keys[x as usize];
-        self.keys = ranks(line, w[2], w[3]);
-        let room = self.keys.len();
-        let made = list_operations::relist(&mut self.words[..room], &self.keys, self.len, x, old, &words(line, w[4]));
-        self.compare(line, made, numbers(line, w[1])[0], &numbers(line, w[5]));
+        let piece = numbers(line, w[0])[0] as usize;
+        let old = list_operations::rank(&self.words, piece);
+        self.set_pieces(line, w[2], w[3]);
+        let due = self.with_list(&numbers(line, w[5]));
+        let used = list_operations::relist(&mut self.words, piece, old, &words(line, w[4]));
+        self.compare(line, &due, used, w[1]);
     }
 
     fn rebuild(&mut self, line: usize, w: &[&str]) {
-        self.keys = ranks(line, w[1], w[2]);
-        let room = self.keys.len();
-        let made = list_operations::update_pieces(&mut self.words[..room], &self.keys, &words(line, w[3]));
-        self.compare(line, made, numbers(line, w[0])[0], &numbers(line, w[4]));
+        self.set_pieces(line, w[1], w[2]);
+        let due = self.with_list(&numbers(line, w[4]));
+        let used = list_operations::refresh(&mut self.words, &words(line, w[3]));
+        self.compare(line, &due, used, w[0]);
     }
 
-    fn compare(&mut self, line: usize, made: Listed, used: u64, after: &[u64]) {
-        self.len = made.len;
-        let list = &self.words[..made.len];
-        if *list != *after || made.used as u64 != used || self.words[self.keys.len()] != BEYOND {
-            eprintln!("lists: line {line}: {list:?} with {} draws where {after:?} with {used} is due", made.used);
+    fn stale(&mut self) {
+        self.words[5..7].copy_from_slice(&[1, 0]);
+    }
+
+    /// The memory with another list, and nothing else changed.
+    fn with_list(&self, list: &[u64]) -> Vec<u64> {
+        let mut due = Memory { words: self.words.clone() };
+        due.words[5..7].copy_from_slice(&[0, list.len() as u64]);
+        due.region(5)[..list.len()].copy_from_slice(list);
+        due.words
+    }
+
+    fn compare(&self, line: usize, due: &[u64], used: usize, used_due: &str) {
+        if self.words != due || used as u64 != numbers(line, used_due)[0] {
+            let at = (0..due.len()).find(|&k| self.words[k] != due[k]);
+            eprintln!("lists: line {line}: {used} draws where {used_due} are due; the first other word is {at:?}");
             exit(1);
         }
     }
@@ -87,10 +89,10 @@ fn main() {
         let w: Vec<&str> = line.split(' ').collect();
         match (w[0], w.len(), &mut memory) {
             _ if ended => bad(k + 1, "a line after `end`"),
-            ("start", 4, _) => memory = Some(Memory::start(k + 1, &w[1..])),
+            ("start", 2, _) => memory = Some(Memory { words: numbers(k + 1, w[1]) }),
             ("relist", 7, Some(m)) => m.relist(k + 1, &w[1..]),
             ("rebuild", 6, Some(m)) => m.rebuild(k + 1, &w[1..]),
-            ("stale", 1, Some(m)) => m.len = 0,
+            ("stale", 1, Some(m)) => m.stale(),
             ("end", 1, _) => ended = true,
             _ => bad(k + 1, "no list operation"),
         }

@@ -1,66 +1,38 @@
-// The bucket number and the list operations for callers in C and Rust. Only for comparison and timing: a caller has to meet what they require.
-ghost use Prim.Native.Nat.{_+_, _≤_, _<_};
-ghost use lib.ListN.{length, take};
-ghost use lib.Dec.{eqb};
-ghost use Rattle.model.specs.Lists.{bit};
-ghost use Rattle.order.specs.Places.{rankIn};
-ghost use Rattle.update.specs.Relisting.{Ready};
-ghost use Rattle.rebuild.specs.Rebuilding.{Ranked};
-
-#[repr(C)]
-pub struct Listed {
-    pub len: usize,
-    pub used: usize,
-}
+// The list of a picker in lent memory, for callers in C and Rust. Only for comparison and timing: a caller has to meet what is required.
+use layout::shape_of;
+use types::PieceIndex;
+ghost use Prim.Native.Nat.{_<_};
+ghost use Rattle.layout.specs.Layout.{piecesOn, decode};
+ghost use Rattle.listing.specs.Listings.{ListedBefore};
+ghost use Rattle.lists_c.specs.Standing.{Stands};
 
 // The rank of a piece.
 #[no_mangle]
-pub extern "C" fn ls_bucket(seeds: u64, count: u64, state: u64, wish: u64, had: bool) -> u64
-    requires { ⌜ count ≤ 1000 ⌝ }
-    requires { ⌜ wish ≤ 7 ⌝ }
+pub extern "C" fn ls_rank(mem: &[u64], piece: usize) -> u64
+    requires { ⌜ Stands (now mem) ⌝ }
+    requires { ⌜ piece < piecesOn (now mem) ⌝ }
 {
-    bucket::bucket(seeds, count, state, wish, had)
+    let s = shape_of(mem);
+    listing::rank_at(mem, s, piece)
 }
 
+// The list mended after a piece came from rank `old` to the one it has. Answers how many draws were used.
 #[no_mangle]
-pub extern "C" fn ls_relist(
-    list: &mut [u64],
-    keys: &[u64],
-    n: usize,
-    x: u64,
-    old: u64,
-    draws: &[u32],
-    t: usize,
-) -> Listed
-    requires { ⌜ n + bit (eqb old 0) ≤ length (now list) ⌝ }
-    requires { ⌜ x < length (now keys) ⌝ }
-    requires { ⌜ Ready (rankIn (now keys)) (length (now keys)) old x (take n (now list)) ⌝ }
-    requires { ⌜ t ≤ length (now draws) ⌝ }
+pub extern "C" fn ls_relist(mem: &mut [u64], piece: usize, old: u64, draws: &[u32]) -> usize
+    requires { ⌜ Stands (now mem) ⌝ }
+    requires { ⌜ piece < piecesOn (now mem) ⌝ }
+    requires { ⌜ ListedBefore old piece (decode (now mem)) ⌝ }
 {
-    let r = update::relist(list, keys, n, x, old, draws, t);
-    Listed {
-        len: r.len,
-        used: r.used,
-    }
+    let s = shape_of(mem);
+    let index = PieceIndex::at(piece);
+    listing::relist(mem, s, index, old, draws, 0)
 }
 
+// The list rebuilt where it is stale. Answers how many draws were used.
 #[no_mangle]
-pub extern "C" fn ls_update_pieces(
-    list: &mut [u64],
-    keys: &[u64],
-    n: usize,
-    draws: &[u32],
-    t: usize,
-) -> Listed
-    requires { ⌜ n ≤ length (now keys) ⌝ }
-    requires { ⌜ n ≤ 4096 ⌝ }
-    requires { ⌜ n ≤ length (now list) ⌝ }
-    requires { ⌜ Ranked n (now keys) ⌝ }
-    requires { ⌜ t ≤ length (now draws) ⌝ }
+pub extern "C" fn ls_refresh(mem: &mut [u64], draws: &[u32]) -> usize
+    requires { ⌜ Stands (now mem) ⌝ }
 {
-    let r = rebuild::update_pieces(list, keys, n, draws, t);
-    Listed {
-        len: r.len,
-        used: r.used,
-    }
+    let s = shape_of(mem);
+    listing::refresh(mem, s, draws, 0)
 }

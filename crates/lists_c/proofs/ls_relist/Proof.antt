@@ -1,0 +1,28 @@
+-- `ls_relist` asks of its caller what the list's functions ask. Assumes nothing.
+use native.Mathlib.Omega.{arith}
+use borrow.Author.Needs.{needs}
+use Rattle.lists_c.proofs.ls_relist.Statement.{statement}
+use Rattle.lists_c.proofs.ls_relist.Tie as tie
+
+shape-of-requires : tie.Need-shape-of-requires
+shape-of-requires c κs = search needs
+
+at-requires : tie.Need-at-requires
+at-requires c κs = let e = c .shape-of .ensures in omega (arith, e .pieces, e .sizes .many, c .before .before .before .before .pre .1 .0)
+
+relist-requires : tie.Need-relist-requires
+relist-requires c κs =
+    let p = c .before .before .before .before .before .before .pre in
+    let e = c .before .before .shape-of .ensures in
+    let i = c .before .at .ensures .1 in
+    (p .0 .room _ e, (p .0 .ranges, (omega (arith, e .pieces, p .1 .0, i), (rw i (p .1 .1), omega arith))))
+
+same-length : tie.Need-same-length
+same-length c = search needs
+
+returns : tie.Need-returns
+returns c = search needs
+
+pub ls-relist-spec : {M : Type 1} → statement M
+ls-relist-spec =
+    tie.close (tie.spec shape-of-requires at-requires relist-requires same-length returns)
