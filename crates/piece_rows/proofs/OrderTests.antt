@@ -1,16 +1,16 @@
 -- The test of the list: the pieces with a rank counted, and one turn of the pass over the places. Assumes nothing.
-use mathlib.Core.Path.{_≡_, sym, ap, _∙_}
-use mathlib.Core.Bool.{Bool, true, false, not, _&&_, or-true, or-false}
+use mathlib.Core.Path.{_≡_, refl, sym, ap, _∙_}
+use mathlib.Core.Bool.{Bool, true, false, cond, not, _&&_, and-false, or-true, or-false}
 use mathlib.Core.List.{List, []}
 use Prim.Native.Nat.{ℕ, suc, _+_, _-_, _≤_, _<_}
 use native.Mathlib.Decide.{ℕ-discrete}
 use native.Mathlib.Omega.{arith}
 use lib.Dec.{eqb, ltb, leb}
-use lib.ListN.{length, getD, set, length-set, replicate, getD-replicate, length-replicate}
+use lib.ListN.{length, getD, set, length-set}
 use lib.Seq.{getD-set-same, getD-set-other}
 use borrow.Author.Tests.{eq-eqb, ne-eqb, lt-ltb, le-ltb, le-leb, lt-leb}
 use Rattle.model.specs.Lists.{bit, tally, from, size, member, some?, lastOf}
-use Rattle.model.specs.State.{piecesIn}
+use Rattle.model.specs.State.{Picker, piecesIn}
 use Rattle.model.specs.Order.{rank, withBucket}
 use Rattle.model.specs.WellFormed.{placeOk, orderOk, listingOk}
 use Rattle.model.proofs.Tallies.{lt-bit, ge-bit, length-filter}
@@ -65,25 +65,46 @@ module _ (keys : List ℕ) (n many i : ℕ) (p : Counting keys n many i) where
 unfoldable pub placeAt : List ℕ → ℕ → ℕ
 placeAt xs k = pieceWord xs (piecesOn xs) 5 k
 
--- what is left decides, the marks are the places passed, and the last of them has rank `last`
-pub record Ordering (xs : List ℕ) (marks : List Bool) (last k : ℕ) : Type 0 where
+-- the key of a place that was passed is 0, and any other is the rank
+unfoldable pub leftOf : Picker → List ℕ → ℕ → ℕ
+leftOf d before j = cond (member j before) 0 (rank d j)
+
+-- what is left decides, the keys are those of the places not passed, and the last place has rank `last`
+pub record Ordering (n : ℕ) (xs keys : List ℕ) (last k : ℕ) : Type 0 where
   pub within : k ≤ headWord xs 6
   pub left : orderOk (decode xs) (tab k (placeAt xs)) (tail (placeAt xs) k (headWord xs 6)) ≡ orderOk (decode xs) [] (listHeld xs (piecesOn xs))
-  pub mark : (j : ℕ) → j < 4096 → getD marks j false ≡ member j (tab k (placeAt xs))
-  pub lasts : (x : ℕ) → leb (rank (decode xs) (lastOf x (tab k (placeAt xs)))) (rank (decode xs) x) ≡ leb last (rank (decode xs) x)
-  pub wide : length marks ≡ 4096
+  pub least : 1 ≤ last
+  pub key : (j : ℕ) → j < n → getD keys j 0 ≡ leftOf (decode xs) (tab k (placeAt xs)) j
+  pub lasts : (x : ℕ) → 0 < rank (decode xs) x
+      → leb (rank (decode xs) (lastOf x (tab k (placeAt xs)))) (rank (decode xs) x) ≡ leb last (rank (decode xs) x)
+  pub wide : length keys ≡ 4096
 
-pub ordering-start : (xs : List ℕ) → Ordering xs (replicate 4096 false) 0 0
-unfolding listHeld placeAt tab member some? lastOf
-ordering-start xs = record {
+pub ordering-start : (s : Shape) (keys xs : List ℕ) → Keyed s keys xs → Ordering (s .pieces) xs keys 1 0
+unfolding listHeld placeAt tab member some? lastOf leftOf
+ordering-start s keys xs r = record {
   within = omega arith;
   left = ap (orderOk (decode xs) []) (tail-all (placeAt xs) (headWord xs 6));
-  mark = λ j h. getD-replicate 4096 j false false h;
-  lasts = λ x. le-leb (rank (decode xs) x) (rank (decode xs) x) (omega arith) ∙ sym (le-leb 0 (rank (decode xs) x) (omega arith));
-  wide = length-replicate 4096 false;
+  least = omega arith;
+  key = r .ranks;
+  lasts = λ x h. le-leb (rank (decode xs) x) (rank (decode xs) x) (omega arith) ∙ sym (le-leb 1 (rank (decode xs) x) (omega arith));
+  wide = r .long;
 }
 
-module _ (s : Shape) (keys xs : List ℕ) (r : Keyed s keys xs) (marks : List Bool) (last k : ℕ) (p : Ordering xs marks last k) where
+-- a rank, a place not passed and a rank that does not fall: one test of the key does for all three
+one-test : (passed : Bool) (rank last : ℕ) (rises : Bool) → 1 ≤ last → (0 < rank → rises ≡ leb last rank)
+    → (ltb 0 rank && (not passed && rises)) ≡ leb last (cond passed 0 rank)
+one-test true rank last rises h f = and-false (ltb 0 rank) ∙ sym (lt-leb last 0 (omega arith))
+one-test false rank last rises h f = elim (ℕ-discrete rank 0) [
+  | yes q ↦ rw (le-ltb 0 rank (omega arith)) (sym (lt-leb last rank (omega arith)))
+  | no q ↦ rw (lt-ltb 0 rank (omega arith)) (f (omega arith))
+]
+
+-- a key that is not 0 is the rank
+rank-left : (passed : Bool) (rank : ℕ) → 1 ≤ cond passed 0 rank → cond passed 0 rank ≡ rank
+rank-left true rank h = absurd (omega arith)
+rank-left false rank h = refl
+
+module _ (s : Shape) (keys₀ xs : List ℕ) (r : Keyed s keys₀ xs) (keys : List ℕ) (last k : ℕ) (p : Ordering (s .pieces) xs keys last k) where
   step : k < headWord xs 6 → orderOk (decode xs) (tab k (placeAt xs)) (tail (placeAt xs) k (headWord xs 6))
       ≡ (placeOk (decode xs) (tab k (placeAt xs)) (placeAt xs k) && orderOk (decode xs) (tab (k + 1) (placeAt xs)) (tail (placeAt xs) (k + 1) (headWord xs 6)))
   unfolding orderOk
@@ -96,57 +117,48 @@ module _ (s : Shape) (keys xs : List ℕ) (r : Keyed s keys xs) (marks : List Bo
     unfolding placeAt
     x-is = sym (ex ∙ ew ∙ ap (λ (n : ℕ). pieceWord xs n 5 k) (r .house .pieces))
 
-    test-is : placeOk (decode xs) (tab k (placeAt xs)) (placeAt xs k)
-        ≡ (ltb x (s .pieces) && (ltb 0 (rank (decode xs) x) && (not (member x (tab k (placeAt xs))) && leb last (rank (decode xs) x))))
-    unfolding placeOk
-    test-is = rw (x-is, p .lasts x, pieces-in xs ∙ sym (r .house .pieces))
+    test-is : placeOk (decode xs) (tab k (placeAt xs)) (placeAt xs k) ≡ (ltb x (s .pieces) && leb last (leftOf (decode xs) (tab k (placeAt xs)) x))
+    unfolding placeOk leftOf
+    test-is =
+        rw (x-is, pieces-in xs ∙ sym (r .house .pieces))
+        (ap (λ (t : Bool). ltb x (s .pieces) && t)
+        (one-test (member x (tab k (placeAt xs))) (rank (decode xs) x) last _ (p .least) (p .lasts x)))
 
-    bad : (ltb x (s .pieces) && (ltb 0 (rank (decode xs) x) && (not (member x (tab k (placeAt xs))) && leb last (rank (decode xs) x)))) ≡ false
-        → false ≡ orderOk (decode xs) [] (listHeld xs (piecesOn xs))
+    bad : (ltb x (s .pieces) && leb last (leftOf (decode xs) (tab k (placeAt xs)) x)) ≡ false → false ≡ orderOk (decode xs) [] (listHeld xs (piecesOn xs))
     bad e = sym (sym (p .left) ∙ step h ∙ rw (test-is ∙ e))
 
     pub bad-range : s .pieces ≤ x → false ≡ orderOk (decode xs) [] (listHeld xs (piecesOn xs))
     bad-range f = bad (rw (le-ltb x (s .pieces) f))
 
     module _ (l : x < s .pieces) where
-      key-is : rank (decode xs) x ≡ getD keys x 0
-      key-is = sym (r .ranks x l)
+      pub bad-key : getD keys x 0 < last → false ≡ orderOk (decode xs) [] (listHeld xs (piecesOn xs))
+      bad-key f = bad (rw (lt-ltb x (s .pieces) l) (lt-leb last (leftOf (decode xs) (tab k (placeAt xs)) x) (omega (arith, p .key x l))))
 
-      pub bad-none : getD keys x 0 ≡ 0 → false ≡ orderOk (decode xs) [] (listHeld xs (piecesOn xs))
-      bad-none e = bad (rw (lt-ltb x (s .pieces) l, le-ltb 0 (rank (decode xs) x) (omega (arith, key-is))))
+      passes : (j : ℕ) → j < s .pieces → getD (set keys x 0) j 0 ≡ leftOf (decode xs) (tab (k + 1) (placeAt xs)) j
+      unfolding leftOf
+      passes j m =
+          rw (front-next (placeAt xs) k, x-is, member-behind) (elim (ℕ-discrete j x) [
+            | yes q ↦ ap (λ (i : ℕ). getD (set keys x 0) i 0) q
+                ∙ getD-set-same keys x 0 0 (omega (arith, p .wide, r .house .spans .sizes .many)) ∙ sym (rw (eq-eqb j x q, or-true))
+            | no q ↦ getD-set-other keys x j 0 0 q ∙ p .key j m ∙ sym (rw (ne-eqb j x q, or-false))
+          ])
 
-      module _ (some : getD keys x 0 ≡ 0 → ⊥) where
-        positive : ltb 0 (rank (decode xs) x) ≡ true
-        positive = rw key-is (elim (ℕ-discrete (getD keys x 0) 0) [ yes q ↦ absurd (some q) | no q ↦ lt-ltb 0 (getD keys x 0) (omega arith) ])
+      module _ (f : last ≤ getD keys x 0) where
+        key-is : rank (decode xs) x ≡ getD keys x 0
+        unfolding leftOf
+        key-is = sym (p .key x l ∙ rank-left (member x (tab k (placeAt xs))) (rank (decode xs) x) (omega (arith, p .key x l, p .least)))
 
-        here : getD marks x false ≡ member x (tab k (placeAt xs))
-        here = p .mark x (omega (arith, r .house .spans .sizes .many))
-
-        pub bad-twice : getD marks x false ≡ true → false ≡ orderOk (decode xs) [] (listHeld xs (piecesOn xs))
-        bad-twice e = bad (rw (lt-ltb x (s .pieces) l, positive, sym here ∙ e))
-
-        module _ (e : getD marks x false ≡ false) where
-          pub bad-fall : getD keys x 0 < last → false ≡ orderOk (decode xs) [] (listHeld xs (piecesOn xs))
-          bad-fall f = bad (rw (lt-ltb x (s .pieces) l, positive, sym here ∙ e, lt-leb last (rank (decode xs) x) (omega (arith, key-is))))
-
-          marked : (j : ℕ) → j < 4096 → getD (set marks x true) j false ≡ member j (tab (k + 1) (placeAt xs))
-          marked j m =
-              rw (front-next (placeAt xs) k, x-is, member-behind) (elim (ℕ-discrete j x) [
-                | yes q ↦ ap (λ (i : ℕ). getD (set marks x true) i false) q
-                    ∙ getD-set-same marks x true false (omega (arith, p .wide, r .house .spans .sizes .many)) ∙ sym (rw (eq-eqb j x q, or-true))
-                | no q ↦ getD-set-other marks x j true false q ∙ p .mark j m ∙ sym (rw (ne-eqb j x q, or-false))
-              ])
-
-          pub next-place : last ≤ getD keys x 0 → Ordering xs (set marks x true) (getD keys x 0) (k + 1)
-          next-place f = record {
-            within = omega arith;
-            left =
-                sym (step h ∙ rw (test-is, lt-ltb x (s .pieces) l, positive, sym here ∙ e, le-leb last (rank (decode xs) x) (omega (arith, key-is))))
-                ∙ p .left;
-            mark = marked;
-            lasts = λ y. rw (front-next (placeAt xs) k, last-behind y (placeAt xs k) (tab k (placeAt xs)), x-is, key-is);
-            wide = length-set marks x true ∙ p .wide;
-          }
+        pub next-place : Ordering (s .pieces) xs (set keys x 0) (getD keys x 0) (k + 1)
+        next-place = record {
+          within = omega arith;
+          left =
+              sym (step h ∙ rw (test-is, lt-ltb x (s .pieces) l, le-leb last (leftOf (decode xs) (tab k (placeAt xs)) x) (omega (arith, p .key x l))))
+              ∙ p .left;
+          least = omega (arith, p .least);
+          key = passes;
+          lasts = λ y q. rw (front-next (placeAt xs) k, last-behind y (placeAt xs k) (tab k (placeAt xs)), x-is, key-is);
+          wide = length-set keys x 0 ∙ p .wide;
+        }
 
   pub places-end : headWord xs 6 ≤ k → true ≡ orderOk (decode xs) [] (listHeld xs (piecesOn xs))
   unfolding orderOk

@@ -1,24 +1,30 @@
 -- The test of all pieces: one test a piece, and one turn of the pass over them. Assumes nothing.
 use mathlib.Core.Path.{_≡_, refl, sym, ap, ap₂, _∙_}
-use mathlib.Core.Bool.{Bool, true, false, _&&_, and-false, true≢false}
+use mathlib.Core.Bool.{Bool, true, false, not, _&&_, _||_, and-true, and-false, and-assoc, true≢false}
 use mathlib.Core.List.{List, [], _∷_}
-use Prim.Native.Nat.{ℕ, zero, suc, _+_, _-_, _≤_, _<_}
-use native.Mathlib.Decide.{ℕ-discrete}
+use Prim.Native.Nat.{ℕ, zero, suc, _+_, _-_, _*_, _≤_, _<_}
+use native.Mathlib.Nat.{mul-le-mul}
+use native.Mathlib.Decide.{ℕ-discrete, decLe}
 use native.Mathlib.Omega.{arith}
-use lib.ListN.{length, set, length-set}
-use lib.Seq.{getD-set-same, getD-set-other}
+use lib.Dec.{leb}
+use borrow.Author.Tests.{le-leb, lt-leb}
+use lib.ListN.{length, getD, take, drop, length-drop}
+use lib.Seq.{getD-take, getD-drop, length-take-le}
 use Rattle.model.specs.Lists.{every, from}
 use Rattle.model.specs.Bep3.{numPieces, pieceLength}
-use Rattle.model.specs.State.{Piece, Picker, lengthAt}
+use Rattle.model.specs.State.{Piece, Picker, mostPeers, isOpen, lengthAt}
 use Rattle.model.specs.Order.{bucket, rankOf, rank}
 use Rattle.model.specs.WellFormed.{pieceOk, piecesOk}
+use Rattle.model.proofs.Bep3Laws.{pieceLength-le, pieceLength-whole}
 use Rattle.model.proofs.Truths.{both-true}
 use Rattle.layout.specs.Tables.{tab}
 use Rattle.layout.specs.declared.spots.Shape.{Shape}
-use Rattle.layout.specs.Layout.{headWord, pieceWord, piecesOn, blocksOn, pieceHeld, piecesHeld, decode}
+use Rattle.layout.specs.Layout.{cell, pieceSpot, headWord, pieceWord, piecesOn, blocksOn, queueFrom, yes?, pieceHeld, piecesHeld, decode, Spans}
+use Rattle.layout.proofs.SpotLaws.{words-needed}
 use Rattle.layout.proofs.Readers.{piece-at}
-use Rattle.piece_rows.specs.Memory.{pieceRaw, piecesRaw, goodPieces, Ranks}
-use Rattle.piece_rows.specs.Rows.{pieceFrom, rankFrom, rowOk, Ranked, Housed, Sifted}
+use Rattle.geometry.proofs.ValidLaws.{bounds}
+use Rattle.piece_rows.specs.Memory.{pieceRaw, piecesRaw, goodPieces}
+use Rattle.piece_rows.specs.Rows.{pieceFrom, rankFrom, rowOk, Ranked, Housed, Column, Level, rowIn, keyIn, Passed, Sifted}
 use Rattle.piece_rows.proofs.RowLaws.{ok-ranked, rank-pad}
 
 -- ---- two tests on each element are one
@@ -81,7 +87,7 @@ rank-at xs i h =
     ∙ sym (ap (λ (p : Piece). rankOf (bucket (headWord xs 2) p)) (piece-at n (blocksOn xs) xs i h ∙ held-from xs n i))
 
 -- ---- pieces that passed
-every-from : (f : ℕ → Bool) (k n : ℕ) → every f (from k n) ≡ true → (i : ℕ) → k ≤ i → i < k + n → f i ≡ true
+pub every-from : (f : ℕ → Bool) (k n : ℕ) → every f (from k n) ≡ true → (i : ℕ) → k ≤ i → i < k + n → f i ≡ true
 unfolding every from
 every-from f k zero h i l u = absurd (omega arith)
 every-from f k (suc n) h i l u =
@@ -97,82 +103,137 @@ module _ (xs : List ℕ) (good : goodPieces xs ≡ true) (i : ℕ) (h : i < piec
   unfolding rowAt
   good-ranked = ok-ranked _ _ _ _ _ _ _ good-row
 
--- ---- the pass
--- what is left of it decides, and the keys so far are ranks
-pub record Passing (s : Shape) (xs keys : List ℕ) (i : ℕ) : Type 0 where
-  pub within : i ≤ s .pieces
-  pub left : every (rowAt xs) (from i (s .pieces - i)) ≡ goodPieces xs
-  pub ranks : Ranks keys i xs
-  pub long : length keys ≡ 4096
+-- ---- the last piece apart
+-- a row of any length in another that is no shorter
+tests-apart : (a b c d z l : Bool) → (z && l) ≡ l → (a && (b && (c && (d && l)))) ≡ ((a && (b && (c && (d && z)))) && l)
+tests-apart true true true true z l h = sym h
+tests-apart true true true false z l h = refl
+tests-apart true true false d z l h = refl
+tests-apart true false c d z l h = refl
+tests-apart false b c d z l h = refl
 
+pad-apart : (pad size long : ℕ) → long ≤ size → (leb pad size && leb pad long) ≡ leb pad long
+pad-apart pad size long h = elim (decLe pad long) [
+  | yes l ↦ rw (le-leb pad size (omega arith), le-leb pad long l)
+  | no m ↦ rw (lt-leb pad long (omega arith)) (and-false (leb pad size))
+]
+
+row-apart : (seeds size long count state wish had pad : ℕ) → long ≤ size
+    → rowOk seeds long count state wish had pad ≡ (rowOk seeds size count state wish had pad && leb pad long)
+unfolding rowOk
+row-apart seeds size long count state wish had pad h =
+    tests-apart (leb state 6 && leb had 1) (leb (count + seeds) mostPeers) (leb wish 7) (not (yes? had) || isOpen (queueFrom state))
+    (leb pad size) (leb pad long) (pad-apart pad size long h)
+
+-- tests that agree but for the last number, where the one asks t as well
+last-apart : (f g : ℕ → Bool) (t : Bool) (k m l : ℕ) → k + m ≡ l → ((i : ℕ) → i < l → f i ≡ g i) → f l ≡ (g l && t)
+    → every f (from k (suc m)) ≡ (every g (from k (suc m)) && t)
+unfolding every from
+last-apart f g t k zero l q h e =
+    let z : k ≡ l = omega arith in
+    rw (z, and-true (f l), and-true (g l)) e
+last-apart f g t k (suc m) l q h e =
+    rw (h k (omega arith), last-apart f g t (suc k) m l (omega arith) h e) (sym (and-assoc (g k) (every g (from (suc k) (suc m))) t))
+
+-- ---- the columns
+module _ (s : Shape) (xs : List ℕ) (r : Spans s xs) (f : ℕ) (h : f < 5) where
+  -- a column has room
+  pub column-room : (f * s .pieces + s .pieces ≤ 20480) × (16 + f * s .pieces + s .pieces ≤ length xs)
+  column-room =
+      let g : f ≤ 4 = omega arith in
+      let n : s .pieces ≤ s .pieces = omega arith in
+      let l = mul-le-mul g n in
+      (omega (arith, r .sizes .many), omega (arith, r .body, words-needed (s .pieces) (s .blocks)))
+
+  pub column-is : Column xs (s .pieces) f (take (16 + f * s .pieces + s .pieces - (16 + f * s .pieces)) (drop (16 + f * s .pieces) xs))
+  unfolding pieceWord pieceSpot cell
+  column-is =
+      let e : 16 + f * s .pieces + s .pieces - (16 + f * s .pieces) ≡ s .pieces = omega arith in
+      rw e (record {
+        long = length-take-le (s .pieces) (drop (16 + f * s .pieces) xs) (rw (length-drop (16 + f * s .pieces) xs) (omega (arith, column-room)));
+        word = λ i l. getD-take (s .pieces) (drop (16 + f * s .pieces) xs) i 0 l ∙ getD-drop (16 + f * s .pieces) xs i 0
+            ∙ ap (λ (j : ℕ). getD xs j 0) (omega arith);
+      })
+
+-- ---- all of them
 module _ (s : Shape) (xs : List ℕ) (r : Housed s xs) where
-  pub passing-start : (keys : List ℕ) → length keys ≡ 4096 → Passing s xs keys 0
-  passing-start keys l =
-      let e : s .pieces - 0 ≡ piecesOn xs = omega (arith, r .pieces) in record {
-        within = omega arith;
-        left = ap (λ (k : ℕ). every (rowAt xs) (from 0 k)) e ∙ rows-are xs;
-        ranks = λ i h. absurd (omega arith);
-        long = l;
-      }
+  pub some-piece : 1 ≤ s .pieces
+  unfolding piecesOn
+  some-piece = omega (arith, r .pieces, bounds (headWord xs 0) (headWord xs 1) (r .geometry) .some-pieces)
 
   -- a piece before the end is one of the geometry's
   pub piece-there : (i at total size : ℕ) → i < s .pieces → at ≡ i → total ≡ headWord xs 0 → size ≡ headWord xs 1 → at < numPieces total size
   unfolding piecesOn
   piece-there i at total size h ea et ez = rw (ea, et, ez) (omega (arith, r .pieces))
 
-  module _ (keys : List ℕ) (i : ℕ) (p : Passing s xs keys i) where
-    step : i < s .pieces → every (rowAt xs) (from i (s .pieces - i)) ≡ (rowAt xs i && every (rowAt xs) (from (i + 1) (s .pieces - (i + 1))))
-    unfolding every from
-    step h =
-        let e : s .pieces - i ≡ suc (s .pieces - (i + 1)) = omega arith in
-        let f : suc i ≡ i + 1 = omega arith in
-        ap (λ (k : ℕ). every (rowAt xs) (from i k)) e ∙ ap (λ (k : ℕ). rowAt xs i && every (rowAt xs) (from k (s .pieces - (i + 1)))) f
+  module _ (counts states wishes hads pads : List ℕ) (e0 : Column xs (s .pieces) 0 counts) (e1 : Column xs (s .pieces) 1 states)
+      (e2 : Column xs (s .pieces) 2 wishes) (e3 : Column xs (s .pieces) 3 hads) (e4 : Column xs (s .pieces) 4 pads) where
+    pub level : Level counts states wishes hads pads
+    level = record {
+      most = omega (arith, e0 .long, r .spans .sizes .many);
+      states-long = e1 .long ∙ sym (e0 .long);
+      wishes-long = e2 .long ∙ sym (e0 .long);
+      hads-long = e3 .long ∙ sym (e0 .long);
+      pads-long = e4 .long ∙ sym (e0 .long);
+    }
 
-    -- by the words that were read
-    module _ (h : i < s .pieces) (seeds total size at long count state wish had pad : ℕ) (ea : at ≡ i) (et : total ≡ headWord xs 0) (ez : size ≡ headWord xs 1)
-        (es : seeds ≡ headWord xs 2) (el : long ≡ pieceLength total size at)
-        (e0 : count ≡ pieceWord xs (s .pieces) 0 i) (e1 : state ≡ pieceWord xs (s .pieces) 1 i) (e2 : wish ≡ pieceWord xs (s .pieces) 2 i)
-        (e3 : had ≡ pieceWord xs (s .pieces) 3 i) (e4 : pad ≡ pieceWord xs (s .pieces) 4 i) where
-      at-field : (w f : ℕ) → w ≡ pieceWord xs (s .pieces) f i → pieceWord xs (piecesOn xs) f i ≡ w
-      at-field w f e = sym (e ∙ ap (λ (n : ℕ). pieceWord xs n f i) (r .pieces))
+    module _ (seeds size : ℕ) (es : seeds ≡ headWord xs 2) (ez : size ≡ headWord xs 1) where
+      at-field : (i f : ℕ) (words : List ℕ) → Column xs (s .pieces) f words → i < s .pieces → pieceWord xs (piecesOn xs) f i ≡ getD words i 0
+      at-field i f words e h = sym (e .word i h ∙ ap (λ (n : ℕ). pieceWord xs n f i) (r .pieces))
 
-      row-read : rowAt xs i ≡ rowOk seeds long count state wish had pad
+      row-read : (i : ℕ) → i < s .pieces → rowAt xs i ≡ rowOk seeds (pieceLength (headWord xs 0) (headWord xs 1) i) (getD counts i 0) (getD states i 0) (getD wishes i 0) (getD hads i 0) (getD pads i 0)
       unfolding rowAt
-      row-read =
-          let l : pieceLength (headWord xs 0) (headWord xs 1) i ≡ long = sym (el ∙ (λ k. pieceLength (et k) (ez k) (ea k))) in
-          λ k. rowOk (sym es k) (l k) (at-field count 0 e0 k) (at-field state 1 e1 k) (at-field wish 2 e2 k) (at-field had 3 e3 k) (at-field pad 4 e4 k)
+      row-read i h =
+          λ k. rowOk (sym es k) (pieceLength (headWord xs 0) (headWord xs 1) i) (at-field i 0 counts e0 h k) (at-field i 1 states e1 h k)
+          (at-field i 2 wishes e2 h k) (at-field i 3 hads e3 h k) (at-field i 4 pads e4 h k)
 
-      pub bad-row : rowOk seeds long count state wish had pad ≡ false → Sifted s false keys xs
-      bad-row e =
-          let f : rowAt xs i ≡ false = row-read ∙ e in
-          record {
-            is = sym (sym (p .left) ∙ step h ∙ rw f);
-            ranks = λ q. absurd (true≢false (sym q));
-            long = p .long;
-          }
+      -- each row as that of a whole piece
+      pub inner-row : (i : ℕ) → i + 1 < s .pieces → rowAt xs i ≡ rowIn seeds size counts states wishes hads pads i
+      unfolding rowIn piecesOn
+      inner-row i h =
+          let e = pieceLength-whole (headWord xs 0) (headWord xs 1) i (bounds (headWord xs 0) (headWord xs 1) (r .geometry) .some-size) (omega (arith, r .pieces)) in
+          row-read i (omega arith)
+          ∙ ap (λ (l : ℕ). rowOk seeds l (getD counts i 0) (getD states i 0) (getD wishes i 0) (getD hads i 0) (getD pads i 0)) (e ∙ sym ez)
 
-      key-is : i < piecesOn xs → rankFrom seeds count state wish had ≡ rank (decode xs) i
-      key-is l =
-          (λ k. rankFrom (es k) (sym (at-field count 0 e0) k) (sym (at-field state 1 e1) k) (sym (at-field wish 2 e2) k) (sym (at-field had 3 e3) k)) ∙ rank-at xs i l
+      key-at : (i : ℕ) → i < s .pieces → keyIn seeds counts states wishes hads i ≡ rank (decode xs) i
+      unfolding keyIn
+      key-at i h =
+          (λ k. rankFrom (es k) (sym (at-field i 0 counts e0 h) k) (sym (at-field i 1 states e1 h) k) (sym (at-field i 2 wishes e2 h) k) (sym (at-field i 3 hads e3 h) k))
+          ∙ rank-at xs i (omega (arith, r .pieces))
 
-      pub next-row : rowOk seeds long count state wish had pad ≡ true → (key : ℕ) → key ≡ rankFrom seeds count state wish had
-          → Passing s xs (set keys i key) (i + 1)
-      next-row e key ek =
-          let f : rowAt xs i ≡ true = row-read ∙ e in record {
-            within = omega arith;
-            left = sym (step h ∙ rw f) ∙ p .left;
-            ranks = λ j l. elim (ℕ-discrete j i) [
-              | yes q ↦ rw q (getD-set-same keys i key 0 (omega (arith, p .long, p .within, r .spans .sizes .many)) ∙ ek ∙ key-is (omega (arith, r .pieces)))
-              | no q ↦ getD-set-other keys i j key 0 q ∙ p .ranks j (omega arith)
-            ];
-            long = length-set keys i key ∙ p .long;
-          }
+      -- and the pad of the last one by its own length
+      module _ (last pad long : ℕ) (el : last + 1 ≡ s .pieces) (ep : pad ≡ pieceWord xs (s .pieces) 4 last)
+          (eg : long ≡ pieceLength (headWord xs 0) (headWord xs 1) last) where
+        last-row : rowAt xs last ≡ (rowIn seeds size counts states wishes hads pads last && leb pad long)
+        unfolding rowIn
+        last-row =
+            let h : last < s .pieces = omega arith in
+            let m = pieceLength-le (headWord xs 0) (headWord xs 1) last in
+            row-read last h
+            ∙ row-apart seeds size (pieceLength (headWord xs 0) (headWord xs 1) last) (getD counts last 0) (getD states last 0) (getD wishes last 0) (getD hads last 0) (getD pads last 0) (omega arith)
+            ∙ ap (λ (t : Bool). rowOk seeds size (getD counts last 0) (getD states last 0) (getD wishes last 0) (getD hads last 0) (getD pads last 0) && t)
+            (λ k. leb ((e4 .word last h ∙ sym ep) k) (sym eg k))
 
-    pub rows-end : s .pieces ≤ i → Sifted s true keys xs
-    unfolding every from
-    rows-end h =
-        let e : s .pieces - i ≡ 0 = omega arith in record {
-          is = ap (λ (k : ℕ). every (rowAt xs) (from i k)) (sym e) ∙ p .left;
-          ranks = λ q j l. p .ranks j (omega arith);
+        pieces-are : (every (rowIn seeds size counts states wishes hads pads) (from 0 (length counts)) && leb pad long) ≡ goodPieces xs
+        pieces-are =
+            let a : length counts ≡ suc last = omega (arith, e0 .long) in
+            let b : suc last ≡ piecesOn xs = omega (arith, r .pieces) in
+            ap (λ (n : ℕ). every (rowIn seeds size counts states wishes hads pads) (from 0 n) && leb pad long) a
+            ∙ sym (last-apart (rowAt xs) (rowIn seeds size counts states wishes hads pads) (leb pad long) 0 last last (omega arith) (λ i l. inner-row i (omega arith)) last-row)
+            ∙ ap (λ (n : ℕ). every (rowAt xs) (from 0 n)) b ∙ rows-are xs
+
+      module _ (t : Bool) (keys : List ℕ) (p : Passed (rowIn seeds size counts states wishes hads pads) (keyIn seeds counts states wishes hads) (length counts) t keys) where
+        pub rows-bad : t ≡ false → Sifted s false keys xs
+        rows-bad e = record {
+          is = sym (sym (pieces-are (s .pieces - 1) _ _ (omega (arith, some-piece)) refl refl) ∙ rw (sym (p .is) ∙ e));
+          ranks = λ q. absurd (true≢false (sym q));
+          long = p .long;
+        }
+
+        pub rows-good : t ≡ true → (last pad long : ℕ) → last + 1 ≡ s .pieces → pad ≡ pieceWord xs (s .pieces) 4 last
+            → long ≡ pieceLength (headWord xs 0) (headWord xs 1) last → Sifted s (leb pad long) keys xs
+        rows-good e last pad long el ep eg = record {
+          is = sym (sym (pieces-are last pad long el ep eg) ∙ rw (sym (p .is) ∙ e));
+          ranks = λ q i h. p .ranks e i (omega (arith, e0 .long)) ∙ key-at i h;
           long = p .long;
         }

@@ -1,8 +1,9 @@
 -- The words of one piece: the tests on its state as tests on a number, its rank where it has one and where it has none, and its test.
 -- Assumes nothing.
 use mathlib.Core.Path.{_≡_, refl, ap}
-use mathlib.Core.Bool.{true, false, _&&_}
+use mathlib.Core.Bool.{true, false, not, _&&_, _||_, and-true, and-false}
 use Prim.Native.Nat.{ℕ, zero, suc, _+_, _≤_, _<_}
+use native.Mathlib.Decide.{ℕ-discrete}
 use native.Mathlib.Omega.{arith}
 use lib.Dec.{eqb, ltb, leb}
 use borrow.Author.Tests.{eq-eqb, ne-eqb, le-leb, lt-leb, leb-true}
@@ -50,35 +51,32 @@ module _ (seeds long count state wish had pad : ℕ) where
   unfolding rowOk
   bad-state h = rw (lt-leb state 6 h)
 
-  module _ (s : state ≤ 6) where
-    pub bad-had : 1 < had → false ≡ rowOk seeds long count state wish had pad
-    unfolding rowOk
-    bad-had h = rw (le-leb state 6 s, lt-leb had 1 h)
+  pub bad-count : 1000 < count + seeds → false ≡ rowOk seeds long count state wish had pad
+  unfolding rowOk
+  bad-count h = rw (lt-leb (count + seeds) 1000 h, and-false)
 
-    module _ (d : had ≤ 1) where
-      pub bad-count : 1000 < count + seeds → false ≡ rowOk seeds long count state wish had pad
-      unfolding rowOk
-      bad-count h = rw (le-leb state 6 s, le-leb had 1 d, lt-leb (count + seeds) 1000 h)
+  pub bad-wish : 7 < wish → false ≡ rowOk seeds long count state wish had pad
+  unfolding rowOk
+  bad-wish h = rw (lt-leb wish 7 h, and-false (leb (count + seeds) 1000), and-false)
 
-      module _ (c : count + seeds ≤ 1000) where
-        pub bad-wish : 7 < wish → false ≡ rowOk seeds long count state wish had pad
-        unfolding rowOk
-        bad-wish h = rw (le-leb state 6 s, le-leb had 1 d, le-leb (count + seeds) 1000 c, lt-leb wish 7 h)
+  pub bad-pad : long < pad → false ≡ rowOk seeds long count state wish had pad
+  unfolding rowOk
+  bad-pad h =
+      rw (lt-leb pad long h, and-false (not (yes? had) || isOpen (queueFrom state)), and-false (leb wish 7), and-false (leb (count + seeds) 1000), and-false)
 
-        module _ (w : wish ≤ 7) where
-          pub had-at-work : had ≡ 1 → (state ≡ 4 → ⊥) → false ≡ rowOk seeds long count state wish had pad
-          unfolding rowOk yes?
-          had-at-work h n =
-              rw (le-leb state 6 s, le-leb had 1 d, le-leb (count + seeds) 1000 c, le-leb wish 7 w, eq-eqb had 1 h, open-test state s, ne-eqb state 4 n)
+  -- what is left is whether it is had
+  module _ (s : state ≤ 6) (c : count + seeds ≤ 1000) (w : wish ≤ 7) (p : pad ≤ long) where
+    pub not-had : had ≡ 0 → true ≡ rowOk seeds long count state wish had pad
+    unfolding rowOk yes?
+    not-had h =
+        rw (le-leb state 6 s, le-leb had 1 (omega arith), le-leb (count + seeds) 1000 c, le-leb wish 7 w, le-leb pad long p, ne-eqb had 1 (λ q. absurd (omega arith)))
 
-          pub had-open : had ≡ 1 → state ≡ 4 → leb pad long ≡ rowOk seeds long count state wish had pad
-          unfolding rowOk yes?
-          had-open h n =
-              rw (le-leb state 6 s, le-leb had 1 d, le-leb (count + seeds) 1000 c, le-leb wish 7 w, eq-eqb had 1 h, open-test state s, eq-eqb state 4 n)
-
-          pub not-had : (had ≡ 1 → ⊥) → leb pad long ≡ rowOk seeds long count state wish had pad
-          unfolding rowOk yes?
-          not-had h = rw (le-leb state 6 s, le-leb had 1 d, le-leb (count + seeds) 1000 c, le-leb wish 7 w, ne-eqb had 1 h)
+    pub had-test : (had ≡ 0 → ⊥) → (eqb had 1 && eqb state 4) ≡ rowOk seeds long count state wish had pad
+    unfolding rowOk yes?
+    had-test n = elim (ℕ-discrete had 1) [
+      | yes q ↦ rw (le-leb state 6 s, le-leb had 1 (omega arith), le-leb (count + seeds) 1000 c, le-leb wish 7 w, le-leb pad long p, eq-eqb had 1 q, open-test state s, and-true)
+      | no q ↦ rw (le-leb state 6 s, lt-leb had 1 (omega arith), ne-eqb had 1 q)
+    ]
 
   -- words that pass have a rank
   pub ok-ranked : rowOk seeds long count state wish had pad ≡ true → Ranked count state wish had

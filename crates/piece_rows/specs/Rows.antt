@@ -1,17 +1,17 @@
 -- What the tests read: the five words of a piece as a piece, its rank and its test; and the bounds under which the words may be read.
 -- Assumes nothing.
-use Prim.Native.Nat.{ℕ, _+_, _≤_}
+use Prim.Native.Nat.{ℕ, _+_, _≤_, _<_}
 use mathlib.Core.Path.{_≡_}
 use mathlib.Core.Bool.{Bool, true, cond, not, _&&_, _||_}
-use mathlib.Core.List.{List}
+use mathlib.Core.List.{List, [], _∷_}
 use lib.ListN.{length, getD}
 use lib.Dec.{eqb, ltb, leb}
-use Rattle.model.specs.Lists.{tally, from}
+use Rattle.model.specs.Lists.{every, tally, from}
 use Rattle.model.specs.State.{Piece, mostPeers, isOpen, validGeometry}
 use Rattle.model.specs.Order.{bucket, rankOf}
 use Rattle.layout.specs.Tables.{tab}
 use Rattle.layout.specs.declared.spots.Shape.{Shape}
-use Rattle.layout.specs.Layout.{headWord, piecesOn, blocksOn, queueFrom, yes?, Spans}
+use Rattle.layout.specs.Layout.{headWord, pieceWord, piecesOn, blocksOn, queueFrom, yes?, Spans}
 use Rattle.piece_rows.specs.Memory.{goodHead, goodPieces, Ranks}
 
 -- ---- one piece
@@ -35,6 +35,19 @@ pub record Ranked (count state wish had : ℕ) : Type 0 where
   pub wish-most : wish ≤ 7
   pub had-most : had ≤ 1
 
+-- row by state and place by wish: 4 times the factor by which one more than the count is multiplied, and what is then taken off; 0 where
+-- there is no rank
+unfoldable pub weightRows : List (List ℕ)
+weightRows =
+    (0 ∷ 86 ∷ 74 ∷ 62 ∷ 50 ∷ 38 ∷ 26 ∷ 14 ∷ [])
+    ∷ (0 ∷ 0 ∷ 0 ∷ 0 ∷ 0 ∷ 0 ∷ 0 ∷ 0 ∷ [])
+    ∷ (0 ∷ 0 ∷ 0 ∷ 0 ∷ 0 ∷ 0 ∷ 0 ∷ 0 ∷ [])
+    ∷ (0 ∷ 86 ∷ 74 ∷ 62 ∷ 50 ∷ 38 ∷ 26 ∷ 14 ∷ [])
+    ∷ (0 ∷ 85 ∷ 73 ∷ 61 ∷ 49 ∷ 37 ∷ 25 ∷ 13 ∷ [])
+    ∷ (0 ∷ 84 ∷ 72 ∷ 60 ∷ 48 ∷ 36 ∷ 24 ∷ 12 ∷ [])
+    ∷ (0 ∷ 84 ∷ 72 ∷ 60 ∷ 48 ∷ 36 ∷ 24 ∷ 12 ∷ [])
+    ∷ []
+
 -- ---- the memory
 -- it has room for the picker that its head gives, which has this shape
 pub record Housed (s : Shape) (xs : List ℕ) : Type 0 where
@@ -54,6 +67,34 @@ unfoldable pub rangesOk : ℕ → ℕ → ℕ → ℕ → Bool
 rangesOk n seeds cursor reverse = leb seeds mostPeers && (leb cursor n && leb reverse n)
 
 -- ---- all pieces
+-- the words of field f of n pieces, as a list of their own
+pub record Column (xs : List ℕ) (n f : ℕ) (words : List ℕ) : Type 0 where
+  pub long : length words ≡ n
+  pub word : (i : ℕ) → i < n → getD words i 0 ≡ pieceWord xs n f i
+
+-- columns of one length, and no longer than the table of keys
+pub record Level (counts states wishes hads pads : List ℕ) : Type 0 where
+  pub most : length counts ≤ 4096
+  pub states-long : length states ≡ length counts
+  pub wishes-long : length wishes ≡ length counts
+  pub hads-long : length hads ≡ length counts
+  pub pads-long : length pads ≡ length counts
+
+-- row i of five columns as that of a piece of `size` bytes: its test
+unfoldable pub rowIn : ℕ → ℕ → List ℕ → List ℕ → List ℕ → List ℕ → List ℕ → ℕ → Bool
+rowIn seeds size counts states wishes hads pads i =
+    rowOk seeds size (getD counts i 0) (getD states i 0) (getD wishes i 0) (getD hads i 0) (getD pads i 0)
+
+-- and its rank
+unfoldable pub keyIn : ℕ → List ℕ → List ℕ → List ℕ → List ℕ → ℕ → ℕ
+keyIn seeds counts states wishes hads i = rankFrom seeds (getD counts i 0) (getD states i 0) (getD wishes i 0) (getD hads i 0)
+
+-- what a pass over n rows leaves: whether each passes its test, and where they do, the key of each
+pub record Passed (test : ℕ → Bool) (key : ℕ → ℕ) (n : ℕ) (r : Bool) (keys : List ℕ) : Type 0 where
+  pub is : r ≡ every test (from 0 n)
+  pub ranks : r ≡ true → (i : ℕ) → i < n → getD keys i 0 ≡ key i
+  pub long : length keys ≡ 4096
+
 -- what their test leaves: its answer, and the ranks where it passes
 pub record Sifted (s : Shape) (r : Bool) (keys xs : List ℕ) : Type 0 where
   pub is : r ≡ goodPieces xs

@@ -5,6 +5,7 @@ mod numbers;
 mod order;
 mod pieces;
 mod rows;
+mod weights;
 
 pub use extents::extents_ok;
 pub use head::head_ok;

@@ -1,5 +1,6 @@
 // Words and indices, which have as many bits.
 ghost use mathlib.Core.Path.{_≡_};
+ghost use Prim.Native.Nat.{_<_};
 
 // A number as a word.
 pub fn word(n: usize) -> u64
@@ -13,4 +14,12 @@ pub fn idx(x: u64) -> usize
     ensures { λ r. ⌜ r ≡ x ⌝ }
 {
     x as usize
+}
+
+// A small number in 16 bits.
+pub fn short(x: u64) -> u16
+    requires { ⌜ x < 65536 ⌝ }
+    ensures { λ r. ⌜ r ≡ x ⌝ }
+{
+    x as u16
 }

@@ -12,12 +12,12 @@ ghost use Rattle.layout.specs.Layout.{piecesOn, listHeld, decode};
 ghost use Rattle.piece_rows.specs.Memory.{goodList};
 ghost use Rattle.piece_rows.specs.Rows.{Keyed, rankedIn};
 
-// How many of the first n keys are not 0.
-fn ranked(keys: &[u64; 4096], n: usize) -> usize
+// How many of the first n keys are not 0. The count has as many bits as a key, so that eight are counted at once.
+fn ranked(keys: &[u16; 4096], n: usize) -> usize
     requires { ⌜ (n ≤ 4096) × (length (now keys) ≡ 4096) ⌝ }
     ensures { λ r. ⌜ r ≡ rankedIn (now (keys .entry)) n ⌝ }
 {
-    let mut many: usize = 0;
+    let mut many: u16 = 0;
     let mut i = 0;
     while i < n {
         if 0 < keys[i] {
@@ -25,18 +25,18 @@ fn ranked(keys: &[u64; 4096], n: usize) -> usize
         }
         i += 1;
     }
-    many
+    many as usize
 }
 
-// The places one after another. `marks` are the pieces passed, `last` is the rank of the last one.
-fn places_ok(mem: &[u64], s: Shape, keys: &[u64; 4096]) -> bool
+// The places one after another. The key of a place that was passed becomes 0, and `last` is the rank of the last one; a key that is 0 is
+// below it, as is one that falls.
+fn places_ok(mem: &[u64], s: Shape, keys: &mut [u16; 4096]) -> bool
     requires { ⌜ Keyed s (now keys) (now mem) ⌝ }
     ensures { λ r. ⌜ r ≡ orderOk (decode (now (mem .entry))) [] (listHeld (now (mem .entry)) (piecesOn (now (mem .entry)))) ⌝ }
 {
     let n = s.pieces;
     let many = idx(head_word(mem, 6));
-    let mut marks = [false; 4096];
-    let mut last = 0;
+    let mut last: u16 = 1;
     let mut k = 0;
     while k < many {
         let x = idx(piece_word(mem, s, 5, k));
@@ -44,23 +44,18 @@ fn places_ok(mem: &[u64], s: Shape, keys: &[u64; 4096]) -> bool
             return false;
         }
         let key = keys[x];
-        if key == 0 {
-            return false;
-        }
-        if marks[x] {
-            return false;
-        }
         if key < last {
             return false;
         }
-        marks[x] = true;
+        keys[x] = 0;
         last = key;
         k += 1;
     }
     true
 }
 
-pub fn order_ok(mem: &[u64], s: Shape, keys: &[u64; 4096]) -> bool
+// The keys do not last: what was passed is 0.
+pub fn order_ok(mem: &[u64], s: Shape, keys: &mut [u16; 4096]) -> bool
     requires { ⌜ Keyed s (now keys) (now mem) ⌝ }
     ensures { λ r. ⌜ r ≡ goodList (now (mem .entry)) ⌝ }
 {

@@ -1,41 +1,81 @@
 // The test of all pieces in one pass, which also fills in their ranks.
 use crate::numbers::word;
 use crate::rows::piece_ok;
-use crate::rows::rank_of;
+use crate::weights::key_of;
+use crate::weights::weights;
 use geometry::piece_length;
 use layout::Shape;
 use layout::head_word;
 use layout::piece_word;
 ghost use mathlib.Core.Path.{_≡_};
 ghost use mathlib.Core.Bool.{true};
+ghost use Prim.Native.Nat.{_≤_, _<_};
 ghost use lib.ListN.{length};
+ghost use Rattle.layout.specs.Layout.{Spans};
 ghost use Rattle.piece_rows.specs.Memory.{goodHead};
-ghost use Rattle.piece_rows.specs.Rows.{Housed, Sifted};
+ghost use Rattle.piece_rows.specs.Rows.{Housed, Sifted, Column, Level, Passed, rowIn, keyIn};
 
-// Where it passes, the first keys are the pieces' ranks; nothing is said of the others.
-pub fn pieces_ok(mem: &[u64], s: Shape, keys: &mut [u64; 4096]) -> bool
+// Field f of all pieces, as a slice of its own.
+fn column(mem: &[u64], s: Shape, f: usize) -> &[u64]
+    requires { ⌜ (Spans s (now mem)) × (f < 5) ⌝ }
+    ensures { λ r. ⌜ Column (now (mem .entry)) (s .pieces) f (now r) ⌝ }
+{
+    let n = s.pieces;
+    let start = 16 + f * n;
+    let end = start + n;
+    &mem[start..end]
+}
+
+// Each row of five columns, as that of a piece of `size` bytes. Where all pass, the first keys are their ranks.
+fn rows_pass(
+    counts: &[u64],
+    states: &[u64],
+    wishes: &[u64],
+    hads: &[u64],
+    pads: &[u64],
+    seeds: u64,
+    size: u64,
+    keys: &mut [u16; 4096],
+) -> bool
+    requires { ⌜ Level (now counts) (now states) (now wishes) (now hads) (now pads) ⌝ }
+    requires { ⌜ (seeds ≤ 1000) × (length (now keys) ≡ 4096) ⌝ }
+    ensures { λ r. ⌜ Passed (rowIn seeds size (now (counts .entry)) (now (states .entry)) (now (wishes .entry)) (now (hads .entry)) (now (pads .entry))) (keyIn seeds (now (counts .entry)) (now (states .entry)) (now (wishes .entry)) (now (hads .entry))) (length (now (counts .entry))) r (now (keys .exit)) ⌝ }
+{
+    let table = weights();
+    let n = counts.len();
+    let mut i = 0;
+    while i < n {
+        let count = counts[i];
+        let state = states[i];
+        let wish = wishes[i];
+        let had = hads[i];
+        if !piece_ok(seeds, size, count, state, wish, had, pads[i]) {
+            return false;
+        }
+        keys[i] = key_of(&table, seeds, count, state, wish, had);
+        i += 1;
+    }
+    true
+}
+
+// Where it passes, the first keys are the pieces' ranks; nothing is said of the others. Only the last piece may be shorter than the
+// piece size, so its pad is tested once more.
+pub fn pieces_ok(mem: &[u64], s: Shape, keys: &mut [u16; 4096]) -> bool
     requires { ⌜ Housed s (now mem) ⌝ }
     requires { ⌜ goodHead (now mem) ≡ true ⌝ }
     requires { ⌜ length (now keys) ≡ 4096 ⌝ }
     ensures { λ r. ⌜ Sifted s r (now (keys .exit)) (now (mem .entry)) ⌝ }
 {
-    let total = head_word(mem, 0);
     let size = head_word(mem, 1);
     let seeds = head_word(mem, 2);
-    let n = s.pieces;
-    let mut i = 0;
-    while i < n {
-        let long = piece_length(total, size, word(i));
-        let count = piece_word(mem, s, 0, i);
-        let state = piece_word(mem, s, 1, i);
-        let wish = piece_word(mem, s, 2, i);
-        let had = piece_word(mem, s, 3, i);
-        let pad = piece_word(mem, s, 4, i);
-        if !piece_ok(seeds, long, count, state, wish, had, pad) {
-            return false;
-        }
-        keys[i] = rank_of(seeds, count, state, wish, had);
-        i += 1;
+    let counts = column(mem, s, 0);
+    let states = column(mem, s, 1);
+    let wishes = column(mem, s, 2);
+    let hads = column(mem, s, 3);
+    let pads = column(mem, s, 4);
+    if !rows_pass(counts, states, wishes, hads, pads, seeds, size, keys) {
+        return false;
     }
-    true
+    let last = s.pieces - 1;
+    piece_word(mem, s, 4, last) <= piece_length(head_word(mem, 0), size, word(last))
 }

@@ -27,19 +27,17 @@ pub fn piece_ok(
     if 6 < state {
         return false;
     }
-    if 1 < had {
-        return false;
-    }
     if 1000 - seeds < count {
         return false;
     }
     if 7 < wish {
         return false;
     }
-    if had == 1 {
-        if state != 4 {
-            return false;
-        }
+    if long < pad {
+        return false;
     }
-    pad <= long
+    if had == 0 {
+        return true;
+    }
+    (had == 1) & (state == 4)
 }

@@ -50,7 +50,7 @@ fn rows_ok(mem: &[u64], s: Shape) -> bool
     if !extents_ok(mem, s) {
         return false;
     }
-    order_ok(mem, s, &keys)
+    order_ok(mem, s, &mut keys)
 }
 
 // The memory holds a well-formed picker.

@@ -22,13 +22,13 @@ ranked-requires : tie.Need-ranked-requires
 ranked-requires c κs = search needs
 
 returns-2 : tie.Need-returns-2
-returns-2 c = other-many _ _ _ (c .before .before .before .before .before .before .before .pre) (c .before .before .before .before .before .head-word .result) (c .before .before .before .before .before .head-word .ensures) (c .before .before .before .before .if1 .left) (c .before .before .idx .result) _ (c .before .ranked .result) (c .before .before .before .head-word2 .ensures) (c .before .before .idx .ensures) (c .before .ranked .ensures) (c .if2 .taken)
+returns-2 c = other-many _ _ _ (c .before .before .before .before .before .before .before .before .pre) (c .before .before .before .before .before .before .head-word .result) (c .before .before .before .before .before .before .head-word .ensures) (c .before .before .before .before .before .if1 .left) (c .before .before .before .idx .result) _ (c .before .ranked .result) (c .before .before .before .before .head-word2 .ensures) (c .before .before .before .idx .ensures) (c .before .ranked .ensures) (c .if2 .taken)
 
 places-ok-requires : tie.Need-places-ok-requires
 places-ok-requires c κs = search needs
 
 returns-3 : tie.Need-returns-3
-returns-3 c = c .places-ok .ensures ∙ as-many _ _ _ (c .before .before .before .before .before .before .before .before .pre) (c .before .before .before .before .before .before .head-word .result) (c .before .before .before .before .before .before .head-word .ensures) (c .before .before .before .before .before .if1 .left) (c .before .before .before .idx .result) _ (c .before .before .ranked .result) (c .before .before .before .before .head-word2 .ensures) (c .before .before .before .idx .ensures) (c .before .before .ranked .ensures) (omega arith)
+returns-3 c = c .places-ok .ensures ∙ as-many _ _ _ (c .before .before .before .before .before .before .before .before .before .before .pre) (c .before .before .before .before .before .before .before .before .head-word .result) (c .before .before .before .before .before .before .before .before .head-word .ensures) (c .before .before .before .before .before .before .before .if1 .left) (c .before .before .before .before .before .idx .result) _ (c .before .before .before .ranked .result) (c .before .before .before .before .before .before .head-word2 .ensures) (c .before .before .before .before .before .idx .ensures) (c .before .before .before .ranked .ensures) (omega arith)
 
 pub order-ok-spec : {M : Type 1} → statement M
 order-ok-spec =

@@ -1,17 +1,17 @@
--- `piece_rows::places_ok` meets its contract. The loop's invariant: the places that are left decide, and the marks are those passed.
+-- `piece_rows::places_ok` meets its contract. The loop's invariant: the places that are left decide, and the keys are those not passed.
 use Prim.Native.Nat.{_-_}
 use native.Mathlib.Omega.{arith}
 use Rattle.piece_rows.proofs.HeadLaws.{headed}
-use Rattle.piece_rows.proofs.OrderTests.{Ordering, ordering-start, bad-range, bad-none, bad-twice, bad-fall, next-place, places-end}
+use Rattle.piece_rows.proofs.OrderTests.{Ordering, ordering-start, bad-range, bad-key, next-place, places-end}
 use borrow.Author.Needs.{needs}
 use Rattle.piece_rows.proofs.order.places_ok.Statement.{statement}
 use Rattle.piece_rows.proofs.order.places_ok.Tie as tie
 
 abbrev Inv-loop : tie.InvT-loop
-Inv-loop mem s keys n many marks₀ last₀ k₀ marks last k = Ordering mem marks last k
+Inv-loop mem s keys₀ n many last₀ k₀ keys last k = Ordering (s .pieces) mem keys last k
 
 abbrev μ-loop : tie.MeasureT-loop
-μ-loop mem s keys n many marks₀ last₀ k₀ marks last k = many - k
+μ-loop mem s keys₀ n many last₀ k₀ keys last k = many - k
 
 head-word-requires : tie.Need-head-word-requires Inv-loop μ-loop
 head-word-requires c κs = (c .before .pre .house .spans .head, omega arith)
@@ -20,7 +20,7 @@ idx-requires : tie.Need-idx-requires Inv-loop μ-loop
 idx-requires c κs = search needs
 
 loop-holds : tie.Need-loop-holds Inv-loop μ-loop
-loop-holds c = ordering-start _
+loop-holds c = ordering-start _ _ _ (c .before .before .before .pre)
 
 piece-word-requires : tie.Need-piece-word-requires Inv-loop μ-loop
 piece-word-requires c κs = (c .before .before .before .before .before .pre .house .spans, (omega arith, omega (arith, headed _ (c .before .before .before .before .before .pre .head) .list, c .before .before .before .before .before .pre .house .pieces)))
@@ -29,40 +29,34 @@ idx-requires-2 : tie.Need-idx-requires-2 Inv-loop μ-loop
 idx-requires-2 c κs = search needs
 
 returns : tie.Need-returns Inv-loop μ-loop
-returns c = bad-range _ _ _ (c .before .before .before .before .before .before .before .before .pre) (c .before .before .before .before .loop .marks) (c .before .before .before .before .loop .last) (c .before .before .before .before .loop .k) (c .before .before .before .before .loop .inv) (omega arith) _ (c .before .idx2 .result) (c .before .before .piece-word .ensures) (c .before .idx2 .ensures) (c .if1 .taken)
+returns c = bad-range _ _ _ (c .before .before .before .before .before .before .before .before .pre) _ (c .before .before .before .before .loop .last) (c .before .before .before .before .loop .k) (c .before .before .before .before .loop .inv) (omega arith) _ (c .before .idx2 .result) (c .before .before .piece-word .ensures) (c .before .idx2 .ensures) (c .if1 .taken)
 
 mul-key : tie.Need-mul-key Inv-loop μ-loop
 mul-key c = omega (arith, c .before .before .before .before .before .before .before .before .pre .house .spans .sizes .many)
 
 element-copy-out-key : tie.Need-element-copy-out-key Inv-loop μ-loop
-element-copy-out-key c = omega (arith, c .before .before .before .before .before .before .before .before .pre .house .spans .sizes .many, c .before .before .before .before .before .before .before .before .pre .long)
+element-copy-out-key c = omega (arith, c .before .before .before .before .before .before .before .before .pre .house .spans .sizes .many)
 
 returns-2 : tie.Need-returns-2 Inv-loop μ-loop
-returns-2 c = bad-none _ _ _ (c .before .before .before .before .before .before .before .before .before .before .pre) (c .before .before .before .before .before .before .loop .marks) (c .before .before .before .before .before .before .loop .last) (c .before .before .before .before .before .before .loop .k) (c .before .before .before .before .before .before .loop .inv) (omega arith) _ (c .before .before .before .idx2 .result) (c .before .before .before .before .piece-word .ensures) (c .before .before .before .idx2 .ensures) (omega arith) (c .if2 .taken)
+returns-2 c = bad-key _ _ _ (c .before .before .before .before .before .before .before .before .before .before .pre) _ (c .before .before .before .before .before .before .loop .last) (c .before .before .before .before .before .before .loop .k) (c .before .before .before .before .before .before .loop .inv) (omega arith) _ (c .before .before .before .idx2 .result) (c .before .before .before .before .piece-word .ensures) (c .before .before .before .idx2 .ensures) (omega arith) (omega arith)
 
-array-read-if3 : tie.Need-array-read-if3 Inv-loop μ-loop
-array-read-if3 c = omega (arith, c .before .before .before .before .before .before .before .before .before .before .pre .house .spans .sizes .many)
+mul-keys : tie.Need-mul-keys Inv-loop μ-loop
+mul-keys c = omega (arith, c .before .before .before .before .before .before .before .before .before .before .pre .house .spans .sizes .many)
 
-returns-3 : tie.Need-returns-3 Inv-loop μ-loop
-returns-3 c = bad-twice _ _ _ (c .before .before .before .before .before .before .before .before .before .before .before .pre) (c .before .before .before .before .before .before .before .loop .marks) (c .before .before .before .before .before .before .before .loop .last) (c .before .before .before .before .before .before .before .loop .k) (c .before .before .before .before .before .before .before .loop .inv) (omega arith) _ (c .before .before .before .before .idx2 .result) (c .before .before .before .before .before .piece-word .ensures) (c .before .before .before .before .idx2 .ensures) (omega arith) (c .before .if2 .left) (c .if3 .taken)
-
-returns-4 : tie.Need-returns-4 Inv-loop μ-loop
-returns-4 c = bad-fall _ _ _ (c .before .before .before .before .before .before .before .before .before .before .before .before .pre) (c .before .before .before .before .before .before .before .before .loop .marks) (c .before .before .before .before .before .before .before .before .loop .last) (c .before .before .before .before .before .before .before .before .loop .k) (c .before .before .before .before .before .before .before .before .loop .inv) (omega arith) _ (c .before .before .before .before .before .idx2 .result) (c .before .before .before .before .before .before .piece-word .ensures) (c .before .before .before .before .before .idx2 .ensures) (omega arith) (c .before .before .if2 .left) (c .before .if3 .left) (c .if4 .taken)
-
-array-write-marks : tie.Need-array-write-marks Inv-loop μ-loop
-array-write-marks c = omega (arith, c .before .before .before .before .before .before .before .before .before .before .before .before .pre .house .spans .sizes .many)
+element-write-keys : tie.Need-element-write-keys Inv-loop μ-loop
+element-write-keys c = omega (arith, c .before .before .before .before .before .before .before .before .before .before .pre .house .spans .sizes .many)
 
 add-k : tie.Need-add-k Inv-loop μ-loop
-add-k c = omega (arith, headed _ (c .before .before .before .before .before .before .before .before .before .before .before .before .pre .head) .list, c .before .before .before .before .before .before .before .before .before .before .before .before .pre .house .pieces)
+add-k c = omega (arith, headed _ (c .before .before .before .before .before .before .before .before .before .before .pre .head) .list, c .before .before .before .before .before .before .before .before .before .before .pre .house .pieces)
 
 loop-less : tie.Need-loop-less Inv-loop μ-loop
 loop-less c = search needs
 
 loop-again : tie.Need-loop-again Inv-loop μ-loop
-loop-again c = next-place _ _ _ (c .before .before .before .before .before .before .before .before .before .before .before .before .pre) (c .before .before .before .before .before .before .before .before .loop .marks) (c .before .before .before .before .before .before .before .before .loop .last) (c .before .before .before .before .before .before .before .before .loop .k) (c .before .before .before .before .before .before .before .before .loop .inv) (omega arith) _ (c .before .before .before .before .before .idx2 .result) (c .before .before .before .before .before .before .piece-word .ensures) (c .before .before .before .before .before .idx2 .ensures) (omega arith) (c .before .before .if2 .left) (c .before .if3 .left) (omega arith)
+loop-again c = next-place _ _ _ (c .before .before .before .before .before .before .before .before .before .before .pre) _ (c .before .before .before .before .before .before .loop .last) (c .before .before .before .before .before .before .loop .k) (c .before .before .before .before .before .before .loop .inv) (omega arith) _ (c .before .before .before .idx2 .result) (c .before .before .before .before .piece-word .ensures) (c .before .before .before .idx2 .ensures) (omega arith) (omega arith)
 
-returns-5 : tie.Need-returns-5 Inv-loop μ-loop
-returns-5 c = places-end _ _ _ (c .before .before .before .before .before .pre) (c .before .loop .marks) (c .before .loop .last) (c .before .loop .k) (c .before .loop .inv) (omega arith)
+returns-3 : tie.Need-returns-3 Inv-loop μ-loop
+returns-3 c = places-end _ _ _ (c .before .before .before .before .before .pre) _ (c .before .loop .last) (c .before .loop .k) (c .before .loop .inv) (omega arith)
 
 pub places-ok-spec : {M : Type 1} → statement M
 places-ok-spec =
@@ -79,11 +73,9 @@ places-ok-spec =
     mul-key
     element-copy-out-key
     returns-2
-    array-read-if3
-    returns-3
-    returns-4
-    array-write-marks
+    mul-keys
+    element-write-keys
     add-k
     loop-less
     loop-again
-    returns-5)
+    returns-3)

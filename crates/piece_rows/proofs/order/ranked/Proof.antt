@@ -38,6 +38,9 @@ loop-again c =
     (λ w. count-none _ _ (c .before .before .before .loop .many) (c .before .before .before .loop .i) (c .before .before .before .loop .inv) (omega arith) (w .0 .left) _ (w .1))
     (c .if1 .came)
 
+cast-result : tie.Need-cast-result Inv-loop μ-loop
+cast-result c = search needs
+
 returns : tie.Need-returns Inv-loop μ-loop
 returns c = count-end _ _ _ (c .before .loop .i) (c .before .loop .inv) (omega arith)
 
@@ -54,4 +57,5 @@ ranked-spec =
     add-i
     loop-less
     loop-again
+    cast-result
     returns)

@@ -1,0 +1,43 @@
+-- `piece_rows::column` meets its contract: the words lie one after another, and the memory has them.
+use native.Mathlib.Omega.{arith}
+use Rattle.piece_rows.proofs.PieceTests.{column-room, column-is}
+use borrow.Author.Needs.{needs}
+use Rattle.piece_rows.proofs.pieces.column.Statement.{statement}
+use Rattle.piece_rows.proofs.pieces.column.Tie as tie
+
+mul-start : tie.Need-mul-start
+mul-start c = omega (arith, column-room _ _ (c .pre .0) _ (c .pre .1))
+
+add-start : tie.Need-add-start
+add-start c = omega (arith, column-room _ _ (c .pre .0) _ (c .pre .1))
+
+add-end : tie.Need-add-end
+add-end c = omega (arith, column-room _ _ (c .pre .0) _ (c .pre .1))
+
+mul-result : tie.Need-mul-result
+mul-result c = omega (arith, column-room _ _ (c .pre .0) _ (c .pre .1))
+
+sub-result : tie.Need-sub-result
+sub-result c = search needs
+
+part-result-start : tie.Need-part-result-start
+part-result-start c = search needs
+
+part-result-end : tie.Need-part-result-end
+part-result-end c = omega (arith, column-room _ _ (c .pre .0) _ (c .pre .1))
+
+returns : tie.Need-returns
+returns c = column-is _ _ (c .before .pre .0) _ (c .before .pre .1)
+
+pub column-spec : {M : Type 1} → statement M
+column-spec =
+    tie.close
+    (tie.spec
+    mul-start
+    add-start
+    add-end
+    mul-result
+    sub-result
+    part-result-start
+    part-result-end
+    returns)
