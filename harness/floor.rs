@@ -3,19 +3,6 @@
 use super::{memory, time, Shape};
 use std::hint::black_box;
 
-/// The ranges of the pieces' words, by bits alone and without a branch.
-fn ranges_alone(mem: &[u64], s: &Shape) -> bool {
-    let (most, size) = (1000 - mem[2], mem[1]);
-    let region = |f: usize| &mem[s.piece(f, 0)..s.piece(f, 0) + s.n];
-    let (counts, states, wishes, hads, pads) = (region(0), region(1), region(2), region(3), region(4));
-    let (mut high, mut low) = (0u64, 0u64);
-    for i in 0..s.n {
-        high |= counts[i] | most.wrapping_sub(counts[i]) | pads[i] | size.wrapping_sub(pads[i]) | states[i] | 6u64.wrapping_sub(states[i]);
-        low |= (wishes[i] & !7) | (hads[i] & !1) | ((states[i] ^ 4) & 0u64.wrapping_sub(hads[i]));
-    }
-    high >> 63 == 0 && low == 0
-}
-
 /// By had, wish and state: the factor of a piece's rank, and what is taken off.
 fn rank_table() -> [u32; 128] {
     std::array::from_fn(|i| {
@@ -71,16 +58,15 @@ fn pieces_floor(n: usize) {
     let (mut keys, mut left) = ([0; 4096], [0; 4096]);
     ranks_alone(&mem, &s, &table, &mut keys);
     left[..n].copy_from_slice(&keys[..n]);
-    assert!(ranges_alone(&mem, &s) && list_alone(&mem, &s, &mut left));
+    assert!(list_alone(&mem, &s, &mut left));
     let words = &mem[s.piece(0, 0)..s.piece(6, 0)];
     let bare = time(|| { black_box(black_box(words).iter().fold(0u64, |x, y| x.wrapping_add(*y))); });
-    let ranges = time(|| { black_box(ranges_alone(black_box(&mem), &s)); }) / bare;
     let ranks = time(|| ranks_alone(black_box(&mem), &s, &table, black_box(&mut left))) / bare;
     let list = time(|| {
         left[..n].copy_from_slice(&keys[..n]);
         black_box(list_alone(black_box(&mem), &s, &mut left));
     }) / bare;
-    println!("{n:6} pieces: ranges {ranges:.2}, ranks {ranks:.2}, list {list:.2}, together {:.2}", ranges + ranks + list);
+    println!("{n:6} pieces: ranks {ranks:.2}, then list {list:.2}, together {:.2}", ranks + list);
 }
 
 /// The blocks to a bare pass over the words of so many partials of 256 blocks.

@@ -1,16 +1,16 @@
 -- When lent memory holds a well-formed picker: it is long enough, its words are numbers that an image could hold, and the picker that they
 -- mean is well-formed. Assumes nothing.
-use Prim.Native.Nat.{ℕ, _+_, _≤_, _<_}
+use Prim.Native.Nat.{ℕ, _<_}
 use mathlib.Core.Path.{_≡_}
-use mathlib.Core.Bool.{Bool, true, false, cond, not, _&&_, _||_}
+use mathlib.Core.Bool.{Bool, cond, not, _&&_, _||_}
 use mathlib.Core.List.{List, []}
 use lib.ListN.{length, getD}
 use lib.Dec.{eqb, ltb, leb}
 use Rattle.model.specs.Lists.{every, from, member}
 use Rattle.model.specs.Bep3.{blocksInPiece}
-use Rattle.model.specs.State.{Picker, validGeometry}
+use Rattle.model.specs.State.{validGeometry}
 use Rattle.model.specs.Order.{rank}
-use Rattle.model.specs.WellFormed.{headOk, piecesOk, partialsOk, extentsOk, listingOk, wellFormed}
+use Rattle.model.specs.WellFormed.{headOk, piecesOk, partialsOk, extentsOk, listingOk}
 use Rattle.model.specs.Calls.{wordsNeeded}
 use Rattle.layout.specs.Tables.{tab}
 use Rattle.layout.specs.Layout.{headWord, pieceWord, partialWord, blockWord, placesFor, piecesOn, blocksOn, decode}

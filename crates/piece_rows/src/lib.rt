@@ -12,4 +12,3 @@ pub use head::head_ok;
 pub use order::order_ok;
 pub use pieces::pieces_ok;
 pub use rows::piece_ok;
-pub use rows::rank_of;

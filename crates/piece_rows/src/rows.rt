@@ -1,15 +1,7 @@
-// The words of one piece: its rank in the list, and its test.
+// The test of the words of one piece.
 ghost use mathlib.Core.Path.{_≡_};
 ghost use Prim.Native.Nat.{_≤_};
-ghost use Rattle.piece_rows.specs.Rows.{rankFrom, rowOk, Ranked};
-
-// The rank of a piece with these words.
-pub fn rank_of(seeds: u64, count: u64, state: u64, wish: u64, had: u64) -> u64
-    requires { ⌜ Ranked count state wish had ⌝ }
-    ensures { λ r. ⌜ r ≡ rankFrom seeds count state wish had ⌝ }
-{
-    bucket::bucket(seeds, count, state, wish, had == 1)
-}
+ghost use Rattle.piece_rows.specs.Rows.{rowOk};
 
 // The words of a piece of `long` bytes: each in its range, and a had piece is Open.
 pub fn piece_ok(
