@@ -1,5 +1,6 @@
 pub mod TabLaws
 pub mod SpotLaws
+pub mod ColumnLaws
 pub mod Geometry
 pub mod Same
 pub mod Readers

@@ -190,6 +190,17 @@ unfoldable pub inListing : (List ℕ → List ℕ) → Listing → Listing
 inListing f stale = stale
 inListing f (fresh l) = fresh (f l)
 
+-- ---- columns: the words of one field, as a list of their own
+-- field f of n pieces
+pub record Column (xs : List ℕ) (n f : ℕ) (words : List ℕ) : Type 0 where
+  pub long : length words ≡ n
+  pub word : (i : ℕ) → i < n → getD words i 0 ≡ pieceWord xs n f i
+
+-- field f of the first blocks of place p
+pub record BlockColumn (xs : List ℕ) (s : Shape) (f p many : ℕ) (words : List ℕ) : Type 0 where
+  pub long : length words ≡ many
+  pub word : (j : ℕ) → j < many → getD words j 0 ≡ blockWord xs (s .pieces) (s .blocks) f p j
+
 -- ---- bounds
 -- the shape of a picker that can be
 pub record Sizes (s : Shape) : Type 0 where

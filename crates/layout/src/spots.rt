@@ -72,13 +72,22 @@ pub fn partial_spot(s: Shape, f: usize, k: usize) -> usize
     16 + 6 * s.pieces + (f * s.places + k)
 }
 
+// Where field f of the blocks of place p starts.
+pub fn block_start(s: Shape, f: usize, p: usize) -> usize
+    requires { ⌜ Sizes s ⌝ }
+    requires { ⌜ (f < 4) × (p < s .places) ⌝ }
+    ensures { λ r. ⌜ r ≡ blockSpot (s .pieces) (s .blocks) f p 0 ⌝ }
+{
+    16 + 6 * s.pieces + 3 * s.places + (f * (s.places * s.blocks) + p * s.blocks)
+}
+
 // Field f of block j of place p.
 pub fn block_spot(s: Shape, f: usize, p: usize, j: usize) -> usize
     requires { ⌜ Sizes s ⌝ }
     requires { ⌜ (f < 4) × (p < s .places) × (j < s .blocks) ⌝ }
     ensures { λ r. ⌜ r ≡ blockSpot (s .pieces) (s .blocks) f p j ⌝ }
 {
-    16 + 6 * s.pieces + 3 * s.places + (f * (s.places * s.blocks) + (p * s.blocks + j))
+    block_start(s, f, p) + j
 }
 
 // Where the list's region starts.

@@ -2,17 +2,14 @@
 use mathlib.Core.Path.{_≡_, refl, sym, ap, ap₂, _∙_}
 use mathlib.Core.Bool.{Bool, true, false, not, true≢false}
 use mathlib.Core.List.{List}
-use Prim.Native.Nat.{ℕ, _+_, _*_, _-_, _≤_, _<_}
-use native.Mathlib.Nat.{mul-le-mul, add-mul}
+use Prim.Native.Nat.{ℕ, _+_, _≤_, _<_}
 use native.Mathlib.Omega.{arith}
 use lib.Dec.{eqb}
-use lib.ListN.{length, getD, take, drop, length-drop}
-use lib.Seq.{length-take-le, getD-take, getD-drop}
+use lib.ListN.{getD}
 use Rattle.model.specs.Lists.{bit}
 use Rattle.layout.specs.declared.spots.Shape.{Shape}
-use Rattle.layout.specs.Layout.{cell, blockSpot, blockWord, Sizes, Spans}
-use Rattle.layout.proofs.SpotLaws.{words-needed, small}
-use Rattle.partial_rows.specs.Rows.{allBelow, countBelow, rowIn, requestedOf, busyOf, FieldOf, rowAt, rowsOk, requestedIn, busyIn}
+use Rattle.layout.specs.Layout.{BlockColumn}
+use Rattle.partial_rows.specs.Rows.{allBelow, countBelow, rowIn, requestedOf, busyOf, rowAt, rowsOk, requestedIn, busyIn}
 use Rattle.partial_rows.proofs.BelowLaws.{all-next, all-false, all-same, count-next, count-same}
 
 -- ---- lists
@@ -53,51 +50,20 @@ module _ (ss rs hs ps : List ℕ) where
   counting-end r u j many g e = rw (← e) (sym (g .good), (λ _. g .asked, λ _. g .taken))
 
 -- ---- a place of the memory
--- a field of its first blocks starts low, and lies in the memory
-pub field-low : (s : Shape) → Sizes s → (f p : ℕ) → f < 4 → p < s .places → blockSpot (s .pieces) (s .blocks) f p 0 < 2000000
-unfolding blockSpot cell
-field-low s z f p lf lp =
-    let n = small s f 0 z (omega arith) (omega arith) in
-    let m = small s f p z (omega arith) (omega (arith, n .places)) in
-    rw (← (z .places)) (omega (arith, z .many, m .places, m .block, m .row))
-
-pub field-in : (s : Shape) (xs : List ℕ) → Spans s xs → (f p many : ℕ) → f < 4 → p < s .places → many ≤ s .blocks
-    → blockSpot (s .pieces) (s .blocks) f p 0 + many ≤ length xs
-unfolding blockSpot cell
-field-in s xs r f p many lf lp lm =
-    let b = s .blocks in
-    let m = s .places in
-    let row : (p + 1) * b ≤ m * b = mul-le-mul (omega arith) (omega arith) in
-    let all : (f + 1) * (m * b) ≤ 4 * (m * b) = mul-le-mul (omega arith) (omega arith) in
-    let w = rw (← (r .sizes .places)) at (words-needed (s .pieces) b) in
-    rw (← (r .sizes .places)) (omega (arith, row, all, add-mul p 1 b, add-mul f 1 (m * b), w, r .body))
-
--- the part of it that is lent
-pub field-is : (s : Shape) (xs : List ℕ) (f p many a : ℕ) → a ≡ blockSpot (s .pieces) (s .blocks) f p 0 → a + many ≤ length xs → FieldOf xs s f p many (take (a + many - a) (drop a xs))
-field-is s xs f p many a e h =
-    let q : a + many - a ≡ many = omega arith in
-    rw q (record {
-      long = length-take-le many (drop a xs) (rw (length-drop a xs) (omega arith));
-      each = λ j l. getD-take many (drop a xs) j 0 l ∙ getD-drop a xs j 0 ∙ spot j;
-    })
-  where
-    spot : (j : ℕ) → getD xs (a + j) 0 ≡ blockWord xs (s .pieces) (s .blocks) f p j
-    spot j = unfold blockWord in ap (λ (i : ℕ). getD xs i 0) (rw e (unfold blockSpot cell in (omega arith)))
-
 -- the tests on the lists are those on the place
 module _ (s : Shape) (xs ss rs hs ps : List ℕ) (p many : ℕ)
-    (e0 : FieldOf xs s 0 p many ss) (e1 : FieldOf xs s 1 p many rs) (e2 : FieldOf xs s 2 p many hs) (e3 : FieldOf xs s 3 p many ps) where
+    (e0 : BlockColumn xs s 0 p many ss) (e1 : BlockColumn xs s 1 p many rs) (e2 : BlockColumn xs s 2 p many hs) (e3 : BlockColumn xs s 3 p many ps) where
   rows-same : allBelow (rowIn ss rs hs ps) many ≡ rowsOk xs (s .pieces) (s .blocks) p many
   unfolding rowsOk rowIn rowAt
-  rows-same = all-same (rowIn ss rs hs ps) (rowAt xs (s .pieces) (s .blocks) p) many (λ j l. rw (e0 .each j l, e1 .each j l, e2 .each j l, e3 .each j l))
+  rows-same = all-same (rowIn ss rs hs ps) (rowAt xs (s .pieces) (s .blocks) p) many (λ j l. rw (e0 .word j l, e1 .word j l, e2 .word j l, e3 .word j l))
 
   asked-same : requestedOf ss many ≡ requestedIn xs (s .pieces) (s .blocks) p many
   unfolding requestedOf requestedIn
-  asked-same = count-same _ _ many (λ j l. ap (λ (x : ℕ). eqb x 1) (e0 .each j l))
+  asked-same = count-same _ _ many (λ j l. ap (λ (x : ℕ). eqb x 1) (e0 .word j l))
 
   taken-same : busyOf ss many ≡ busyIn xs (s .pieces) (s .blocks) p many
   unfolding busyOf busyIn
-  taken-same = count-same _ _ many (λ j l. ap (λ (x : ℕ). not (eqb x 0)) (e0 .each j l))
+  taken-same = count-same _ _ many (λ j l. ap (λ (x : ℕ). not (eqb x 0)) (e0 .word j l))
 
   pub place-answer : (ok : Bool) (r u : ℕ) → Answer ss rs hs ps many ok r u
       → (ok ≡ rowsOk xs (s .pieces) (s .blocks) p many) × ((ok ≡ true → r ≡ requestedIn xs (s .pieces) (s .blocks) p many) × (ok ≡ true → u ≡ busyIn xs (s .pieces) (s .blocks) p many))

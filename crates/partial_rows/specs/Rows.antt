@@ -3,7 +3,7 @@ use Prim.Native.Nat.{ℕ, zero, suc, _+_, _≤_, _<_}
 use mathlib.Core.Path.{_≡_}
 use mathlib.Core.Bool.{Bool, true, cond, not, _&&_, _||_}
 use mathlib.Core.List.{List}
-use lib.ListN.{length, getD}
+use lib.ListN.{getD}
 use lib.Dec.{eqb, ltb, leb}
 use Rattle.types.specs.declared.queue.DownloadQueue.{DownloadQueue}
 use Rattle.types.specs.declared.queue.DownloadQueue.the-variants.{Downloading, Full, Finished, ZeroPrio, Open}
@@ -53,11 +53,6 @@ requestedOf states many = countBelow (λ j. eqb (getD states j 0) 1) many
 
 unfoldable pub busyOf : List ℕ → ℕ → ℕ
 busyOf states many = countBelow (λ j. not (eqb (getD states j 0) 0)) many
-
--- the list holds field f of the first blocks of place p
-pub record FieldOf (xs : List ℕ) (s : Shape) (f p many : ℕ) (ys : List ℕ) : Type 0 where
-  pub long : length ys ≡ many
-  pub each : (j : ℕ) → j < many → getD ys j 0 ≡ blockWord xs (s .pieces) (s .blocks) f p j
 
 -- block j of place p
 unfoldable pub rowAt : List ℕ → ℕ → ℕ → ℕ → ℕ → Bool

@@ -4,9 +4,10 @@ ghost use mathlib.Core.Bool.{true};
 ghost use Prim.Native.Nat.{_<_, _≤_};
 ghost use Rattle.model.specs.Lists.{bit};
 ghost use lib.ListN.{length};
-ghost use Rattle.layout.specs.Layout.{blockSpot, Sizes, Spans};
-ghost use Rattle.partial_rows.specs.Rows.{allBelow, rowOk, rowIn, requestedOf, busyOf, rowsOk, requestedIn, busyIn, FieldOf};
+ghost use Rattle.layout.specs.Layout.{Spans};
+ghost use Rattle.partial_rows.specs.Rows.{allBelow, rowOk, rowIn, requestedOf, busyOf, rowsOk, requestedIn, busyIn};
 use layout::Shape;
+use layout::block_column;
 
 pub struct Counted {
     pub ok: bool,
@@ -71,26 +72,6 @@ fn rows_pass(states: &[u64], requesters: &[u64], has: &[u64], peers: &[u64], man
     }
 }
 
-// Where field f of the blocks of a place starts.
-fn field_start(s: Shape, f: usize, place: usize) -> usize
-    requires { ⌜ Sizes s ⌝ }
-    requires { ⌜ (f < 4) × (place < s .places) ⌝ }
-    ensures { λ r. ⌜ r ≡ blockSpot (s .pieces) (s .blocks) f place 0 ⌝ }
-{
-    16 + 6 * s.pieces + 3 * s.places + (f * (s.places * s.blocks) + place * s.blocks)
-}
-
-// Field f of the first blocks of a place.
-fn field_of(mem: &[u64], s: Shape, f: usize, place: usize, many: usize) -> &[u64]
-    requires { ⌜ Spans s (now mem) ⌝ }
-    requires { ⌜ (f < 4) × (place < s .places) × (many ≤ s .blocks) ⌝ }
-    ensures { λ r. ⌜ FieldOf (now (mem .entry)) s f place many (now r) ⌝ }
-{
-    let at = field_start(s, f, place);
-    let end = at + many;
-    &mem[at..end]
-}
-
 // The first blocks of a place. The numbers are those of the blocks where all are good.
 pub fn blocks_ok(mem: &[u64], s: Shape, place: usize, many: usize) -> Counted
     requires { ⌜ Spans s (now mem) ⌝ }
@@ -99,9 +80,9 @@ pub fn blocks_ok(mem: &[u64], s: Shape, place: usize, many: usize) -> Counted
     ensures requested { λ r. ⌜ (r .ok ≡ true → r .requested ≡ requestedIn (now (mem .entry)) (s .pieces) (s .blocks) place many) ⌝ }
     ensures busy { λ r. ⌜ (r .ok ≡ true → r .busy ≡ busyIn (now (mem .entry)) (s .pieces) (s .blocks) place many) ⌝ }
 {
-    let states = field_of(mem, s, 0, place, many);
-    let requesters = field_of(mem, s, 1, place, many);
-    let has = field_of(mem, s, 2, place, many);
-    let peers = field_of(mem, s, 3, place, many);
+    let states = block_column(mem, s, 0, place, many);
+    let requesters = block_column(mem, s, 1, place, many);
+    let has = block_column(mem, s, 2, place, many);
+    let peers = block_column(mem, s, 3, place, many);
     rows_pass(states, requesters, has, peers, many)
 }

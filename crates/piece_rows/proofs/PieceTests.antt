@@ -2,14 +2,12 @@
 use mathlib.Core.Path.{_≡_, refl, sym, ap, ap₂, _∙_}
 use mathlib.Core.Bool.{Bool, true, false, not, _&&_, _||_, and-true, and-false, and-assoc, true≢false}
 use mathlib.Core.List.{List, [], _∷_}
-use Prim.Native.Nat.{ℕ, zero, suc, _+_, _-_, _*_, _≤_, _<_}
-use native.Mathlib.Nat.{mul-le-mul}
+use Prim.Native.Nat.{ℕ, zero, suc, _+_, _-_, _≤_, _<_}
 use native.Mathlib.Decide.{ℕ-discrete, decLe}
 use native.Mathlib.Omega.{arith}
 use lib.Dec.{leb}
 use borrow.Author.Tests.{le-leb, lt-leb}
-use lib.ListN.{length, getD, take, drop, length-drop}
-use lib.Seq.{getD-take, getD-drop, length-take-le}
+use lib.ListN.{length, getD}
 use Rattle.model.specs.Lists.{every, from}
 use Rattle.model.specs.Bep3.{numPieces, pieceLength}
 use Rattle.model.specs.State.{Piece, Picker, mostPeers, isOpen, lengthAt}
@@ -19,12 +17,11 @@ use Rattle.model.proofs.Bep3Laws.{pieceLength-le, pieceLength-whole}
 use Rattle.model.proofs.Truths.{both-true}
 use Rattle.layout.specs.Tables.{tab}
 use Rattle.layout.specs.declared.spots.Shape.{Shape}
-use Rattle.layout.specs.Layout.{cell, pieceSpot, headWord, pieceWord, piecesOn, blocksOn, queueFrom, yes?, pieceHeld, piecesHeld, decode, Spans}
-use Rattle.layout.proofs.SpotLaws.{words-needed}
+use Rattle.layout.specs.Layout.{headWord, pieceWord, piecesOn, blocksOn, queueFrom, yes?, pieceHeld, piecesHeld, decode, Column}
 use Rattle.layout.proofs.Readers.{piece-at}
 use Rattle.geometry.proofs.ValidLaws.{bounds}
 use Rattle.piece_rows.specs.Memory.{pieceRaw, piecesRaw, goodPieces}
-use Rattle.piece_rows.specs.Rows.{pieceFrom, rankFrom, rowOk, Ranked, Housed, Column, Level, rowIn, keyIn, Passed, Sifted}
+use Rattle.piece_rows.specs.Rows.{pieceFrom, rankFrom, rowOk, Ranked, Housed, Level, rowIn, keyIn, Passed, Sifted}
 use Rattle.piece_rows.proofs.RowLaws.{ok-ranked, rank-pad}
 
 -- ---- two tests on each element are one
@@ -134,26 +131,6 @@ last-apart f g t k zero l q h e =
     rw (z, and-true (f l), and-true (g l)) e
 last-apart f g t k (suc m) l q h e =
     rw (h k (omega arith), last-apart f g t (suc k) m l (omega arith) h e) (sym (and-assoc (g k) (every g (from (suc k) (suc m))) t))
-
--- ---- the columns
-module _ (s : Shape) (xs : List ℕ) (r : Spans s xs) (f : ℕ) (h : f < 5) where
-  -- a column has room
-  pub column-room : (f * s .pieces + s .pieces ≤ 20480) × (16 + f * s .pieces + s .pieces ≤ length xs)
-  column-room =
-      let g : f ≤ 4 = omega arith in
-      let n : s .pieces ≤ s .pieces = omega arith in
-      let l = mul-le-mul g n in
-      (omega (arith, r .sizes .many), omega (arith, r .body, words-needed (s .pieces) (s .blocks)))
-
-  pub column-is : Column xs (s .pieces) f (take (16 + f * s .pieces + s .pieces - (16 + f * s .pieces)) (drop (16 + f * s .pieces) xs))
-  unfolding pieceWord pieceSpot cell
-  column-is =
-      let e : 16 + f * s .pieces + s .pieces - (16 + f * s .pieces) ≡ s .pieces = omega arith in
-      rw e (record {
-        long = length-take-le (s .pieces) (drop (16 + f * s .pieces) xs) (rw (length-drop (16 + f * s .pieces) xs) (omega (arith, column-room)));
-        word = λ i l. getD-take (s .pieces) (drop (16 + f * s .pieces) xs) i 0 l ∙ getD-drop (16 + f * s .pieces) xs i 0
-            ∙ ap (λ (j : ℕ). getD xs j 0) (omega arith);
-      })
 
 -- ---- all of them
 module _ (s : Shape) (xs : List ℕ) (r : Housed s xs) where

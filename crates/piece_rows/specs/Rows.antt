@@ -11,7 +11,7 @@ use Rattle.model.specs.State.{Piece, mostPeers, isOpen, validGeometry}
 use Rattle.model.specs.Order.{bucket, rankOf}
 use Rattle.layout.specs.Tables.{tab}
 use Rattle.layout.specs.declared.spots.Shape.{Shape}
-use Rattle.layout.specs.Layout.{headWord, pieceWord, piecesOn, blocksOn, queueFrom, yes?, Spans}
+use Rattle.layout.specs.Layout.{headWord, piecesOn, blocksOn, queueFrom, yes?, Spans}
 use Rattle.piece_rows.specs.Memory.{goodHead, goodPieces, Ranks}
 
 -- ---- one piece
@@ -67,11 +67,6 @@ unfoldable pub rangesOk : ℕ → ℕ → ℕ → ℕ → Bool
 rangesOk n seeds cursor reverse = leb seeds mostPeers && (leb cursor n && leb reverse n)
 
 -- ---- all pieces
--- the words of field f of n pieces, as a list of their own
-pub record Column (xs : List ℕ) (n f : ℕ) (words : List ℕ) : Type 0 where
-  pub long : length words ≡ n
-  pub word : (i : ℕ) → i < n → getD words i 0 ≡ pieceWord xs n f i
-
 -- columns of one length, and no longer than the table of keys
 pub record Level (counts states wishes hads pads : List ℕ) : Type 0 where
   pub most : length counts ≤ 4096

@@ -6,25 +6,14 @@ use crate::weights::weights;
 use geometry::piece_length;
 use layout::Shape;
 use layout::head_word;
+use layout::piece_column;
 use layout::piece_word;
 ghost use mathlib.Core.Path.{_≡_};
 ghost use mathlib.Core.Bool.{true};
 ghost use Prim.Native.Nat.{_≤_, _<_};
 ghost use lib.ListN.{length};
-ghost use Rattle.layout.specs.Layout.{Spans};
 ghost use Rattle.piece_rows.specs.Memory.{goodHead};
-ghost use Rattle.piece_rows.specs.Rows.{Housed, Sifted, Column, Level, Passed, rowIn, keyIn};
-
-// Field f of all pieces, as a slice of its own.
-fn column(mem: &[u64], s: Shape, f: usize) -> &[u64]
-    requires { ⌜ (Spans s (now mem)) × (f < 5) ⌝ }
-    ensures { λ r. ⌜ Column (now (mem .entry)) (s .pieces) f (now r) ⌝ }
-{
-    let n = s.pieces;
-    let start = 16 + f * n;
-    let end = start + n;
-    &mem[start..end]
-}
+ghost use Rattle.piece_rows.specs.Rows.{Housed, Sifted, Level, Passed, rowIn, keyIn};
 
 // Each row of five columns, as that of a piece of `size` bytes. Where all pass, the first keys are their ranks.
 fn rows_pass(
@@ -68,11 +57,11 @@ pub fn pieces_ok(mem: &[u64], s: Shape, keys: &mut [u16; 4096]) -> bool
 {
     let size = head_word(mem, 1);
     let seeds = head_word(mem, 2);
-    let counts = column(mem, s, 0);
-    let states = column(mem, s, 1);
-    let wishes = column(mem, s, 2);
-    let hads = column(mem, s, 3);
-    let pads = column(mem, s, 4);
+    let counts = piece_column(mem, s, 0);
+    let states = piece_column(mem, s, 1);
+    let wishes = piece_column(mem, s, 2);
+    let hads = piece_column(mem, s, 3);
+    let pads = piece_column(mem, s, 4);
     if !rows_pass(counts, states, wishes, hads, pads, seeds, size, keys) {
         return false;
     }

@@ -15,26 +15,26 @@ head-word-requires c κs = (c .before .pre .0 .spans .head, omega arith)
 head-word-requires-2 : tie.Need-head-word-requires-2
 head-word-requires-2 c κs = (c .before .before .pre .0 .spans .head, omega arith)
 
-column-requires : tie.Need-column-requires
-column-requires c κs = (c .before .before .before .pre .0 .spans, omega arith)
+piece-column-requires : tie.Need-piece-column-requires
+piece-column-requires c κs = (c .before .before .before .pre .0 .spans, omega arith)
 
-column-requires-2 : tie.Need-column-requires-2
-column-requires-2 c κs = (c .before .before .before .before .pre .0 .spans, omega arith)
+piece-column-requires-2 : tie.Need-piece-column-requires-2
+piece-column-requires-2 c κs = (c .before .before .before .before .pre .0 .spans, omega arith)
 
-column-requires-3 : tie.Need-column-requires-3
-column-requires-3 c κs = (c .before .before .before .before .before .pre .0 .spans, omega arith)
+piece-column-requires-3 : tie.Need-piece-column-requires-3
+piece-column-requires-3 c κs = (c .before .before .before .before .before .pre .0 .spans, omega arith)
 
-column-requires-4 : tie.Need-column-requires-4
-column-requires-4 c κs = (c .before .before .before .before .before .before .pre .0 .spans, omega arith)
+piece-column-requires-4 : tie.Need-piece-column-requires-4
+piece-column-requires-4 c κs = (c .before .before .before .before .before .before .pre .0 .spans, omega arith)
 
-column-requires-5 : tie.Need-column-requires-5
-column-requires-5 c κs = (c .before .before .before .before .before .before .before .pre .0 .spans, omega arith)
+piece-column-requires-5 : tie.Need-piece-column-requires-5
+piece-column-requires-5 c κs = (c .before .before .before .before .before .before .before .pre .0 .spans, omega arith)
 
 rows-pass-requires : tie.Need-rows-pass-requires
-rows-pass-requires c κs = (level _ _ (c .before .before .before .before .before .before .before .before .before .pre .0) _ _ _ _ _ (c .before .before .before .before .before .column .ensures) (c .before .before .before .before .column2 .ensures) (c .before .before .before .column3 .ensures) (c .before .before .column4 .ensures) (c .before .column5 .ensures), (omega (arith, c .before .before .before .before .before .before .head-word2 .ensures, headed _ (c .before .before .before .before .before .before .before .before .before .pre .1 .0) .seeds), c .before .before .before .before .before .before .before .before .before .pre .1 .1))
+rows-pass-requires c κs = (level _ _ (c .before .before .before .before .before .before .before .before .before .pre .0) _ _ _ _ _ (c .before .before .before .before .before .piece-column .ensures) (c .before .before .before .before .piece-column2 .ensures) (c .before .before .before .piece-column3 .ensures) (c .before .before .piece-column4 .ensures) (c .before .piece-column5 .ensures), (omega (arith, c .before .before .before .before .before .before .head-word2 .ensures, headed _ (c .before .before .before .before .before .before .before .before .before .pre .1 .0) .seeds), c .before .before .before .before .before .before .before .before .before .pre .1 .1))
 
 returns : tie.Need-returns
-returns c = rows-bad _ _ (c .before .before .before .before .before .before .before .before .before .before .before .pre .0) _ _ _ _ _ (c .before .before .before .before .before .before .before .column .ensures) (c .before .before .before .before .before .before .column2 .ensures) (c .before .before .before .before .before .column3 .ensures) (c .before .before .before .before .column4 .ensures) (c .before .before .before .column5 .ensures) _ _ (c .before .before .before .before .before .before .before .before .head-word2 .ensures) (c .before .before .before .before .before .before .before .before .before .head-word .ensures) _ _ (c .before .rows-pass .ensures) (not-true _ (c .if1 .taken))
+returns c = rows-bad _ _ (c .before .before .before .before .before .before .before .before .before .before .before .pre .0) _ _ _ _ _ (c .before .before .before .before .before .before .before .piece-column .ensures) (c .before .before .before .before .before .before .piece-column2 .ensures) (c .before .before .before .before .before .piece-column3 .ensures) (c .before .before .before .before .piece-column4 .ensures) (c .before .before .before .piece-column5 .ensures) _ _ (c .before .before .before .before .before .before .before .before .head-word2 .ensures) (c .before .before .before .before .before .before .before .before .before .head-word .ensures) _ _ (c .before .rows-pass .ensures) (not-true _ (c .if1 .taken))
 
 sub-last : tie.Need-sub-last
 sub-last c = omega (arith, some-piece _ _ (c .before .before .before .before .before .before .before .before .before .before .before .before .pre .0))
@@ -53,7 +53,7 @@ piece-length-requires c κs = piece-there _ _ (c .before .before .before .before
 
 returns-2 : tie.Need-returns-2
 returns-2 c =
-    rows-good _ _ (c .before .before .before .before .before .before .before .before .before .before .before .before .before .before .before .before .pre .0) _ _ _ _ _ (c .before .before .before .before .before .before .before .before .before .before .before .before .column .ensures) (c .before .before .before .before .before .before .before .before .before .before .before .column2 .ensures) (c .before .before .before .before .before .before .before .before .before .before .column3 .ensures) (c .before .before .before .before .before .before .before .before .before .column4 .ensures) (c .before .before .before .before .before .before .before .before .column5 .ensures) _ _ (c .before .before .before .before .before .before .before .before .before .before .before .before .before .head-word2 .ensures) (c .before .before .before .before .before .before .before .before .before .before .before .before .before .before .head-word .ensures) _ _ (c .before .before .before .before .before .before .rows-pass .ensures) (not-false _ (c .before .before .before .before .before .if1 .left))
+    rows-good _ _ (c .before .before .before .before .before .before .before .before .before .before .before .before .before .before .before .before .pre .0) _ _ _ _ _ (c .before .before .before .before .before .before .before .before .before .before .before .before .piece-column .ensures) (c .before .before .before .before .before .before .before .before .before .before .before .piece-column2 .ensures) (c .before .before .before .before .before .before .before .before .before .before .piece-column3 .ensures) (c .before .before .before .before .before .before .before .before .before .piece-column4 .ensures) (c .before .before .before .before .before .before .before .before .piece-column5 .ensures) _ _ (c .before .before .before .before .before .before .before .before .before .before .before .before .before .head-word2 .ensures) (c .before .before .before .before .before .before .before .before .before .before .before .before .before .before .head-word .ensures) _ _ (c .before .before .before .before .before .before .rows-pass .ensures) (not-false _ (c .before .before .before .before .before .if1 .left))
     _ _ _ (omega (arith, some-piece _ _ (c .before .before .before .before .before .before .before .before .before .before .before .before .before .before .before .before .pre .0))) (c .before .before .before .piece-word .ensures)
     (c .piece-length .ensures ∙ (λ k. pieceLength (c .before .before .head-word3 .ensures k) (c .before .before .before .before .before .before .before .before .before .before .before .before .before .before .head-word .ensures k) (c .before .word .ensures k)))
 
@@ -63,11 +63,11 @@ pieces-ok-spec =
     (tie.spec
     head-word-requires
     head-word-requires-2
-    column-requires
-    column-requires-2
-    column-requires-3
-    column-requires-4
-    column-requires-5
+    piece-column-requires
+    piece-column-requires-2
+    piece-column-requires-3
+    piece-column-requires-4
+    piece-column-requires-5
     rows-pass-requires
     returns
     sub-last

@@ -1,9 +1,9 @@
--- `piece_rows::column` meets its contract: the words lie one after another, and the memory has them.
+-- `piece_column` meets its contract: the words lie one after another, and the memory has them.
 use native.Mathlib.Omega.{arith}
-use Rattle.piece_rows.proofs.PieceTests.{column-room, column-is}
+use Rattle.layout.proofs.ColumnLaws.{column-room, column-is}
 use borrow.Author.Needs.{needs}
-use Rattle.piece_rows.proofs.pieces.column.Statement.{statement}
-use Rattle.piece_rows.proofs.pieces.column.Tie as tie
+use Rattle.layout.proofs.columns.piece_column.Statement.{statement}
+use Rattle.layout.proofs.columns.piece_column.Tie as tie
 
 mul-start : tie.Need-mul-start
 mul-start c = omega (arith, column-room _ _ (c .pre .0) _ (c .pre .1))
@@ -29,8 +29,8 @@ part-result-end c = omega (arith, column-room _ _ (c .pre .0) _ (c .pre .1))
 returns : tie.Need-returns
 returns c = column-is _ _ (c .before .pre .0) _ (c .before .pre .1)
 
-pub column-spec : {M : Type 1} → statement M
-column-spec =
+pub piece-column-spec : {M : Type 1} → statement M
+piece-column-spec =
     tie.close
     (tie.spec
     mul-start
