@@ -4,12 +4,12 @@ Oracle and reference go through the same calls and are compared after each. Each
 wish of an Open piece, the rebuild of a stale list by a pick; or it makes the list stale: a whole-copy peer more or less. A line for
 each, words parted by spaces, lists by commas (`-` for none):
 
-    start WORDS
+    start WORDS QUEUE QUEUE QUEUE QUEUE
     relist PIECE USED SEEDS PIECES DRAWS AFTER
     stale
     rebuild USED SEEDS PIECES DRAWS AFTER
 
-WORDS are a memory in which the picker stands; PIECES all pieces after the call, each as count.state.wish.had; DRAWS the words lent, USED
+WORDS are a memory in which the picker stands, a QUEUE the places of its partials among all partials; PIECES all pieces after the call, each as count.state.wish.had; DRAWS the words lent, USED
 how many were used; AFTER is the list."""
 import argparse
 import random
@@ -21,6 +21,7 @@ from compare.run import Figures, Mismatch, compare
 from compare.states import a_picker, huge_geometry, small_geometry, wide_geometry
 from reference.calls import Seeded
 from reference.image import image
+from reference.partials import NUM_QUEUES, in_queue
 from reference.state import MIN_DRAWS, OPEN
 
 SHOWN_DRAWS = 8
@@ -49,6 +50,11 @@ def shown(numbers):
     return ",".join(map(str, numbers)) or "-"
 
 
+def places(s, q):
+    members = {d.piece for d in in_queue(s, q)}
+    return [k for k, d in enumerate(s.partials) if d.piece in members]
+
+
 def pieces(s):
     return f"{s.seeds} " + shown(f"{p.count}.{p.state}.{p.wish}.{int(p.had)}" for p in s.pieces)
 
@@ -68,7 +74,7 @@ def lead(rng):
     """A picker led through calls: the steps, and the lines of its list operations."""
     s = a_picker(rng, *a_geometry(rng))
     steps = follow(["zero", f"read {image(s).hex()}"])
-    lines = [f"start {shown(encode(rng, s))}"]
+    lines = [" ".join(["start", shown(encode(rng, s)), *(shown(places(s, q)) for q in range(NUM_QUEUES))])]
     for _ in range(LENGTH):
         call, i = a_call(rng, s)
         seed = rng.getrandbits(32)

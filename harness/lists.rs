@@ -1,11 +1,22 @@
 //! Leads pickers in lent memory through the list operations of standard input, by the proved code, and compares list and draws used with
-//! what oracle and reference have after each, and that no other word changed.
-//! `harness/run` builds it. Prints how many were compared; ends with status 1 at the first difference, 2 on bad input.
+//! what oracle and reference have after each, and that no other word changed. The queues of each picker are compared with the
+//! reference's. `harness/run` builds it. Prints how many were compared; ends with status 1 at the first difference, 2 on bad input.
 
 mod list_operations;
 
 use std::io::BufRead;
 use std::process::exit;
+
+#[link(name = "lists_c", kind = "static")]
+extern "C" {
+    fn ls_queue_place(mem: *const u64, len: usize, q: usize, j: usize) -> usize;
+}
+
+/// The places of queue q among the partials.
+fn queue(mem: &[u64], q: usize) -> Vec<u64> {
+    assert!(q < 4);
+    (0..).map(|j| unsafe { ls_queue_place(mem.as_ptr(), mem.len(), q, j) } as u64).take_while(|place| *place < 512).collect()
+}
 
 fn bad(line: usize, why: &str) -> ! {
     eprintln!("lists: line {line}: {why}");
@@ -29,6 +40,19 @@ struct Memory {
 }
 
 impl Memory {
+    /// The memory, whose four queues are compared.
+    fn start(line: usize, w: &[&str]) -> Memory {
+        let words = numbers(line, w[0]);
+        for (q, due) in w[1..].iter().enumerate() {
+            let found = queue(&words, q);
+            if found != numbers(line, due) {
+                eprintln!("lists: line {line}: queue {q} is {found:?} where {due} is due");
+                exit(1);
+            }
+        }
+        Memory { words }
+    }
+
     /// Field f of all pieces; 5 is the list.
     fn region(&mut self, f: usize) -> &mut [u64] {
         let n = list_operations::pieces(&self.words);
@@ -89,7 +113,7 @@ fn main() {
         let w: Vec<&str> = line.split(' ').collect();
         match (w[0], w.len(), &mut memory) {
             _ if ended => bad(k + 1, "a line after `end`"),
-            ("start", 2, _) => memory = Some(Memory { words: numbers(k + 1, w[1]) }),
+            ("start", 6, _) => memory = Some(Memory::start(k + 1, &w[1..])),
             ("relist", 7, Some(m)) => m.relist(k + 1, &w[1..]),
             ("rebuild", 6, Some(m)) => m.rebuild(k + 1, &w[1..]),
             ("stale", 1, Some(m)) => m.stale(),

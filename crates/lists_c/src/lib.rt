@@ -1,7 +1,11 @@
-// The list of a picker in lent memory, for callers in C and Rust. Only for comparison and timing: a caller has to meet what is required.
+// The list and the queues of a picker in lent memory, for callers in C and Rust. Only for comparison and timing: a caller has to meet what
+// is required.
 use layout::shape_of;
 use types::PieceIndex;
+ghost use mathlib.Core.Path.{_≡_};
+ghost use mathlib.Core.Bool.{true};
 ghost use Prim.Native.Nat.{_<_};
+ghost use Rattle.model.specs.WellFormed.{wellFormed};
 ghost use Rattle.layout.specs.Layout.{piecesOn, decode};
 ghost use Rattle.listing.specs.Listings.{ListedBefore};
 ghost use Rattle.lists_c.specs.Standing.{Stands};
@@ -35,4 +39,21 @@ pub extern "C" fn ls_refresh(mem: &mut [u64], draws: &[u32]) -> usize
 {
     let s = shape_of(mem);
     listing::refresh(mem, s, draws, 0)
+}
+
+// Place j of queue q; 512 where the queue has none.
+#[no_mangle]
+pub extern "C" fn ls_queue_place(mem: &[u64], q: usize, j: usize) -> usize
+    requires { ⌜ Stands (now mem) ⌝ }
+    requires { ⌜ wellFormed (decode (now mem)) ≡ true ⌝ }
+    requires { ⌜ q < 4 ⌝ }
+{
+    let s = shape_of(mem);
+    let mut rows = [[0; 512]; 4];
+    let mut sizes = [0; 4];
+    queues::download_queues(mem, s, &mut rows, &mut sizes);
+    if sizes[q] <= j {
+        return 512;
+    }
+    queues::place_at(&rows, q, j)
 }
