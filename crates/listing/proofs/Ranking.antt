@@ -57,15 +57,15 @@ module _ (s : Shape) (xs : List ℕ) (r : Room s xs) (g : Ranges (decode xs)) (i
   wish-most w e = rw (e ∙ wish-is s xs r i h) (g .wish i there)
 
   -- its rank is the one that its words give
-  pub rank-is : (seeds count word state wish had v : ℕ) → seeds ≡ headWord xs 2 → count ≡ pieceWord xs (s .pieces) 0 i
-      → word ≡ pieceWord xs (s .pieces) 1 i → state ≡ queueNumber (queueFrom word) → wish ≡ pieceWord xs (s .pieces) 2 i
-      → had ≡ pieceWord xs (s .pieces) 3 i → IsRank seeds count state wish (eqb had 1) v
+  pub rank-is : (seeds count state wish had v : ℕ) → seeds ≡ headWord xs 2 → count ≡ pieceWord xs (s .pieces) 0 i
+      → state ≡ pieceWord xs (s .pieces) 1 i → wish ≡ pieceWord xs (s .pieces) 2 i → had ≡ pieceWord xs (s .pieces) 3 i
+      → IsRank seeds count (queueNumber (queueFrom state)) wish (eqb had 1) v
       → (v ≡ rank (decode xs) i) × (v < 21022)
   unfolding rank yes?
-  rank-is seeds count word state wish had v es ec ew et ei eh k =
-      let n : Numbers count state wish (eqb had 1) (pieceAt (decode xs) i) = record {
+  rank-is seeds count state wish had v es ec et ei eh k =
+      let n : Numbers count (queueNumber (queueFrom state)) wish (eqb had 1) (pieceAt (decode xs) i) = record {
         counts = sym (ec ∙ count-is s xs r i h);
-        states = sym (et ∙ ap (λ (w : ℕ). queueNumber (queueFrom w)) ew ∙ ap queueNumber (state-is s xs r i h));
+        states = sym (ap (λ (w : ℕ). queueNumber (queueFrom w)) et ∙ ap queueNumber (state-is s xs r i h));
         wishes = sym (ei ∙ wish-is s xs r i h);
         haves = sym (ap (λ (w : ℕ). eqb w 1) eh ∙ had-is s xs r i h);
       } in

@@ -1,11 +1,13 @@
 // The ranks of the pieces, by the words of the memory.
 ghost use mathlib.Core.Path.{_≡_};
-ghost use Prim.Native.Nat.{_<_};
+ghost use Prim.Native.Nat.{_≤_, _<_};
+ghost use lib.Dec.{eqb};
 ghost use lib.ListN.{length};
 ghost use Rattle.types.specs.Piece.{indexOf};
 ghost use Rattle.types.specs.Queue.{queueNumber};
 ghost use Rattle.model.specs.Order.{rank};
 ghost use Rattle.layout.specs.Layout.{queueFrom, decode, Room};
+ghost use Rattle.bucket.specs.Ranks.{IsRank};
 ghost use Rattle.listing.specs.Listings.{Ranges, Keyed};
 
 // The number of the state that a word means: a word that no state has is read as Open.
@@ -13,6 +15,18 @@ fn state_number(w: u64) -> u64
     ensures { λ r. ⌜ r ≡ queueNumber (queueFrom w) ⌝ }
 {
     if w < 7 { w } else { 4 }
+}
+
+// The rank by a piece's words. Most pieces are Open: tested first, they need no other test of the state.
+fn rank_by(seeds: u64, count: u64, state: u64, wish: u64, had: u64) -> u64
+    requires { ⌜ count ≤ 1000 ⌝ }
+    requires { ⌜ wish ≤ 7 ⌝ }
+    ensures { λ r. ⌜ IsRank seeds count (queueNumber (queueFrom state)) wish (eqb had 1) r ⌝ }
+{
+    if state == 4 {
+        return bucket::bucket(seeds, count, 4, wish, had == 1);
+    }
+    bucket::bucket(seeds, count, state_number(state), wish, had == 1)
 }
 
 // The rank of piece i: one more than its bucket, and 0 where it is in none.
@@ -24,10 +38,10 @@ pub fn rank_at(mem: &[u64], s: layout::Shape, i: usize) -> u64
 {
     let seeds = layout::head_word(mem, 2);
     let count = layout::piece_word(mem, s, 0, i);
-    let state = state_number(layout::piece_word(mem, s, 1, i));
+    let state = layout::piece_word(mem, s, 1, i);
     let wish = layout::piece_word(mem, s, 2, i);
-    let had = layout::piece_word(mem, s, 3, i) == 1;
-    bucket::bucket(seeds, count, state, wish, had)
+    let had = layout::piece_word(mem, s, 3, i);
+    rank_by(seeds, count, state, wish, had)
 }
 
 // The same of a piece by its number.
@@ -40,8 +54,16 @@ pub fn rank(mem: &[u64], s: layout::Shape, piece: types::PieceIndex) -> u64
     rank_at(mem, s, piece.get())
 }
 
+// A rank as a key.
+fn key(x: u64) -> u16
+    requires { ⌜ x < 65536 ⌝ }
+    ensures { λ r. ⌜ r ≡ x ⌝ }
+{
+    x as u16
+}
+
 // The ranks of all pieces. The keys behind them stay as they were.
-pub fn rank_pieces(mem: &[u64], s: layout::Shape, keys: &mut [u64; 4096])
+pub fn rank_pieces(mem: &[u64], s: layout::Shape, keys: &mut [u16; 4096])
     requires { ⌜ Room s (now mem) ⌝ }
     requires { ⌜ Ranges (decode (now mem)) ⌝ }
     requires { ⌜ length (now keys) ≡ 4096 ⌝ }
@@ -50,7 +72,7 @@ pub fn rank_pieces(mem: &[u64], s: layout::Shape, keys: &mut [u64; 4096])
     let n = s.pieces;
     let mut i = 0;
     while i < n {
-        keys[i] = rank_at(mem, s, i);
+        keys[i] = key(rank_at(mem, s, i));
         i += 1;
     }
 }

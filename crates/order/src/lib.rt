@@ -23,6 +23,13 @@ pub fn wide(x: u32) -> usize
     x as usize
 }
 
+// A word of 16 bits as one of 64.
+pub fn word(x: u16) -> u64
+    ensures { λ r. ⌜ r ≡ x ⌝ }
+{
+    x as u64
+}
+
 // 1 where b is more than a, and 0 otherwise.
 pub fn more(a: usize, b: usize) -> usize
     ensures { λ r. ⌜ r ≡ bit (ltb a b) ⌝ }
@@ -31,11 +38,11 @@ pub fn more(a: usize, b: usize) -> usize
 }
 
 // The rank of piece x.
-pub fn key(keys: &[u64], x: u64) -> u64
+pub fn key(keys: &[u16], x: u64) -> u64
     requires { ⌜ x < length (now keys) ⌝ }
     ensures { λ r. ⌜ r ≡ rankIn (now (keys .entry)) x ⌝ }
 {
-    keys[idx(x)]
+    word(keys[idx(x)])
 }
 
 // Draw number t, from 0 to the limit; beyond the last word it is 0.
@@ -50,7 +57,7 @@ pub fn draw(draws: &[u32], t: usize, limit: usize) -> usize
 }
 
 // `first` goes to the end of its group; from there the next group's first is held, up to place e.
-pub fn carry(list: &mut [u64], keys: &[u64], from: usize, e: usize, first: u64)
+pub fn carry(list: &mut [u64], keys: &[u16], from: usize, e: usize, first: u64)
     requires { ⌜ from ≤ e ⌝ }
     requires { ⌜ e < length (now list) ⌝ }
     requires { ⌜ Pieces (length (now keys)) e (now list) ⌝ }
@@ -71,7 +78,7 @@ pub fn carry(list: &mut [u64], keys: &[u64], from: usize, e: usize, first: u64)
 }
 
 // x comes in at place p, and what stood there and in the groups behind it moves up, to place e.
-pub fn push(list: &mut [u64], keys: &[u64], p: usize, e: usize, x: u64)
+pub fn push(list: &mut [u64], keys: &[u16], p: usize, e: usize, x: u64)
     requires { ⌜ p ≤ e ⌝ }
     requires { ⌜ e < length (now list) ⌝ }
     requires { ⌜ Pieces (length (now keys)) e (now list) ⌝ }
@@ -86,7 +93,7 @@ pub fn push(list: &mut [u64], keys: &[u64], p: usize, e: usize, x: u64)
 }
 
 // The groups behind place i, up to place e, move down over it.
-pub fn pull(list: &mut [u64], keys: &[u64], i: usize, e: usize)
+pub fn pull(list: &mut [u64], keys: &[u16], i: usize, e: usize)
     requires { ⌜ i < e ⌝ }
     requires { ⌜ e < length (now list) ⌝ }
     requires { ⌜ Pieces (length (now keys)) (suc e) (now list) ⌝ }
@@ -122,7 +129,7 @@ pub struct Group {
 }
 
 // Where the group of x's rank stands among the first n.
-pub fn group_of(list: &[u64], keys: &[u64], n: usize, x: u64) -> Group
+pub fn group_of(list: &[u64], keys: &[u16], n: usize, x: u64) -> Group
     requires { ⌜ n ≤ length (now list) ⌝ }
     requires { ⌜ Pieces (length (now keys)) n (now list) ⌝ }
     requires { ⌜ x < length (now keys) ⌝ }
@@ -161,7 +168,7 @@ pub fn place_of(list: &[u64], n: usize, x: u64) -> usize
 }
 
 // x comes in at a drawn place of its group. Answers how many draws it took.
-pub fn add(list: &mut [u64], keys: &[u64], n: usize, x: u64, draws: &[u32], t: usize) -> usize
+pub fn add(list: &mut [u64], keys: &[u16], n: usize, x: u64, draws: &[u32], t: usize) -> usize
     requires { ⌜ n < length (now list) ⌝ }
     requires { ⌜ Pieces (length (now keys)) n (now list) ⌝ }
     requires { ⌜ x < length (now keys) ⌝ }
@@ -176,7 +183,7 @@ pub fn add(list: &mut [u64], keys: &[u64], n: usize, x: u64, draws: &[u32], t: u
 }
 
 // Place i of the first n is taken out. Place n - 1, no longer in use, stays as it was.
-pub fn remove(list: &mut [u64], keys: &[u64], n: usize, i: usize)
+pub fn remove(list: &mut [u64], keys: &[u16], n: usize, i: usize)
     requires { ⌜ i < n ⌝ }
     requires { ⌜ n ≤ length (now list) ⌝ }
     requires { ⌜ Pieces (length (now keys)) n (now list) ⌝ }

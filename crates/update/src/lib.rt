@@ -11,7 +11,7 @@ ghost use Rattle.order.specs.Places.{rankIn, Pieces};
 ghost use Rattle.update.specs.Relisting.{Ready, IsRelisted};
 
 // What stands at i goes forward to place p.
-pub fn go_earlier(list: &mut [u64], keys: &[u64], p: usize, i: usize)
+pub fn go_earlier(list: &mut [u64], keys: &[u16], p: usize, i: usize)
     requires { ⌜ p ≤ i ⌝ }
     requires { ⌜ i < length (now list) ⌝ }
     requires { ⌜ Pieces (length (now keys)) (suc i) (now list) ⌝ }
@@ -22,7 +22,7 @@ pub fn go_earlier(list: &mut [u64], keys: &[u64], p: usize, i: usize)
 }
 
 // What stands at i goes back to place p.
-pub fn go_later(list: &mut [u64], keys: &[u64], i: usize, p: usize)
+pub fn go_later(list: &mut [u64], keys: &[u16], i: usize, p: usize)
     requires { ⌜ i ≤ p ⌝ }
     requires { ⌜ p < length (now list) ⌝ }
     requires { ⌜ Pieces (length (now keys)) (suc p) (now list) ⌝ }
@@ -38,7 +38,7 @@ pub fn go_later(list: &mut [u64], keys: &[u64], i: usize, p: usize)
 // To the end of the group at s of size g, and a change of places with a drawn one of it.
 pub fn to_earlier(
     list: &mut [u64],
-    keys: &[u64],
+    keys: &[u16],
     i: usize,
     s: usize,
     g: usize,
@@ -61,7 +61,7 @@ pub fn to_earlier(
 // To the front of the group at s of size g, and a change of places with a drawn one of it.
 pub fn to_later(
     list: &mut [u64],
-    keys: &[u64],
+    keys: &[u16],
     i: usize,
     s: usize,
     g: usize,
@@ -83,7 +83,7 @@ pub fn to_later(
 // x, of rank `old` until now, goes to its new group. Answers how many draws it took.
 pub fn change(
     list: &mut [u64],
-    keys: &[u64],
+    keys: &[u16],
     n: usize,
     x: u64,
     old: u64,
@@ -119,7 +119,7 @@ pub struct Relisted {
 // The list mended after x came from rank `old` to the one that `keys` has.
 pub fn relist(
     list: &mut [u64],
-    keys: &[u64],
+    keys: &[u16],
     n: usize,
     x: u64,
     old: u64,

@@ -1,5 +1,6 @@
 -- `key` meets its contract: the word read is the rank. Assumes nothing.
 use borrow.Author.Needs.{needs}
+use mathlib.Core.Path.{_∙_}
 use Rattle.model.specs.Lists.{at}
 use Rattle.order.specs.Places.{rankIn}
 use Rattle.order.proofs.key.Statement.{statement}
@@ -8,15 +9,18 @@ use Rattle.order.proofs.key.Tie as tie
 idx-requires : tie.Need-idx-requires
 idx-requires c κs = search needs
 
-mul-result : tie.Need-mul-result
-mul-result c = search needs
+mul-word : tie.Need-mul-word
+mul-word c = search needs
 
-shared-slice-read-result : tie.Need-shared-slice-read-result
-shared-slice-read-result c = search needs
+shared-slice-read-word : tie.Need-shared-slice-read-word
+shared-slice-read-word c = search needs
+
+word-requires : tie.Need-word-requires
+word-requires c κs = search needs
 
 returns : tie.Need-returns
 unfolding rankIn at
-returns c = rw (c .before .idx .ensures)
+returns c = c .word .ensures ∙ rw (c .before .before .idx .ensures)
 
 pub key-spec : {M : Type 1} → statement M
-key-spec = tie.close (tie.spec idx-requires mul-result shared-slice-read-result returns)
+key-spec = tie.close (tie.spec idx-requires mul-word shared-slice-read-word word-requires returns)

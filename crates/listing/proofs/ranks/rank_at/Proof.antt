@@ -13,29 +13,26 @@ piece-word-requires c κs = search needs
 piece-word-requires-2 : tie.Need-piece-word-requires-2
 piece-word-requires-2 c κs = search needs
 
-state-number-requires : tie.Need-state-number-requires
-state-number-requires c κs = search needs
-
 piece-word-requires-3 : tie.Need-piece-word-requires-3
 piece-word-requires-3 c κs = search needs
 
 piece-word-requires-4 : tie.Need-piece-word-requires-4
 piece-word-requires-4 c κs = search needs
 
-bucket-requires : tie.Need-bucket-requires
-bucket-requires c κs =
-    let t = c .before .before .before .before .before .before .before in (
-      count-most (t .args .s) (t .args .mem .now) (t .pre .0) (t .pre .1 .0) (t .args .i) (t .pre .1 .1) _ (c .before .before .before .before .piece-word .ensures),
+rank-by-requires : tie.Need-rank-by-requires
+rank-by-requires c κs =
+    let t = c .before .before .before .before .before .before in (
+      count-most (t .args .s) (t .args .mem .now) (t .pre .0) (t .pre .1 .0) (t .args .i) (t .pre .1 .1) _ (c .before .before .before .piece-word .ensures),
       wish-most (t .args .s) (t .args .mem .now) (t .pre .0) (t .pre .1 .0) (t .args .i) (t .pre .1 .1) _ (c .before .piece-word3 .ensures),
     )
 
 returns : tie.Need-returns
 returns c =
-    let t = c .before .before .before .before .before .before .before .before in
-    rank-is (t .args .s) (t .args .mem .now) (t .pre .0) (t .pre .1 .0) (t .args .i) (t .pre .1 .1) _ _ _ _ _ _ _
-    (c .before .before .before .before .before .before .head-word .ensures) (c .before .before .before .before .before .piece-word .ensures)
-    (c .before .before .before .before .piece-word2 .ensures) (c .before .before .before .state-number .ensures) (c .before .before .piece-word3 .ensures)
-    (c .before .piece-word4 .ensures) (c .bucket .ensures)
+    let t = c .before .before .before .before .before .before .before in
+    rank-is (t .args .s) (t .args .mem .now) (t .pre .0) (t .pre .1 .0) (t .args .i) (t .pre .1 .1) _ _ _ _ _ _
+    (c .before .before .before .before .before .head-word .ensures) (c .before .before .before .before .piece-word .ensures)
+    (c .before .before .before .piece-word2 .ensures) (c .before .before .piece-word3 .ensures) (c .before .piece-word4 .ensures)
+    (c .rank-by .ensures)
 
 pub rank-at-spec : {M : Type 1} → statement M
 rank-at-spec =
@@ -44,8 +41,7 @@ rank-at-spec =
     head-word-requires
     piece-word-requires
     piece-word-requires-2
-    state-number-requires
     piece-word-requires-3
     piece-word-requires-4
-    bucket-requires
+    rank-by-requires
     returns)
