@@ -50,10 +50,7 @@ pub fn get_state(mem: &[u64], s: layout::Shape, piece: PieceIndex) -> u64
     ensures { λ r. ⌜ r ≡ queueNumber (pieceAt (decode (now (mem .entry))) (indexOf (piece .0)) .state) ⌝ }
 {
     let w = field(mem, s, 1, piece);
-    if w < 7 {
-        return w;
-    }
-    4
+    layout::state_number(w)
 }
 
 pub fn set_state(mem: &mut [u64], s: layout::Shape, piece: PieceIndex, v: u64)

@@ -13,6 +13,7 @@ pub use spots::list_start;
 pub use spots::shape_of;
 pub use spots::word;
 pub use states::plain_state;
+pub use states::state_number;
 pub use words::block_word;
 pub use words::head_word;
 pub use words::partial_word;

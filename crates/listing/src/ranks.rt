@@ -10,13 +10,6 @@ ghost use Rattle.layout.specs.Layout.{queueFrom, decode, Room};
 ghost use Rattle.bucket.specs.Ranks.{IsRank};
 ghost use Rattle.listing.specs.Listings.{Ranges, Keyed};
 
-// The number of the state that a word means: a word that no state has is read as Open.
-fn state_number(w: u64) -> u64
-    ensures { λ r. ⌜ r ≡ queueNumber (queueFrom w) ⌝ }
-{
-    if w < 7 { w } else { 4 }
-}
-
 // The rank by a piece's words. Most pieces are Open: tested first, they need no other test of the state.
 fn rank_by(seeds: u64, count: u64, state: u64, wish: u64, had: u64) -> u64
     requires { ⌜ count ≤ 1000 ⌝ }
@@ -26,7 +19,7 @@ fn rank_by(seeds: u64, count: u64, state: u64, wish: u64, had: u64) -> u64
     if state == 4 {
         return bucket::bucket(seeds, count, 4, wish, had == 1);
     }
-    bucket::bucket(seeds, count, state_number(state), wish, had == 1)
+    bucket::bucket(seeds, count, layout::state_number(state), wish, had == 1)
 }
 
 // The rank of piece i: one more than its bucket, and 0 where it is in none.

@@ -1,8 +1,8 @@
--- `listing::state_number` meets its contract. Assumes nothing.
+-- `state_number` meets its contract. Assumes nothing.
 use mathlib.Core.Path.{sym}
 use Rattle.layout.proofs.Meanings.{queue-number, queue-none}
-use Rattle.listing.proofs.ranks.state_number.Statement.{statement}
-use Rattle.listing.proofs.ranks.state_number.Tie as tie
+use Rattle.layout.proofs.states.state_number.Statement.{statement}
+use Rattle.layout.proofs.states.state_number.Tie as tie
 
 returns : tie.Need-returns
 returns c = sym (queue-number (c .before .args .w) (c .if1 .taken))
