@@ -18,6 +18,10 @@ use Rattle.partial_rows.specs.Rows.{allBelow, countBelow}
 
 module _ (t : ℕ → Bool) where
   -- ---- all pass
+  pub all-more : (k : ℕ) → allBelow t (k + 1) ≡ (allBelow t k && t k)
+  unfolding allBelow
+  all-more k = rw add-one
+
   pub all-next : (k : ℕ) → allBelow t k ≡ true → t k ≡ true → allBelow t (k + 1) ≡ true
   unfolding allBelow
   all-next k h g = rw (add-one, h, g)

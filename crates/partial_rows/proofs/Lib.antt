@@ -1,6 +1,7 @@
 pub mod BelowLaws
 pub mod StateLaws
 pub mod RowLaws
+pub mod JoinLaws
 pub mod CountLaws
 pub mod GoodLaws
 pub mod PassLaws

@@ -13,6 +13,7 @@ use Rattle.model.specs.Bep3.{blocksInPiece}
 use Rattle.model.specs.State.{sameQueue, validGeometry}
 use Rattle.model.specs.WellFormed.{blockOk}
 use Rattle.layout.specs.declared.spots.Shape.{Shape}
+use Rattle.partial_rows.specs.declared.blocks.Joined.{Joined}
 use Rattle.layout.specs.Layout.{headWord, pieceWord, partialWord, blockWord, piecesOn, blocksOn, queueFrom, blockFrom, Spans}
 
 -- ---- a test on the numbers below one
@@ -42,6 +43,10 @@ stateBy state wish requested busy blocks hashing =
 unfoldable pub rowOk : ℕ → ℕ → ℕ → ℕ → Bool
 rowOk state requesters has peer =
     (leb state 3 && (eqb has 1 || (eqb has 0 && eqb peer 0))) && blockOk (blockFrom state requesters has peer)
+
+-- the words of blocks, joined by `|` field by field: no bit is in them that is in no good block's
+unfoldable pub joinedOk : Joined → Bool
+joinedOk j = ((ltb (j .states) 4 && ltb (j .asked) 1024) && ltb (j .flags) 2) && ltb (j .peers) 1
 
 -- block j, where the words of blocks stand in a list for each field
 unfoldable pub rowIn : List ℕ → List ℕ → List ℕ → List ℕ → ℕ → Bool

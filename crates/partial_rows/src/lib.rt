@@ -4,7 +4,6 @@ mod partials;
 mod states;
 
 pub use blocks::Counted;
-pub use blocks::block_row_ok;
 pub use blocks::blocks_ok;
 pub use partials::partial_ok;
 pub use partials::partials_ok;
