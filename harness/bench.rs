@@ -200,32 +200,50 @@ fn list_by_hand(mem: &[u64], s: &Shape, keys: &[u64; 4096]) -> bool {
     list.len() == keys[..s.n].iter().filter(|k| **k > 0).count()
 }
 
+/// Words, summed eight at a time, so that where the loop lies in the program does not matter.
+#[inline(never)]
+fn sum(words: &[u64]) -> u64 {
+    let mut sums = [0u64; 8];
+    let eights = words.chunks_exact(8);
+    let rest = eights.remainder().iter().fold(0u64, |x, y| x.wrapping_add(*y));
+    for eight in eights {
+        for (x, y) in sums.iter_mut().zip(eight) {
+            *x = x.wrapping_add(*y);
+        }
+    }
+    sums.iter().fold(rest, |x, y| x.wrapping_add(*y))
+}
+
 /// The live words, summed.
 fn bare_pass(mem: &[u64]) -> u64 {
     let n = mem[0].div_ceil(mem[1]) as usize;
     let b = mem[1].div_ceil(mem[1].min(BLOCK)) as usize;
     let s = Shape { n, b, m: n.min(512) };
-    let sum = |a: usize, k: usize| mem[a..a + k].iter().fold(0u64, |x, y| x.wrapping_add(*y));
-    let mut out = sum(0, 9) + sum(s.piece(0, 0), 5 * n) + sum(s.piece(5, 0), mem[6] as usize) + sum(s.partial(2, 0), s.m);
+    let part = |a: usize, k: usize| sum(&mem[a..a + k]);
+    let mut out = part(0, 9).wrapping_add(part(s.piece(0, 0), 5 * n + mem[6] as usize)).wrapping_add(part(s.partial(2, 0), s.m));
     for k in 0..mem[7] as usize {
         let place = mem[s.partial(2, k)] as usize;
         out = out.wrapping_add(mem[s.partial(0, k)]).wrapping_add(mem[s.partial(1, k)]);
         for f in 0..4 {
-            out = out.wrapping_add(sum(s.block(f, place, 0), b));
+            out = out.wrapping_add(part(s.block(f, place, 0), b));
         }
     }
     out
 }
 
-/// The best of many, in microseconds.
-fn time(mut f: impl FnMut()) -> f64 {
-    (0..300).map(|_| {
-        let start = Instant::now();
-        for _ in 0..10 {
-            f();
+/// Each one's best of many, in microseconds. They take turns, so that what slows one down slows the others, too.
+fn times<const K: usize>(mut jobs: [&mut dyn FnMut(); K]) -> [f64; K] {
+    let mut best = [f64::MAX; K];
+    for _ in 0..300 {
+        for (job, low) in jobs.iter_mut().zip(&mut best) {
+            let start = Instant::now();
+            for _ in 0..10 {
+                job();
+            }
+            *low = low.min(start.elapsed().as_secs_f64() * 1e5);
         }
-        start.elapsed().as_secs_f64() * 1e5
-    }).fold(f64::MAX, f64::min)
+    }
+    best
 }
 
 fn main() {
@@ -238,9 +256,11 @@ fn main() {
                 }
                 let mem = memory(n, b, partials);
                 assert!(by_hand(&mem) && unsafe { wf_well_formed(mem.as_ptr(), mem.len()) });
-                let proved = time(|| { black_box(unsafe { wf_well_formed(black_box(mem.as_ptr()), mem.len()) }); });
-                let hand = time(|| { black_box(by_hand(black_box(&mem))); });
-                let bare = time(|| { black_box(bare_pass(black_box(&mem))); });
+                let [proved, hand, bare] = times([
+                    &mut || { black_box(unsafe { wf_well_formed(black_box(mem.as_ptr()), mem.len()) }); },
+                    &mut || { black_box(by_hand(black_box(&mem))); },
+                    &mut || { black_box(bare_pass(black_box(&mem))); },
+                ]);
                 println!("{n:6} {b:3} {partials:8} {proved:13.2} {:12.2} {:16.2}", proved / hand, proved / bare);
             }
         }

@@ -1,6 +1,6 @@
 //! How near to a bare pass the memory test can come: what no form of it leaves out, each part alone in the fastest form known, by hand.
 
-use super::{memory, time, Shape};
+use super::{memory, sum, times, Shape};
 use std::hint::black_box;
 
 /// By had, wish and state: the factor of a piece's rank, and what is taken off.
@@ -38,18 +38,20 @@ fn list_alone(mem: &[u64], s: &Shape, keys: &mut [u16; 4096]) -> bool {
     keys[..s.n].iter().fold(0, |any, key| any | key) == 0
 }
 
-/// The blocks of a place, by bits alone: whether all are in range, how many are requested, how many not free.
+/// The blocks of a place, joined field by field and tested once: whether all are in range, how many are requested, how many not free.
 fn blocks_alone(mem: &[u64], s: &Shape, place: usize) -> (bool, u64, u64) {
     let region = |f: usize| &mem[s.block(f, place, 0)..s.block(f, place, 0) + s.b];
     let (states, asked, has, peers) = (region(0), region(1), region(2), region(3));
-    let (mut low, mut high, mut requested, mut busy) = (0u64, 0u64, 0, 0);
+    let (mut joined, mut requested, mut busy) = ([0u64; 4], 0, 0);
     for j in 0..s.b {
-        low |= (states[j] & !3) | (has[j] & !1) | (peers[j] & has[j].wrapping_sub(1));
-        high |= asked[j] | 1000u64.wrapping_sub(asked[j]);
-        requested += states[j] & 1 & !(states[j] >> 1);
-        busy += (states[j] | states[j] >> 1) & 1;
+        joined[0] |= states[j];
+        joined[1] |= asked[j] | asked[j].wrapping_add(23);
+        joined[2] |= has[j];
+        joined[3] |= peers[j] & has[j].wrapping_sub(1);
+        requested += u64::from(states[j] == 1);
+        busy += u64::from(states[j] != 0);
     }
-    (low == 0 && high >> 63 == 0, requested, busy)
+    (joined[0] < 4 && joined[1] < 1024 && joined[2] < 2 && joined[3] == 0, requested, busy)
 }
 
 /// The pieces' parts to a bare pass over the words of so many pieces.
@@ -60,26 +62,31 @@ fn pieces_floor(n: usize) {
     left[..n].copy_from_slice(&keys[..n]);
     assert!(list_alone(&mem, &s, &mut left));
     let words = &mem[s.piece(0, 0)..s.piece(6, 0)];
-    let bare = time(|| { black_box(black_box(words).iter().fold(0u64, |x, y| x.wrapping_add(*y))); });
-    let ranks = time(|| ranks_alone(black_box(&mem), &s, &table, black_box(&mut left))) / bare;
-    let list = time(|| {
-        left[..n].copy_from_slice(&keys[..n]);
-        black_box(list_alone(black_box(&mem), &s, &mut left));
-    }) / bare;
+    let mut other = [0; 4096];
+    let [bare, ranks, list] = times([
+        &mut || { black_box(sum(black_box(words))); },
+        &mut || ranks_alone(black_box(&mem), &s, &table, black_box(&mut other)),
+        &mut || {
+            left[..n].copy_from_slice(&keys[..n]);
+            black_box(list_alone(black_box(&mem), &s, &mut left));
+        },
+    ]);
+    let (ranks, list) = (ranks / bare, list / bare);
     println!("{n:6} pieces: ranks {ranks:.2}, then list {list:.2}, together {:.2}", ranks + list);
 }
 
 /// The blocks to a bare pass over the words of so many partials of 256 blocks.
 fn blocks_floor(partials: usize) {
     let (mem, s) = (memory(512, 256, partials), Shape { n: 512, b: 256, m: 512 });
-    let sum = |a: usize| mem[a..a + s.b].iter().fold(0u64, |x, y| x.wrapping_add(*y));
     let places: Vec<usize> = (0..partials).map(|k| mem[s.partial(2, k)] as usize).collect();
-    let bare = time(|| for &place in black_box(&places) {
-        black_box((0..4).fold(0u64, |x, f| x.wrapping_add(sum(s.block(f, place, 0)))));
-    });
-    let blocks = time(|| for &place in black_box(&places) {
-        black_box(blocks_alone(black_box(&mem), &s, place));
-    });
+    let [bare, blocks] = times([
+        &mut || for &place in black_box(&places) {
+            black_box((0..4).fold(0u64, |x, f| x.wrapping_add(sum(&mem[s.block(f, place, 0)..s.block(f, place, s.b)]))));
+        },
+        &mut || for &place in black_box(&places) {
+            black_box(blocks_alone(black_box(&mem), &s, place));
+        },
+    ]);
     println!("{partials:6} partials of 256 blocks: blocks {:.2}", blocks / bare);
 }
 
