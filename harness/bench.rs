@@ -1,8 +1,10 @@
 //! Times the proved memory test against the same test written by hand in Rust, on the same memory, and against a bare pass that sums the
-//! same live words. `harness/bench` builds and runs it. A line for each size: microseconds, and the two ratios.
+//! same live words. `harness/bench` builds and runs it. A line for each size: microseconds, the two ratios, and what the parts that no form of
+//! the test leaves out take of a bare pass.
 
 mod floor;
 
+use floor::{parts_alone, rank_table};
 use std::hint::black_box;
 use std::time::Instant;
 
@@ -246,24 +248,29 @@ fn times<const K: usize>(mut jobs: [&mut dyn FnMut(); K]) -> [f64; K] {
     best
 }
 
+/// A line of the table.
+fn compare(n: usize, b: usize, partials: usize) {
+    let (mem, s) = (memory(n, b, partials), Shape { n, b, m: n.min(512) });
+    let (table, mut keys) = (rank_table(), [0; 4096]);
+    assert!(by_hand(&mem) && unsafe { wf_well_formed(mem.as_ptr(), mem.len()) } && parts_alone(&mem, &s, &table, &mut keys));
+    let [proved, hand, bare, parts] = times([
+        &mut || { black_box(unsafe { wf_well_formed(black_box(mem.as_ptr()), mem.len()) }); },
+        &mut || { black_box(by_hand(black_box(&mem))); },
+        &mut || { black_box(bare_pass(black_box(&mem))); },
+        &mut || { black_box(parts_alone(black_box(&mem), &s, &table, &mut keys)); },
+    ]);
+    println!("{n:6} {b:3} {partials:8} {proved:13.2} {:12.2} {:16.2} {:13.2}", proved / hand, proved / bare, parts / bare);
+}
+
 fn main() {
-    println!("pieces  b  partials     proved µs   to by hand   to a bare pass");
+    println!("pieces  b  partials     proved µs   to by hand   to a bare pass   parts alone");
     for n in [64, 1024, 4096] {
         for b in [16, 256] {
             for partials in [8, 64, 400] {
-                if partials > n {
-                    continue;
+                if partials <= n {
+                    compare(n, b, partials);
                 }
-                let mem = memory(n, b, partials);
-                assert!(by_hand(&mem) && unsafe { wf_well_formed(mem.as_ptr(), mem.len()) });
-                let [proved, hand, bare] = times([
-                    &mut || { black_box(unsafe { wf_well_formed(black_box(mem.as_ptr()), mem.len()) }); },
-                    &mut || { black_box(by_hand(black_box(&mem))); },
-                    &mut || { black_box(bare_pass(black_box(&mem))); },
-                ]);
-                println!("{n:6} {b:3} {partials:8} {proved:13.2} {:12.2} {:16.2}", proved / hand, proved / bare);
             }
         }
     }
-    floor::report();
 }

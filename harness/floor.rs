@@ -1,10 +1,9 @@
-//! How near to a bare pass the memory test can come: what no form of it leaves out, each part alone in the fastest form known, by hand.
+//! How near to a bare pass the memory test can come: what no form of it leaves out, by hand and in the fastest form known.
 
-use super::{memory, sum, times, Shape};
-use std::hint::black_box;
+use super::Shape;
 
 /// By had, wish and state: the factor of a piece's rank, and what is taken off.
-fn rank_table() -> [u32; 128] {
+pub fn rank_table() -> [u32; 128] {
     std::array::from_fn(|i| {
         let (had, wish, state) = (i >> 6, i >> 3 & 7, i & 7);
         let listed = had == 0 && wish > 0 && state != 1 && state != 2;
@@ -54,49 +53,13 @@ fn blocks_alone(mem: &[u64], s: &Shape, place: usize) -> (bool, u64, u64) {
     (joined[0] < 4 && joined[1] < 1024 && joined[2] < 2 && joined[3] == 0, requested, busy)
 }
 
-/// The pieces' parts to a bare pass over the words of so many pieces.
-fn pieces_floor(n: usize) {
-    let (mem, s, table) = (memory(n, 16, 8), Shape { n, b: 16, m: n.min(512) }, rank_table());
-    let (mut keys, mut left) = ([0; 4096], [0; 4096]);
-    ranks_alone(&mem, &s, &table, &mut keys);
-    left[..n].copy_from_slice(&keys[..n]);
-    assert!(list_alone(&mem, &s, &mut left));
-    let words = &mem[s.piece(0, 0)..s.piece(6, 0)];
-    let mut other = [0; 4096];
-    let [bare, ranks, list] = times([
-        &mut || { black_box(sum(black_box(words))); },
-        &mut || ranks_alone(black_box(&mem), &s, &table, black_box(&mut other)),
-        &mut || {
-            left[..n].copy_from_slice(&keys[..n]);
-            black_box(list_alone(black_box(&mem), &s, &mut left));
-        },
-    ]);
-    let (ranks, list) = (ranks / bare, list / bare);
-    println!("{n:6} pieces: ranks {ranks:.2}, then list {list:.2}, together {:.2}", ranks + list);
-}
-
-/// The blocks to a bare pass over the words of so many partials of 256 blocks.
-fn blocks_floor(partials: usize) {
-    let (mem, s) = (memory(512, 256, partials), Shape { n: 512, b: 256, m: 512 });
-    let places: Vec<usize> = (0..partials).map(|k| mem[s.partial(2, k)] as usize).collect();
-    let [bare, blocks] = times([
-        &mut || for &place in black_box(&places) {
-            black_box((0..4).fold(0u64, |x, f| x.wrapping_add(sum(&mem[s.block(f, place, 0)..s.block(f, place, s.b)]))));
-        },
-        &mut || for &place in black_box(&places) {
-            black_box(blocks_alone(black_box(&mem), &s, place));
-        },
-    ]);
-    println!("{partials:6} partials of 256 blocks: blocks {:.2}", blocks / bare);
-}
-
-/// What no form of the test leaves out, each part alone in the fastest form known, to a bare pass over the same words.
-pub fn report() {
-    println!("parts that no form of the test leaves out, to a bare pass over their words");
-    for n in [64, 1024, 4096] {
-        pieces_floor(n);
+/// Ranks, list and blocks of a memory that is well-formed; nothing else of it is tested.
+pub fn parts_alone(mem: &[u64], s: &Shape, table: &[u32; 128], keys: &mut [u16; 4096]) -> bool {
+    ranks_alone(mem, s, table, keys);
+    let mut good = list_alone(mem, s, keys);
+    for k in 0..mem[7] as usize {
+        let (ok, requested, busy) = blocks_alone(mem, s, mem[s.partial(2, k)] as usize);
+        good &= ok & (requested <= busy);
     }
-    for partials in [8, 64, 400] {
-        blocks_floor(partials);
-    }
+    good
 }
