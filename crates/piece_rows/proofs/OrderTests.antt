@@ -69,17 +69,18 @@ placeAt xs k = pieceWord xs (piecesOn xs) 5 k
 unfoldable pub leftOf : Picker → List ℕ → ℕ → ℕ
 leftOf d before j = cond (member j before) 0 (rank d j)
 
--- what is left decides, the keys are those of the places not passed, and the last place has rank `last`
-pub record Ordering (n : ℕ) (xs keys : List ℕ) (last k : ℕ) : Type 0 where
+-- what is left decides, the keys are those of the places not passed, and the last place has rank `last`; there are w keys
+pub record Ordering (n w : ℕ) (xs keys : List ℕ) (last k : ℕ) : Type 0 where
   pub within : k ≤ headWord xs 6
   pub left : orderOk (decode xs) (tab k (placeAt xs)) (tail (placeAt xs) k (headWord xs 6)) ≡ orderOk (decode xs) [] (listHeld xs (piecesOn xs))
   pub least : 1 ≤ last
   pub key : (j : ℕ) → j < n → getD keys j 0 ≡ leftOf (decode xs) (tab k (placeAt xs)) j
   pub lasts : (x : ℕ) → 0 < rank (decode xs) x
       → leb (rank (decode xs) (lastOf x (tab k (placeAt xs)))) (rank (decode xs) x) ≡ leb last (rank (decode xs) x)
-  pub wide : length keys ≡ 4096
+  pub long : n ≤ w
+  pub wide : length keys ≡ w
 
-pub ordering-start : (s : Shape) (keys xs : List ℕ) → Keyed s keys xs → Ordering (s .pieces) xs keys 1 0
+pub ordering-start : (s : Shape) (keys xs : List ℕ) → Keyed s keys xs → Ordering (s .pieces) (length keys) xs keys 1 0
 unfolding listHeld placeAt tab member some? lastOf leftOf
 ordering-start s keys xs r = record {
   within = omega arith;
@@ -87,7 +88,8 @@ ordering-start s keys xs r = record {
   least = omega arith;
   key = r .ranks;
   lasts = λ x h. le-leb (rank (decode xs) x) (rank (decode xs) x) (omega arith) ∙ sym (le-leb 1 (rank (decode xs) x) (omega arith));
-  wide = r .long;
+  long = r .long;
+  wide = refl;
 }
 
 -- a rank, a place not passed and a rank that does not fall: one test of the key does for all three
@@ -104,7 +106,7 @@ rank-left : (passed : Bool) (rank : ℕ) → 1 ≤ cond passed 0 rank → cond p
 rank-left true rank h = absurd (omega arith)
 rank-left false rank h = refl
 
-module _ (s : Shape) (keys₀ xs : List ℕ) (r : Keyed s keys₀ xs) (keys : List ℕ) (last k : ℕ) (p : Ordering (s .pieces) xs keys last k) where
+module _ (s : Shape) (keys₀ xs : List ℕ) (r : Keyed s keys₀ xs) (w : ℕ) (keys : List ℕ) (last k : ℕ) (p : Ordering (s .pieces) w xs keys last k) where
   step : k < headWord xs 6 → orderOk (decode xs) (tab k (placeAt xs)) (tail (placeAt xs) k (headWord xs 6))
       ≡ (placeOk (decode xs) (tab k (placeAt xs)) (placeAt xs k) && orderOk (decode xs) (tab (k + 1) (placeAt xs)) (tail (placeAt xs) (k + 1) (headWord xs 6)))
   unfolding orderOk
@@ -112,10 +114,10 @@ module _ (s : Shape) (keys₀ xs : List ℕ) (r : Keyed s keys₀ xs) (keys : Li
       ap (orderOk (decode xs) (tab k (placeAt xs))) (tail-next (placeAt xs) k (headWord xs 6) h)
       ∙ ap (λ (l : List ℕ). placeOk (decode xs) (tab k (placeAt xs)) (placeAt xs k) && orderOk (decode xs) l (tail (placeAt xs) (k + 1) (headWord xs 6))) (sym (front-next (placeAt xs) k))
 
-  module _ (h : k < headWord xs 6) (w x : ℕ) (ew : w ≡ pieceWord xs (s .pieces) 5 k) (ex : x ≡ w) where
+  module _ (h : k < headWord xs 6) (v x : ℕ) (ev : v ≡ pieceWord xs (s .pieces) 5 k) (ex : x ≡ v) where
     x-is : placeAt xs k ≡ x
     unfolding placeAt
-    x-is = sym (ex ∙ ew ∙ ap (λ (n : ℕ). pieceWord xs n 5 k) (r .house .pieces))
+    x-is = sym (ex ∙ ev ∙ ap (λ (n : ℕ). pieceWord xs n 5 k) (r .house .pieces))
 
     test-is : placeOk (decode xs) (tab k (placeAt xs)) (placeAt xs k) ≡ (ltb x (s .pieces) && leb last (leftOf (decode xs) (tab k (placeAt xs)) x))
     unfolding placeOk leftOf
@@ -139,7 +141,7 @@ module _ (s : Shape) (keys₀ xs : List ℕ) (r : Keyed s keys₀ xs) (keys : Li
       passes j m =
           rw (front-next (placeAt xs) k, x-is, member-behind) (elim (ℕ-discrete j x) [
             | yes q ↦ ap (λ (i : ℕ). getD (set keys x 0) i 0) q
-                ∙ getD-set-same keys x 0 0 (omega (arith, p .wide, r .house .spans .sizes .many)) ∙ sym (rw (eq-eqb j x q, or-true))
+                ∙ getD-set-same keys x 0 0 (omega (arith, p .long, p .wide)) ∙ sym (rw (eq-eqb j x q, or-true))
             | no q ↦ getD-set-other keys x j 0 0 q ∙ p .key j m ∙ sym (rw (ne-eqb j x q, or-false))
           ])
 
@@ -148,7 +150,7 @@ module _ (s : Shape) (keys₀ xs : List ℕ) (r : Keyed s keys₀ xs) (keys : Li
         unfolding leftOf
         key-is = sym (p .key x l ∙ rank-left (member x (tab k (placeAt xs))) (rank (decode xs) x) (omega (arith, p .key x l, p .least)))
 
-        pub next-place : Ordering (s .pieces) xs (set keys x 0) (getD keys x 0) (k + 1)
+        pub next-place : Ordering (s .pieces) w xs (set keys x 0) (getD keys x 0) (k + 1)
         next-place = record {
           within = omega arith;
           left =
@@ -157,6 +159,7 @@ module _ (s : Shape) (keys₀ xs : List ℕ) (r : Keyed s keys₀ xs) (keys : Li
           least = omega (arith, p .least);
           key = passes;
           lasts = λ y q. rw (front-next (placeAt xs) k, last-behind y (placeAt xs k) (tab k (placeAt xs)), x-is, key-is);
+          long = p .long;
           wide = length-set keys x 0 ∙ p .wide;
         }
 

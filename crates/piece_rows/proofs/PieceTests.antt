@@ -204,7 +204,7 @@ module _ (s : Shape) (xs : List ℕ) (r : Housed s xs) where
         rows-bad e = record {
           is = sym (sym (pieces-are (s .pieces - 1) _ _ (omega (arith, some-piece)) refl refl) ∙ rw (sym (p .is) ∙ e));
           ranks = λ q. absurd (true≢false (sym q));
-          long = p .long;
+          long = omega (arith, p .long, e0 .long);
         }
 
         pub rows-good : t ≡ true → (last pad long : ℕ) → last + 1 ≡ s .pieces → pad ≡ pieceWord xs (s .pieces) 4 last
@@ -212,5 +212,5 @@ module _ (s : Shape) (xs : List ℕ) (r : Housed s xs) where
         rows-good e last pad long el ep eg = record {
           is = sym (sym (pieces-are last pad long el ep eg) ∙ rw (sym (p .is) ∙ e));
           ranks = λ q i h. p .ranks e i (omega (arith, e0 .long)) ∙ key-at i h;
-          long = p .long;
+          long = omega (arith, p .long, e0 .long);
         }

@@ -67,7 +67,7 @@ unfoldable pub rangesOk : ℕ → ℕ → ℕ → ℕ → Bool
 rangesOk n seeds cursor reverse = leb seeds mostPeers && (leb cursor n && leb reverse n)
 
 -- ---- all pieces
--- columns of one length, and no longer than the table of keys
+-- columns of one length, as many as a picker has pieces at most
 pub record Level (counts states wishes hads pads : List ℕ) : Type 0 where
   pub most : length counts ≤ 4096
   pub states-long : length states ≡ length counts
@@ -88,13 +88,13 @@ keyIn seeds counts states wishes hads i = rankFrom seeds (getD counts i 0) (getD
 pub record Passed (test : ℕ → Bool) (key : ℕ → ℕ) (n : ℕ) (r : Bool) (keys : List ℕ) : Type 0 where
   pub is : r ≡ every test (from 0 n)
   pub ranks : r ≡ true → (i : ℕ) → i < n → getD keys i 0 ≡ key i
-  pub long : length keys ≡ 4096
+  pub long : n ≤ length keys
 
 -- what their test leaves: its answer, and the ranks where it passes
 pub record Sifted (s : Shape) (r : Bool) (keys xs : List ℕ) : Type 0 where
   pub is : r ≡ goodPieces xs
   pub ranks : r ≡ true → Ranks keys (s .pieces) xs
-  pub long : length keys ≡ 4096
+  pub long : s .pieces ≤ length keys
 
 -- ---- the list
 -- under which its test runs: the head passed, and the keys are the pieces' ranks
@@ -102,7 +102,7 @@ pub record Keyed (s : Shape) (keys xs : List ℕ) : Type 0 where
   pub house : Housed s xs
   pub head : goodHead xs ≡ true
   pub ranks : Ranks keys (s .pieces) xs
-  pub long : length keys ≡ 4096
+  pub long : s .pieces ≤ length keys
 
 -- how many of the first n keys are not 0
 unfoldable pub rankedIn : List ℕ → ℕ → ℕ

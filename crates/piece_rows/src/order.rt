@@ -13,8 +13,8 @@ ghost use Rattle.piece_rows.specs.Memory.{goodList};
 ghost use Rattle.piece_rows.specs.Rows.{Keyed, rankedIn};
 
 // How many of the first n keys are not 0. The count has as many bits as a key, so that eight are counted at once.
-fn ranked(keys: &[u16; 4096], n: usize) -> usize
-    requires { ⌜ (n ≤ 4096) × (length (now keys) ≡ 4096) ⌝ }
+fn ranked(keys: &[u16], n: usize) -> usize
+    requires { ⌜ (n ≤ 4096) × (n ≤ length (now keys)) ⌝ }
     ensures { λ r. ⌜ r ≡ rankedIn (now (keys .entry)) n ⌝ }
 {
     let mut many: u16 = 0;
@@ -30,7 +30,7 @@ fn ranked(keys: &[u16; 4096], n: usize) -> usize
 
 // The places one after another. The key of a place that was passed becomes 0, and `last` is the rank of the last one; a key that is 0 is
 // below it, as is one that falls.
-fn places_ok(mem: &[u64], s: Shape, keys: &mut [u16; 4096]) -> bool
+fn places_ok(mem: &[u64], s: Shape, keys: &mut [u16]) -> bool
     requires { ⌜ Keyed s (now keys) (now mem) ⌝ }
     ensures { λ r. ⌜ r ≡ orderOk (decode (now (mem .entry))) [] (listHeld (now (mem .entry)) (piecesOn (now (mem .entry)))) ⌝ }
 {
@@ -55,7 +55,7 @@ fn places_ok(mem: &[u64], s: Shape, keys: &mut [u16; 4096]) -> bool
 }
 
 // The keys do not last: what was passed is 0.
-pub fn order_ok(mem: &[u64], s: Shape, keys: &mut [u16; 4096]) -> bool
+pub fn order_ok(mem: &[u64], s: Shape, keys: &mut [u16]) -> bool
     requires { ⌜ Keyed s (now keys) (now mem) ⌝ }
     ensures { λ r. ⌜ r ≡ goodList (now (mem .entry)) ⌝ }
 {

@@ -24,10 +24,10 @@ fn rows_pass(
     pads: &[u64],
     seeds: u64,
     size: u64,
-    keys: &mut [u16; 4096],
+    keys: &mut [u16],
 ) -> bool
     requires { ⌜ Level (now counts) (now states) (now wishes) (now hads) (now pads) ⌝ }
-    requires { ⌜ (seeds ≤ 1000) × (length (now keys) ≡ 4096) ⌝ }
+    requires { ⌜ (seeds ≤ 1000) × (length (now counts) ≤ length (now keys)) ⌝ }
     ensures { λ r. ⌜ Passed (rowIn seeds size (now (counts .entry)) (now (states .entry)) (now (wishes .entry)) (now (hads .entry)) (now (pads .entry))) (keyIn seeds (now (counts .entry)) (now (states .entry)) (now (wishes .entry)) (now (hads .entry))) (length (now (counts .entry))) r (now (keys .exit)) ⌝ }
 {
     let table = weights();
@@ -49,10 +49,10 @@ fn rows_pass(
 
 // Where it passes, the first keys are the pieces' ranks; nothing is said of the others. Only the last piece may be shorter than the
 // piece size, so its pad is tested once more.
-pub fn pieces_ok(mem: &[u64], s: Shape, keys: &mut [u16; 4096]) -> bool
+pub fn pieces_ok(mem: &[u64], s: Shape, keys: &mut [u16]) -> bool
     requires { ⌜ Housed s (now mem) ⌝ }
     requires { ⌜ goodHead (now mem) ≡ true ⌝ }
-    requires { ⌜ length (now keys) ≡ 4096 ⌝ }
+    requires { ⌜ s .pieces ≤ length (now keys) ⌝ }
     ensures { λ r. ⌜ Sifted s r (now (keys .exit)) (now (mem .entry)) ⌝ }
 {
     let size = head_word(mem, 1);

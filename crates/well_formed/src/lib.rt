@@ -14,6 +14,8 @@ use piece_rows::pieces_ok;
 use place_rows::places_ok;
 ghost use mathlib.Core.Path.{_≡_};
 ghost use mathlib.Core.Bool.{true, _&&_};
+ghost use Prim.Native.Nat.{_≤_};
+ghost use lib.ListN.{length};
 ghost use Rattle.layout.specs.Layout.{ShapeOf};
 ghost use Rattle.piece_rows.specs.Memory.{roomy, goodHead, goodPieces, goodPlaces, goodPartials, goodExtents, goodList, goodMemory};
 
@@ -30,15 +32,15 @@ pub fn fits(mem: &[u64]) -> bool
     words_needed(num_pieces(mem[0], mem[1]), blocks_per_piece(mem[1])) <= mem.len() as u64
 }
 
-// Pieces, places, partials, extents and list, where the head is good.
-fn rows_ok(mem: &[u64], s: Shape) -> bool
+// Pieces, places, partials, extents and list, where the head is good. The keys are lent for the pieces' ranks.
+fn rows_with(mem: &[u64], s: Shape, keys: &mut [u16]) -> bool
     requires { ⌜ roomy (now mem) ≡ true ⌝ }
     requires { ⌜ ShapeOf s (now mem) ⌝ }
     requires { ⌜ goodHead (now mem) ≡ true ⌝ }
+    requires { ⌜ s .pieces ≤ length (now keys) ⌝ }
     ensures { λ r. ⌜ r ≡ (goodPieces (now (mem .entry)) && (goodPlaces (now (mem .entry)) && (goodPartials (now (mem .entry)) && (goodExtents (now (mem .entry)) && goodList (now (mem .entry)))))) ⌝ }
 {
-    let mut keys = [0; 4096];
-    if !pieces_ok(mem, s, &mut keys) {
+    if !pieces_ok(mem, s, keys) {
         return false;
     }
     if !places_ok(mem, s) {
@@ -50,7 +52,22 @@ fn rows_ok(mem: &[u64], s: Shape) -> bool
     if !extents_ok(mem, s) {
         return false;
     }
-    order_ok(mem, s, &mut keys)
+    order_ok(mem, s, keys)
+}
+
+// The same with keys of its own. A small picker has few, since each is cleared.
+fn rows_ok(mem: &[u64], s: Shape) -> bool
+    requires { ⌜ roomy (now mem) ≡ true ⌝ }
+    requires { ⌜ ShapeOf s (now mem) ⌝ }
+    requires { ⌜ goodHead (now mem) ≡ true ⌝ }
+    ensures { λ r. ⌜ r ≡ (goodPieces (now (mem .entry)) && (goodPlaces (now (mem .entry)) && (goodPartials (now (mem .entry)) && (goodExtents (now (mem .entry)) && goodList (now (mem .entry)))))) ⌝ }
+{
+    if s.pieces <= 512 {
+        let mut keys = [0; 512];
+        return rows_with(mem, s, &mut keys);
+    }
+    let mut keys = [0; 4096];
+    rows_with(mem, s, &mut keys)
 }
 
 // The memory holds a well-formed picker.

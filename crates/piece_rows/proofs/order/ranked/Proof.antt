@@ -19,8 +19,8 @@ loop-holds c = counting-start _ _
 mul-if1 : tie.Need-mul-if1 Inv-loop μ-loop
 mul-if1 c = search needs
 
-element-copy-out-if1 : tie.Need-element-copy-out-if1 Inv-loop μ-loop
-element-copy-out-if1 c = search needs
+shared-slice-read-if1 : tie.Need-shared-slice-read-if1 Inv-loop μ-loop
+shared-slice-read-if1 c = search needs
 
 add-many : tie.Need-add-many Inv-loop μ-loop
 add-many c = search needs
@@ -52,7 +52,7 @@ ranked-spec =
     μ-loop
     loop-holds
     mul-if1
-    element-copy-out-if1
+    shared-slice-read-if1
     add-many
     add-i
     loop-less
