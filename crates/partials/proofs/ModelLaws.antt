@@ -1,5 +1,5 @@
 -- Where the partials stand by rising piece, the changes by place are the model's changes by piece. Assumes nothing.
-use mathlib.Core.Path.{_≡_, refl, sym, ap}
+use mathlib.Core.Path.{_≡_, refl, sym, ap, _∙_}
 use mathlib.Core.Bool.{true, not}
 use mathlib.Core.List.{List, [], _∷_}
 use Prim.Native.Nat.{ℕ, zero, suc, _≤_, _<_}
@@ -9,10 +9,13 @@ use lib.ListN.{getD}
 use borrow.Author.Tests.{eq-eqb, ne-eqb}
 use Rattle.model.specs.Lists.{at, size, put, without, filter, each}
 use Rattle.model.specs.State.{Partial, Picker, withPartials}
-use Rattle.model.specs.Partials.{putIn, putPartial, dropPartial}
+use Rattle.model.specs.Partials.{partialOf, putIn, putPartial, dropPartial}
 use Rattle.model.specs.Sound.{partialsFrom}
-use Rattle.model.proofs.PartialLaws.{from-head, from-tail, another}
+use Rattle.model.proofs.PartialLaws.{from-head, from-tail, another, findIn-piece, drop-none}
 use Rattle.layout.specs.Layout.{noPartial, partialIn, withPartial}
+use Rattle.records.specs.declared.slots.Found.the-variants.{At, Nothing}
+use Rattle.records.specs.Finding.{placeFrom}
+use Rattle.records.proofs.FindLaws.{place-found, place-nothing}
 
 -- a piece below all of them is none's
 module _ (i lo : ℕ) (h : i < lo) where
@@ -70,3 +73,17 @@ module _ (s : Picker) (k : ℕ) (h : k < size (s .partials)) (r : partialsFrom 0
   pub with-is-put : (f : Partial → Partial) → f (partialIn s k) .piece ≡ partialIn s k .piece → withPartial k f s ≡ putPartial (f (partialIn s k)) s
   unfolding withPartial putPartial partialIn
   with-is-put f e = ap (λ (ds : List Partial). withPartials ds s) (put-puts 0 (s .partials) k (f (at noPartial (s .partials) k)) h e r)
+
+-- ---- by the place that is found
+module _ (s : Picker) (i : ℕ) where
+  -- the partial found is closed by its piece
+  pub closed-is : partialsFrom 0 (s .partials) ≡ true → (k : ℕ) → placeFrom 0 i (s .partials) ≡ At k → withPartials (without k (s .partials)) s ≡ dropPartial i s
+  unfolding partialOf
+  closed-is r k e =
+      let g = place-found s i k e in
+      remove-is-drop s k (g .0) r ∙ ap (λ (j : ℕ). dropPartial j s) (findIn-piece i (s .partials) (partialIn s k) (g .1))
+
+  -- none is found, and none is closed
+  pub none-closed : placeFrom 0 i (s .partials) ≡ Nothing → s ≡ dropPartial i s
+  unfolding dropPartial partialOf withPartials
+  none-closed e = ap (λ (ds : List Partial). withPartials ds s) (sym (drop-none i (s .partials) (place-nothing s i e)))

@@ -33,7 +33,7 @@ pub fn open_at(mem: &mut [u64], s: layout::Shape, q: usize, piece: u64)
 }
 
 // Those after q move down by one, and its place is free.
-pub fn remove(mem: &mut [u64], s: layout::Shape, q: usize)
+pub fn close_at(mem: &mut [u64], s: layout::Shape, q: usize)
     requires { ⌜ Room s (now mem) ⌝ }
     requires { ⌜ q < headWord (now mem) 7 ⌝ }
     ensures { λ _. ⌜ Became s (now (mem .entry)) (now (mem .exit)) (withPartials (without q (decode (now (mem .entry)) .partials)) (decode (now (mem .entry)))) ⌝ }

@@ -1,4 +1,4 @@
--- `partials::remove` meets its contract: those from q up to k have moved down.
+-- `partials::close_at` meets its contract: those from q up to k have moved down.
 use mathlib.Core.Path.{_∙_, ap}
 use Prim.Native.Nat.{ℕ, _-_}
 use native.Mathlib.Omega.{arith}
@@ -6,8 +6,8 @@ use lib.ListN.{length, set, length-set}
 use Rattle.layout.proofs.RoomLaws.{became-at}
 use Rattle.partials.proofs.ShiftLaws.{Falling, falling-start, falling-next, shut-became}
 use borrow.Author.Needs.{needs}
-use Rattle.partials.proofs.shifts.remove.Statement.{statement}
-use Rattle.partials.proofs.shifts.remove.Tie as tie
+use Rattle.partials.proofs.shifts.close_at.Statement.{statement}
+use Rattle.partials.proofs.shifts.close_at.Tie as tie
 
 abbrev Inv-loop : tie.InvT-loop
 Inv-loop mem₀ s q n last gone k₀ mem k = Falling s mem₀ q last k mem
@@ -71,8 +71,8 @@ returns c =
     (shut-became (a .s) (a .mem .now) (c .before .before .before .before .before .before .before .before .before .before .before .before .before .before .before .before .before .pre .0) (a .q) (c .before .before .before .before .before .before .before .before .before .before .before .before .before .idx .result - 1) (l .k) (l .mem) (c .before .before .before .before .before .before .before .put-record2 .last .0) (l .inv) (omega (arith, c .before .before .before .before .before .before .before .before .before .before .before .before .before .idx .ensures, c .before .before .before .before .before .before .before .before .before .before .before .before .before .before .head-word .ensures, c .before .before .before .before .before .before .before .before .before .before .before .before .before .before .before .before .before .pre .1)) (omega arith) _
     (c .before .before .before .before .before .before .before .before .before .before .before .get-record .ensures) (c .before .before .before .before .before .before .before .put-record2 .ensures))
 
-pub remove-spec : {M : Type 1} → statement M
-remove-spec =
+pub close-at-spec : {M : Type 1} → statement M
+close-at-spec =
     tie.close
     (tie.spec
     Inv-loop
