@@ -11,6 +11,7 @@ pub use spots::Shape;
 pub use spots::idx;
 pub use spots::list_start;
 pub use spots::shape_of;
+pub use spots::short;
 pub use spots::word;
 pub use states::plain_state;
 pub use states::state_number;

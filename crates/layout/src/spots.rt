@@ -29,6 +29,14 @@ pub fn word(x: usize) -> u64
     x as u64
 }
 
+// A small word in 16 bits.
+pub fn short(x: u64) -> u16
+    requires { ⌜ x < 65536 ⌝ }
+    ensures { λ r. ⌜ r ≡ x ⌝ }
+{
+    x as u16
+}
+
 fn lesser(a: usize, b: usize) -> usize
     ensures { λ r. ⌜ r ≡ min a b ⌝ }
 {

@@ -47,14 +47,6 @@ pub fn rank(mem: &[u64], s: layout::Shape, piece: types::PieceIndex) -> u64
     rank_at(mem, s, piece.get())
 }
 
-// A rank as a key.
-fn key(x: u64) -> u16
-    requires { ⌜ x < 65536 ⌝ }
-    ensures { λ r. ⌜ r ≡ x ⌝ }
-{
-    x as u16
-}
-
 // The ranks of all pieces. The keys behind them stay as they were.
 pub fn rank_pieces(mem: &[u64], s: layout::Shape, keys: &mut [u16; 4096])
     requires { ⌜ Room s (now mem) ⌝ }
@@ -65,7 +57,7 @@ pub fn rank_pieces(mem: &[u64], s: layout::Shape, keys: &mut [u16; 4096])
     let n = s.pieces;
     let mut i = 0;
     while i < n {
-        keys[i] = key(rank_at(mem, s, i));
+        keys[i] = layout::short(rank_at(mem, s, i));
         i += 1;
     }
 }

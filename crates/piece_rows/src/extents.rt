@@ -1,9 +1,9 @@
 // The test of the extents: each in range, and none twice.
-use crate::numbers::idx;
-use crate::numbers::word;
 use geometry::num_extents;
 use layout::Shape;
 use layout::head_word;
+use layout::idx;
+use layout::word;
 ghost use mathlib.Core.Path.{_≡_};
 ghost use mathlib.Core.Bool.{true};
 ghost use Prim.Native.Nat.{_≤_};

@@ -1,7 +1,7 @@
 // The test of the head: flags and numbers have room, and seeds and cursors are in range.
-use crate::numbers::word;
 use layout::head_word;
 use layout::shape_of;
+use layout::word;
 ghost use mathlib.Core.Path.{_≡_};
 ghost use mathlib.Core.Bool.{true};
 ghost use Prim.Native.Nat.{_≤_};

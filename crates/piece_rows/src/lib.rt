@@ -1,7 +1,6 @@
 // The test of a picker's memory: head, pieces, extents and list.
 mod extents;
 mod head;
-mod numbers;
 mod order;
 mod pieces;
 mod rows;

@@ -1,7 +1,7 @@
 // The test of the list: as many places as pieces with a bucket, each place such a piece, none twice, ranks never falling.
-use crate::numbers::idx;
 use layout::Shape;
 use layout::head_word;
+use layout::idx;
 use layout::piece_word;
 ghost use mathlib.Core.Path.{_≡_};
 ghost use mathlib.Core.List.{[]};

@@ -1,5 +1,4 @@
 // The test of all pieces in one pass, which also fills in their ranks.
-use crate::numbers::word;
 use crate::rows::piece_ok;
 use crate::weights::key_of;
 use crate::weights::weights;
@@ -8,6 +7,7 @@ use layout::Shape;
 use layout::head_word;
 use layout::piece_column;
 use layout::piece_word;
+use layout::word;
 ghost use mathlib.Core.Path.{_≡_};
 ghost use mathlib.Core.Bool.{true};
 ghost use Prim.Native.Nat.{_≤_, _<_};

@@ -1,6 +1,6 @@
 // The rank of a piece that is not had, by a table over state and wish: one product with its count is left.
-use crate::numbers::idx;
-use crate::numbers::short;
+use layout::idx;
+use layout::short;
 ghost use mathlib.Core.Path.{_≡_};
 ghost use Rattle.piece_rows.specs.Rows.{rankFrom, Ranked, weightRows};
 
