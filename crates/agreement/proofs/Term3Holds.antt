@@ -8,16 +8,16 @@ use mathlib.Core.Option.{none}
 use lib.Dec.{ltb}
 use borrow.Author.Tests.{le-ltb}
 use Rattle.model.specs.State.{Picker, validGeometry, new}
-use Rattle.model.specs.WellFormed.{wellFormed}
-use Rattle.model.specs.Sound.{Sound}
-use Rattle.model.specs.Image.{image, Read, accepted, faultAt, readImage}
+use Rattle.model.specs.image.WellFormed.{wellFormed}
+use Rattle.model.specs.image.Sound.{Sound}
+use Rattle.model.specs.image.Image.{image, Read, accepted, faultAt, readImage}
 use Rattle.model.specs.Calls.{answers, run, memoryNeeded, made, notMade, within, newPicker, readWithin, readPicker}
-use Rattle.model.proofs.NewSound.{new-sound}
-use Rattle.model.proofs.KeepCalls.{run-keeps}
-use Rattle.model.proofs.SoundLaws.{wellFormed-sound, sound-wellFormed}
-use Rattle.model.proofs.ImageLaws.{image-accepted, accepted-image, image-injective}
-use Rattle.agreement.specs.Term3.{Begun, fromNew, fromImage, Reached, led, Term3}
-use Rattle.model.proofs.Told.{pickers-same}
+use Rattle.model.proofs.sound.NewSound.{new-sound}
+use Rattle.model.proofs.keep.KeepCalls.{run-keeps}
+use Rattle.model.proofs.sound.SoundLaws.{wellFormed-sound, sound-wellFormed}
+use Rattle.model.proofs.image.ImageLaws.{image-accepted, accepted-image, image-injective}
+use Rattle.agreement.specs.Term3.{Started, fromNew, fromImage, Reached, after, Term3}
+use Rattle.model.proofs.image.Replies.{pickers-same}
 
 -- ---- what a call makes
 -- a picker that is made with enough memory is the one that was to be made
@@ -29,12 +29,12 @@ within-made lent s t e = go (ltb lent (memoryNeeded s)) e
     go true e = let z : _≡_ {A = ℕ} 0 1 = cc in absurd (omega arith)
     go false e = cc
 
-made-new : (lent total size : ℕ) (s : Picker) → newPicker lent total size ≡ made s → (validGeometry total size ≡ true) × (new total size ≡ s)
+made-new : (lent totalSize pieceSize : ℕ) (s : Picker) → newPicker lent totalSize pieceSize ≡ made s → (validGeometry totalSize pieceSize ≡ true) × (new totalSize pieceSize ≡ s)
 unfolding newPicker
-made-new lent total size s e = go (validGeometry total size) refl e
+made-new lent totalSize pieceSize s e = go (validGeometry totalSize pieceSize) refl e
   where
-    go : (b : Bool) → validGeometry total size ≡ b → cond b (within lent (new total size)) (notMade 1 none) ≡ made s → (validGeometry total size ≡ true) × (new total size ≡ s)
-    go true p e = (p, within-made lent (new total size) s e)
+    go : (b : Bool) → validGeometry totalSize pieceSize ≡ b → cond b (within lent (new totalSize pieceSize)) (notMade 1 none) ≡ made s → (validGeometry totalSize pieceSize ≡ true) × (new totalSize pieceSize ≡ s)
+    go true p e = (p, within-made lent (new totalSize pieceSize) s e)
     go false p e = let z : _≡_ {A = ℕ} 0 1 = cc in absurd (omega arith)
 
 made-read : (lent : ℕ) (bytes : List ℕ) (s : Picker) → readPicker lent bytes ≡ made s → readImage bytes ≡ accepted s
@@ -50,14 +50,14 @@ unfolding within
 within-enough lent s h = rw (le-ltb lent (memoryNeeded s) h)
 
 -- ---- reached pickers are well-formed
-begun-sound : {s : Picker} → Begun s → Sound s
-begun-sound (fromNew lent total size s e) =
-    let m = made-new lent total size s e in
-    subst Sound (m .1) (new-sound total size (m .0))
+begun-sound : {s : Picker} → Started s → Sound s
+begun-sound (fromNew lent totalSize pieceSize s e) =
+    let m = made-new lent totalSize pieceSize s e in
+    subst Sound (m .1) (new-sound totalSize pieceSize (m .0))
 begun-sound (fromImage lent bytes s e) = wellFormed-sound s (accepted-image bytes s (made-read lent bytes s e) .1)
 
 reached-sound : {s : Picker} → Reached s → Sound s
-reached-sound (led b calls) = run-keeps _ calls (begun-sound b)
+reached-sound (after b calls) = run-keeps _ calls (begun-sound b)
 
 reached-well : {s : Picker} → Reached s → wellFormed s ≡ true
 reached-well r = sound-wellFormed _ (reached-sound r)

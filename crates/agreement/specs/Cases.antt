@@ -7,19 +7,19 @@ use lib.ListN.{replicate}
 use Rattle.types.specs.declared.queue.DownloadQueue.{DownloadQueue}
 use Rattle.types.specs.declared.queue.DownloadQueue.the-variants.{Downloading, Open, DownloadingReverse}
 use Rattle.model.specs.Lists.{bit, filter, each, from}
-use Rattle.model.specs.Bep3.{numPieces, blocksInPiece, bitAt}
+use Rattle.model.specs.Bep3.{numPieces, pieceBlocks, bitAt}
 use Rattle.model.specs.State.{Piece, Picker, withPieces, extentFor, extentStart, extentEnd, new}
-use Rattle.model.specs.Order.{bucket, draw, rebuilt}
+use Rattle.model.specs.list.Order.{bucket, draw, rebuilt}
 use Rattle.model.specs.Options.{alignExpandedPieces}
-use Rattle.model.specs.Blocks.{Ask, Span, wholePieces, spanOf}
-use Rattle.model.specs.Pick.{forced}
+use Rattle.model.specs.pick.Blocks.{PickRequest, Span, wholePieces, spanOf}
+use Rattle.model.specs.pick.Pick.{forced}
 
 -- ---- what a case asks
 pub data Query : Type 0 where
-  -- the bucket of a piece with this count, state and wish, under so many seeds
-  bucketOf : (seeds count : ℕ) → DownloadQueue → (wish : ℕ) → Query
+  -- the bucket of a piece with this count, state and priority, under so many seeds
+  bucketOf : (seeds peerCount : ℕ) → DownloadQueue → (priority : ℕ) → Query
   -- the pieces of a torrent, and the blocks of the last one
-  geometryOf : (total size : ℕ) → Query
+  geometryOf : (totalSize pieceSize : ℕ) → Query
   -- whether D partials of b blocks are too many for the peers
   forcedBy : (partials b peers : ℕ) → Query
   -- the extent of a piece, with its first piece and its last, among n pieces of b blocks
@@ -28,25 +28,25 @@ pub data Query : Type 0 where
   runAround : (n b options run given piece : ℕ) → Query
   -- the pieces that a bitfield of these bytes has, among n
   piecesIn : (n : ℕ) → List ℕ → Query
-  -- the list of two Open pieces of these counts and wishes, rebuilt
-  listOf : (count wish count′ wish′ : ℕ) → Query
+  -- the list of two Open pieces of these counts and priorities, rebuilt
+  listOf : (peerCount priority count′ wish′ : ℕ) → Query
   -- the draw of a word with a limit
   drawOf : (word limit : ℕ) → Query
 
 -- ---- how it is asked
 unfoldable pub pieceOf : ℕ → DownloadQueue → ℕ → Piece
-pieceOf count state wish = record { count = count; state = state; wish = wish; had = false; pad = 0 }
+pieceOf peerCount state priority = record { peerCount = peerCount; state = state; priority = priority; flushed = false; padBytes = 0 }
 
 -- n Open pieces of b blocks
 unfoldable pub openPicker : ℕ → ℕ → Picker
 openPicker n b = new (n * b * 16384) (b * 16384)
 
-unfoldable pub askOf : ℕ → ℕ → ℕ → Ask
-askOf n options run =
+unfoldable pub requestOf : ℕ → ℕ → ℕ → PickRequest
+requestOf n options run =
     record {
       options = options;
       wanted = 1;
-      run = run;
+      contiguous = run;
       peers = 0;
       peer = none;
       bits = n;
@@ -56,16 +56,16 @@ askOf n options run =
 
 unfoldable pub spanAround : ℕ → ℕ → ℕ → ℕ → ℕ → ℕ → Span
 spanAround n b options run given piece =
-    spanOf (askOf n options run) (openPicker n b) piece (wholePieces b (record { asked = run; given = given }))
+    spanOf (requestOf n options run) (openPicker n b) piece (wholePieces b (record { asked = run; given = given }))
 
 unfoldable pub numbers : List ℕ → List (Option ℕ)
 numbers ns = each (λ n. some n) ns
 
 -- what the definitions give; none is document 01's −1
 unfoldable pub give : Query → List (Option ℕ)
-give (bucketOf seeds count state wish) = bucket seeds (pieceOf count state wish) ∷ []
-give (geometryOf total size) =
-    numbers (numPieces total size ∷ blocksInPiece total size (numPieces total size - 1) ∷ [])
+give (bucketOf seeds peerCount state priority) = bucket seeds (pieceOf peerCount state priority) ∷ []
+give (geometryOf totalSize pieceSize) =
+    numbers (numPieces totalSize pieceSize ∷ pieceBlocks totalSize pieceSize (numPieces totalSize pieceSize - 1) ∷ [])
 give (forcedBy partials b peers) = numbers (bit (forced partials b peers) ∷ [])
 give (extentOf n b piece) =
     let s = openPicker n b in
@@ -75,8 +75,8 @@ give (runAround n b options run given piece) =
     let x = spanAround n b options run given piece in
     numbers (x .first ∷ (x .end - 1) ∷ [])
 give (piecesIn n bytes) = numbers (filter (bitAt bytes) (from 0 n))
-give (listOf count wish count′ wish′) =
-    numbers (rebuilt [] 0 (withPieces (pieceOf count Open wish ∷ pieceOf count′ Open wish′ ∷ []) (new 2 1)))
+give (listOf peerCount priority count′ wish′) =
+    numbers (rebuilt [] 0 (withPieces (pieceOf peerCount Open priority ∷ pieceOf count′ Open wish′ ∷ []) (new 2 1)))
 give (drawOf word limit) = numbers (draw (word ∷ []) 0 limit ∷ [])
 
 -- ---- the table

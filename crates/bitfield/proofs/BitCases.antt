@@ -3,7 +3,8 @@ use mathlib.Core.Path.{_≡_, refl}
 use mathlib.Core.Bool.{true, false}
 use mathlib.Core.List.{[], _∷_}
 use Rattle.model.specs.Bep3.{partsOf, bitfieldBytes, bitOf, bitAt}
-use Rattle.bitfield.specs.Bitfield.{countBits, everySet, allSet, firstFrom, firstSet, lastClear, nextBit, digits, fromBits, putRun, putBit, filled, grown, roomFor}
+use Rattle.bitfield.specs.Bitfield.{countBits, everySet, allSet, firstFrom, firstSet, lastClear, nextBit, digits, fromBits, putRun}
+use Rattle.bitfield.specs.Bitfield.{putBit, filled, grown, roomFor}
 use Rattle.model.specs.Lists.{bit}
 use Rattle.bitfield.specs.declared.Stored.the-variants.{Done, TooShort}
 use Rattle.bitfield.specs.declared.Found.the-variants.{At, Nothing}

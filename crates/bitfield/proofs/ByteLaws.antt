@@ -11,7 +11,7 @@ use lib.Dec.{eqb, leb}
 use lib.ListN.{length, getD}
 use lib.Bits.{bitOr, bitXor, differ, or-shr, or-step, or-lt, xor-shr, xor-step, xor-lt}
 use Rattle.model.specs.Bep3.{bitOf, bitAt}
-use Rattle.model.proofs.Bep3Laws.{bitAt-head, bitAt-tail, bitAt-past, bitAt-same}
+use Rattle.model.proofs.base.Bep3Laws.{bitAt-head, bitAt-tail, bitAt-past, bitAt-same}
 use Rattle.bitfield.specs.Bitfield.{digits, withMask, fromBits}
 use Rattle.model.specs.Lists.{bit}
 

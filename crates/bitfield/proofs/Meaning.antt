@@ -9,7 +9,7 @@ use lib.Dec.{ltb, eqb}
 use lib.ListN.{length, getD}
 use borrow.Author.Tests.{lt-ltb, le-ltb, eq-eqb, ne-eqb}
 use Rattle.model.specs.Bep3.{bitfieldBytes, bitAt, spareZero}
-use Rattle.model.proofs.Bep3Laws.{bitfieldBytes-room, bitAt-past, spareZero-all}
+use Rattle.model.proofs.base.Bep3Laws.{bitfieldBytes-room, bitAt-past, spareZero-all}
 use Rattle.bitfield.specs.Bitfield.{digits, putRun, putBit, filled, countBits, everySet, firstFrom, firstSet, lastClear}
 use Rattle.model.specs.Lists.{bit}
 use Rattle.bitfield.proofs.ByteLaws.{Bytes, byte-is, at-byte}

@@ -10,9 +10,10 @@ use lib.ListN.{length, getD, set, length-set}
 use lib.Seq.{getD-set-same, getD-set-other}
 use borrow.Author.Tests.{lt-ltb, le-ltb, le-leb, lt-leb, eq-eqb, ne-eqb}
 use Rattle.model.specs.Bep3.{bitfieldBytes, bitOf, bitAt}
-use Rattle.model.proofs.Bep3Laws.{bitAt-past, bitfieldBytes-room}
+use Rattle.model.proofs.base.Bep3Laws.{bitAt-past, bitfieldBytes-room}
 use Rattle.bitfield.specs.Bitfield.{withMask, putRun, filled}
-use Rattle.bitfield.proofs.ByteLaws.{Bytes, digits-lt, byte-bit, length-fromBits, fromBits-bytes, fromBits-at, fromBits-is, at-byte, one-bit, rest-bits}
+use Rattle.bitfield.proofs.ByteLaws.{Bytes, digits-lt, byte-bit, length-fromBits, fromBits-bytes, fromBits-at, fromBits-is, at-byte}
+use Rattle.bitfield.proofs.ByteLaws.{one-bit, rest-bits}
 
 -- ---- a run of bits
 -- whether i lies in the run

@@ -8,7 +8,7 @@ use native.Mathlib.Decide.{decLe, decLt}
 use native.Mathlib.Omega.{arith}
 use lib.ListN.{length}
 use Rattle.model.specs.Bep3.{bitAt, noneSet}
-use Rattle.model.proofs.Bep3Laws.{bitAt-past}
+use Rattle.model.proofs.base.Bep3Laws.{bitAt-past}
 use Rattle.bitfield.specs.Bitfield.{countBits, everySet, firstFrom, lastClear}
 use Rattle.model.specs.Lists.{bit}
 use Rattle.bitfield.specs.declared.Found.{Found}

@@ -14,8 +14,8 @@ use Rattle.types.specs.declared.queue.DownloadQueue.the-variants.{Downloading, 
 use Rattle.types.specs.declared.queue.DownloadQueue.the-variants.{FullReverse}
 use Rattle.types.specs.Queue.{queueNumber}
 use Rattle.model.specs.State.{Piece, sameQueue, isOpen}
-use Rattle.model.specs.Order.{unlisted, adjustment, bucketNumber, bucket, rankOf}
-use Rattle.model.proofs.Tallies.{cond-both}
+use Rattle.model.specs.list.Order.{unlisted, adjustment, bucketNumber, bucket, rankOf}
+use Rattle.model.proofs.base.Counts.{cond-both}
 use Rattle.bucket.specs.Ranks.{unlistedBy, off, Numbers, IsRank}
 
 -- ---- the tests
@@ -25,17 +25,17 @@ any false true z s u = refl
 any false false true s u = refl
 any false false false s u = refl
 
-no-peer : (count seeds : ℕ) → (eqb count 0 && eqb seeds 0) ≡ eqb (count + seeds) 0
-no-peer count seeds = elim (ℕ-discrete count 0) [
-  | yes e ↦ (let z : count + seeds ≡ seeds = omega arith in rw (eq-eqb count 0 e, z))
-  | no e ↦ rw (ne-eqb count 0 e) (sym (ne-eqb (count + seeds) 0 (λ (q : count + seeds ≡ 0). absurd (omega arith))))
+no-peer : (peerCount seeds : ℕ) → (eqb peerCount 0 && eqb seeds 0) ≡ eqb (peerCount + seeds) 0
+no-peer peerCount seeds = elim (ℕ-discrete peerCount 0) [
+  | yes e ↦ (let z : peerCount + seeds ≡ seeds = omega arith in rw (eq-eqb peerCount 0 e, z))
+  | no e ↦ rw (ne-eqb peerCount 0 e) (sym (ne-eqb (peerCount + seeds) 0 (λ (q : peerCount + seeds ≡ 0). absurd (omega arith))))
 ]
 
 -- the tests of the code
-pub tests : (seeds count state wish : ℕ) (had : Bool)
-    → ((((eqb wish 0 || had) || (eqb count 0 && eqb seeds 0)) || eqb state 1) || eqb state 2) ≡ unlistedBy seeds count state wish had
+pub tests : (seeds peerCount state priority : ℕ) (flushed : Bool)
+    → ((((eqb priority 0 || flushed) || (eqb peerCount 0 && eqb seeds 0)) || eqb state 1) || eqb state 2) ≡ unlistedBy seeds peerCount state priority flushed
 unfolding unlistedBy
-tests seeds count state wish had = any (eqb wish 0) had _ (eqb state 1) (eqb state 2) ∙ rw (no-peer count seeds)
+tests seeds peerCount state priority flushed = any (eqb priority 0) flushed _ (eqb state 1) (eqb state 2) ∙ rw (no-peer peerCount seeds)
 
 wanted : (a b : Bool) → (a || b) ≡ false → a ≡ false
 wanted true b e = absurd (true≢false e)
@@ -76,27 +76,27 @@ off-least state =
     (λ t. cond-both (λ (n : ℕ). (1 ≤ n) × (n ≤ 3)) (eqb state 4) _ _ (λ u. (omega arith, omega arith)) (λ u. (omega arith, omega arith)))
 
 -- ---- the rank
-module _ (seeds count state wish : ℕ) (had : Bool) where
-  unlisted-is : (p : Piece) → Numbers count state wish had p → unlistedBy seeds count state wish had ≡ unlisted seeds p
+module _ (seeds peerCount state priority : ℕ) (flushed : Bool) where
+  unlisted-is : (p : Piece) → Numbers peerCount state priority flushed p → unlistedBy seeds peerCount state priority flushed ≡ unlisted seeds p
   unfolding unlistedBy unlisted sameQueue
   unlisted-is p m = rw (← m .counts, ← m .states, ← m .wishes, ← m .haves)
 
   -- a piece in no bucket
-  pub rank-none : unlistedBy seeds count state wish had ≡ true → IsRank seeds count state wish had 0
+  pub rank-none : unlistedBy seeds peerCount state priority flushed ≡ true → IsRank seeds peerCount state priority flushed 0
   unfolding bucket rankOf
   rank-none e = record { is = λ p m. rw (sym (unlisted-is p m) ∙ e); low = omega arith }
 
-  module _ (e : unlistedBy seeds count state wish had ≡ false) (hc : count ≤ 1000) (hw : wish ≤ 7) where
-    some : wish ≢ 0
+  module _ (e : unlistedBy seeds peerCount state priority flushed ≡ false) (hc : peerCount ≤ 1000) (hw : priority ≤ 7) where
+    some : priority ≢ 0
     unfolding unlistedBy
-    some q = absurd (true≢false (sym (eq-eqb wish 0 q) ∙ wanted (eqb wish 0) _ e))
+    some q = absurd (true≢false (sym (eq-eqb priority 0 q) ∙ wanted (eqb priority 0) _ e))
 
     -- the product is at least 1, and at most 7,007
-    pub product : (1 ≤ (count + 1) * (8 - wish)) × ((count + 1) * (8 - wish) ≤ 7007)
+    pub product : (1 ≤ (peerCount + 1) * (8 - priority)) × ((peerCount + 1) * (8 - priority) ≤ 7007)
     product =
         let w = some in
-        let a : count + 1 ≤ 1001 = omega arith in
-        let c : 8 - wish ≤ 7 = omega arith in
+        let a : peerCount + 1 ≤ 1001 = omega arith in
+        let c : 8 - priority ≤ 7 = omega arith in
         (one-le-mul (omega arith) (omega arith), mul-le-mul a c)
 
     -- what is taken off is 1 to 3
@@ -104,7 +104,7 @@ module _ (seeds count state wish : ℕ) (had : Bool) where
     taken-off = off-least state
 
     -- a piece in a bucket
-    pub rank-some : (d : ℕ) → d ≡ off state → IsRank seeds count state wish had ((count + 1) * (8 - wish) * 3 - d + 1)
+    pub rank-some : (d : ℕ) → d ≡ off state → IsRank seeds peerCount state priority flushed ((peerCount + 1) * (8 - priority) * 3 - d + 1)
     unfolding bucket rankOf bucketNumber
     rank-some d ed = record {
       is = λ p m. (

@@ -4,7 +4,7 @@ ghost use mathlib.Core.Path.{_≡_};
 ghost use Prim.Native.Nat.{_<_};
 ghost use Rattle.types.specs.Piece.{indexOf};
 ghost use Rattle.types.specs.Queue.{queueNumber};
-ghost use Rattle.model.specs.State.{pieceAt, withPiece, withCount, withState, withWish, withHad};
+ghost use Rattle.model.specs.State.{pieceAt, withPiece, withPeerCount, withState, withPriority, withFlushed};
 ghost use Rattle.layout.specs.Layout.{decode, queueFrom, pieceWord, pieceWith, Room, Became};
 
 // Field f of a piece: 0 count, 1 state, 2 wish, 3 had, 4 pad.
@@ -30,7 +30,7 @@ fn set_field(mem: &mut [u64], s: layout::Shape, f: usize, piece: PieceIndex, v: 
 pub fn get_count(mem: &[u64], s: layout::Shape, piece: PieceIndex) -> u64
     requires { ⌜ Room s (now mem) ⌝ }
     requires { ⌜ indexOf (piece .0) < s .pieces ⌝ }
-    ensures { λ r. ⌜ r ≡ pieceAt (decode (now (mem .entry))) (indexOf (piece .0)) .count ⌝ }
+    ensures { λ r. ⌜ r ≡ pieceAt (decode (now (mem .entry))) (indexOf (piece .0)) .peerCount ⌝ }
 {
     field(mem, s, 0, piece)
 }
@@ -38,7 +38,7 @@ pub fn get_count(mem: &[u64], s: layout::Shape, piece: PieceIndex) -> u64
 pub fn set_count(mem: &mut [u64], s: layout::Shape, piece: PieceIndex, v: u64)
     requires { ⌜ Room s (now mem) ⌝ }
     requires { ⌜ indexOf (piece .0) < s .pieces ⌝ }
-    ensures { λ _. ⌜ Became s (now (mem .entry)) (now (mem .exit)) (withPiece (indexOf (piece .0)) (withCount v) (decode (now (mem .entry)))) ⌝ }
+    ensures { λ _. ⌜ Became s (now (mem .entry)) (now (mem .exit)) (withPiece (indexOf (piece .0)) (withPeerCount v) (decode (now (mem .entry)))) ⌝ }
 {
     set_field(mem, s, 0, piece, v);
 }
@@ -64,7 +64,7 @@ pub fn set_state(mem: &mut [u64], s: layout::Shape, piece: PieceIndex, v: u64)
 pub fn get_wish(mem: &[u64], s: layout::Shape, piece: PieceIndex) -> u64
     requires { ⌜ Room s (now mem) ⌝ }
     requires { ⌜ indexOf (piece .0) < s .pieces ⌝ }
-    ensures { λ r. ⌜ r ≡ pieceAt (decode (now (mem .entry))) (indexOf (piece .0)) .wish ⌝ }
+    ensures { λ r. ⌜ r ≡ pieceAt (decode (now (mem .entry))) (indexOf (piece .0)) .priority ⌝ }
 {
     field(mem, s, 2, piece)
 }
@@ -72,7 +72,7 @@ pub fn get_wish(mem: &[u64], s: layout::Shape, piece: PieceIndex) -> u64
 pub fn set_wish(mem: &mut [u64], s: layout::Shape, piece: PieceIndex, v: u64)
     requires { ⌜ Room s (now mem) ⌝ }
     requires { ⌜ indexOf (piece .0) < s .pieces ⌝ }
-    ensures { λ _. ⌜ Became s (now (mem .entry)) (now (mem .exit)) (withPiece (indexOf (piece .0)) (withWish v) (decode (now (mem .entry)))) ⌝ }
+    ensures { λ _. ⌜ Became s (now (mem .entry)) (now (mem .exit)) (withPiece (indexOf (piece .0)) (withPriority v) (decode (now (mem .entry)))) ⌝ }
 {
     set_field(mem, s, 2, piece, v);
 }
@@ -80,7 +80,7 @@ pub fn set_wish(mem: &mut [u64], s: layout::Shape, piece: PieceIndex, v: u64)
 pub fn get_had(mem: &[u64], s: layout::Shape, piece: PieceIndex) -> bool
     requires { ⌜ Room s (now mem) ⌝ }
     requires { ⌜ indexOf (piece .0) < s .pieces ⌝ }
-    ensures { λ r. ⌜ r ≡ pieceAt (decode (now (mem .entry))) (indexOf (piece .0)) .had ⌝ }
+    ensures { λ r. ⌜ r ≡ pieceAt (decode (now (mem .entry))) (indexOf (piece .0)) .flushed ⌝ }
 {
     field(mem, s, 3, piece) == 1
 }
@@ -88,7 +88,7 @@ pub fn get_had(mem: &[u64], s: layout::Shape, piece: PieceIndex) -> bool
 pub fn set_had(mem: &mut [u64], s: layout::Shape, piece: PieceIndex)
     requires { ⌜ Room s (now mem) ⌝ }
     requires { ⌜ indexOf (piece .0) < s .pieces ⌝ }
-    ensures { λ _. ⌜ Became s (now (mem .entry)) (now (mem .exit)) (withPiece (indexOf (piece .0)) withHad (decode (now (mem .entry)))) ⌝ }
+    ensures { λ _. ⌜ Became s (now (mem .entry)) (now (mem .exit)) (withPiece (indexOf (piece .0)) withFlushed (decode (now (mem .entry)))) ⌝ }
 {
     set_field(mem, s, 3, piece, 1);
 }
@@ -96,7 +96,7 @@ pub fn set_had(mem: &mut [u64], s: layout::Shape, piece: PieceIndex)
 pub fn get_pad(mem: &[u64], s: layout::Shape, piece: PieceIndex) -> u64
     requires { ⌜ Room s (now mem) ⌝ }
     requires { ⌜ indexOf (piece .0) < s .pieces ⌝ }
-    ensures { λ r. ⌜ r ≡ pieceAt (decode (now (mem .entry))) (indexOf (piece .0)) .pad ⌝ }
+    ensures { λ r. ⌜ r ≡ pieceAt (decode (now (mem .entry))) (indexOf (piece .0)) .padBytes ⌝ }
 {
     field(mem, s, 4, piece)
 }

@@ -6,7 +6,7 @@ use native.Mathlib.Decide.{ℕ-discrete}
 use native.Mathlib.Omega.{arith}
 use borrow.Author.Tests.{eq-eqb, ne-eqb}
 use Rattle.model.specs.Bep3.{partsOf}
-use Rattle.model.specs.State.{extentSize, extentsOf}
+use Rattle.model.specs.State.{extentSize, numExtents}
 use Rattle.geometry.specs.Numbers.{extentOf, extentBegin, extentEnd}
 use Rattle.geometry.proofs.PartLaws.{part-starts, least-left, least-right}
 
@@ -17,13 +17,13 @@ unfolding extentSize
 size-none b h = rw (h, div-zero)
 
 -- nor has one of 256
-pub extents-none : (n b : ℕ) → b ≡ 256 → 0 ≡ extentsOf n b
-unfolding extentsOf
+pub extents-none : (n b : ℕ) → b ≡ 256 → 0 ≡ numExtents n b
+unfolding numExtents
 extents-none n b h = rw (eq-eqb b 256 h)
 
 -- else the pieces are cut into parts
-pub extents-parts : (n b : ℕ) → (b ≡ 256 → ⊥) → partsOf n (extentSize b) ≡ extentsOf n b
-unfolding extentsOf partsOf
+pub extents-parts : (n b : ℕ) → (b ≡ 256 → ⊥) → partsOf n (extentSize b) ≡ numExtents n b
+unfolding numExtents partsOf
 extents-parts n b h = rw (ne-eqb b 256 h)
 
 -- an extent without pieces is number 0
@@ -38,7 +38,7 @@ begin-same b e is = rw is
 
 module _ (n b e : ℕ) {long : ℕ} (is : long ≡ extentSize b) where
   -- it starts before the end
-  pub extent-starts : e < extentsOf n b → e * long < n
+  pub extent-starts : e < numExtents n b → e * long < n
   extent-starts h = elim (ℕ-discrete b 256) [
     | yes eq ↦ absurd (omega (arith, extents-none n b eq))
     | no ne ↦ rw is (part-starts n (extentSize b) e (rw (sym (extents-parts n b ne)) at h))

@@ -5,7 +5,7 @@ use Prim.Native.Nat.{ℕ, _+_, _*_, _≤_}
 use native.Mathlib.Nat.{mul-le-mul}
 use native.Mathlib.Omega.{arith}
 use Rattle.model.specs.Lists.{least}
-use Rattle.model.specs.Bep3.{numPieces, blocksPerPiece}
+use Rattle.model.specs.Bep3.{numPieces, wholePieceBlocks}
 use Rattle.model.specs.State.{validGeometry}
 use Rattle.model.specs.Calls.{wordsNeeded}
 use Rattle.geometry.specs.Needs.{Small, Parts, largestImage, wordsFor, bytesFor}
@@ -32,19 +32,19 @@ module _ (n b : ℕ) {m : ℕ} (small : Small n b) (is : m ≡ least n 512) wher
   }
 
 -- ---- of a geometry
-module _ (total size : ℕ) where
-  pub words-valid : validGeometry total size ≡ true → wordsNeeded (numPieces total size) (blocksPerPiece size) ≡ wordsFor total size
+module _ (totalSize pieceSize : ℕ) where
+  pub words-valid : validGeometry totalSize pieceSize ≡ true → wordsNeeded (numPieces totalSize pieceSize) (wholePieceBlocks pieceSize) ≡ wordsFor totalSize pieceSize
   unfolding wordsFor
   words-valid h = rw h
 
-  pub words-none : validGeometry total size ≡ false → 0 ≡ wordsFor total size
+  pub words-none : validGeometry totalSize pieceSize ≡ false → 0 ≡ wordsFor totalSize pieceSize
   unfolding wordsFor
   words-none h = rw h
 
-  pub bytes-valid : validGeometry total size ≡ true → largestImage (numPieces total size) (blocksPerPiece size) ≡ bytesFor total size
+  pub bytes-valid : validGeometry totalSize pieceSize ≡ true → largestImage (numPieces totalSize pieceSize) (wholePieceBlocks pieceSize) ≡ bytesFor totalSize pieceSize
   unfolding bytesFor
   bytes-valid h = rw h
 
-  pub bytes-none : validGeometry total size ≡ false → 0 ≡ bytesFor total size
+  pub bytes-none : validGeometry totalSize pieceSize ≡ false → 0 ≡ bytesFor totalSize pieceSize
   unfolding bytesFor
   bytes-none h = rw h

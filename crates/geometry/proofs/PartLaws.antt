@@ -7,7 +7,7 @@ use native.Mathlib.Omega.{arith}
 use borrow.Author.Tests.{le-leb, lt-leb}
 use Rattle.model.specs.Lists.{least}
 use Rattle.model.specs.Bep3.{partsOf, partLength}
-use Rattle.model.proofs.Bep3Laws.{lt-partsOf}
+use Rattle.model.proofs.base.Bep3Laws.{lt-partsOf}
 
 -- ---- how many
 -- none of nothing

@@ -2,12 +2,12 @@
 -- `b` is the number of blocks of a whole piece, `n` the number of pieces.
 use Prim.Native.Nat.{ℕ, _+_, _-_, _*_, _/_, _≤_}
 use Rattle.model.specs.Lists.{least}
-use Rattle.model.specs.Bep3.{numPieces, blockLength, blocksPerPiece, blocksInPiece}
-use Rattle.model.specs.State.{mostPieces, mostPieceSize, extentBlocks, extentSize}
+use Rattle.model.specs.Bep3.{numPieces, blockLength, wholePieceBlocks, pieceBlocks}
+use Rattle.model.specs.State.{maxPieces, maxPieceSize, extentBlocks, extentSize}
 
 -- the blocks of piece i that hold more than pad bytes, where it has so many pad bytes
 unfoldable pub payloadBlocks : ℕ → ℕ → ℕ → ℕ → ℕ
-payloadBlocks total size i pad = blocksInPiece total size i - pad / blockLength size
+payloadBlocks totalSize pieceSize i pad = pieceBlocks totalSize pieceSize i - pad / blockLength pieceSize
 
 -- the extent of piece i
 unfoldable pub extentOf : ℕ → ℕ → ℕ
@@ -21,11 +21,11 @@ unfoldable pub extentEnd : ℕ → ℕ → ℕ → ℕ
 extentEnd n b e = least (extentBegin b e + extentSize b) n
 
 -- ---- the bounds of a valid geometry
-pub record Bounds (total size : ℕ) : Type 0 where
-  pub some-total : 1 ≤ total
-  pub some-size : 1 ≤ size
-  pub size-most : size ≤ mostPieceSize
-  pub some-pieces : 1 ≤ numPieces total size
-  pub pieces-most : numPieces total size ≤ mostPieces
-  pub some-blocks : 1 ≤ blocksPerPiece size
-  pub blocks-most : blocksPerPiece size ≤ extentBlocks
+pub record Bounds (totalSize pieceSize : ℕ) : Type 0 where
+  pub some-total : 1 ≤ totalSize
+  pub some-size : 1 ≤ pieceSize
+  pub size-most : pieceSize ≤ maxPieceSize
+  pub some-pieces : 1 ≤ numPieces totalSize pieceSize
+  pub pieces-most : numPieces totalSize pieceSize ≤ maxPieces
+  pub some-blocks : 1 ≤ wholePieceBlocks pieceSize
+  pub blocks-most : wholePieceBlocks pieceSize ≤ extentBlocks

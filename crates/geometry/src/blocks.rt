@@ -8,7 +8,7 @@ use types::PieceIndex;
 ghost use mathlib.Core.Path.{_≡_};
 ghost use Prim.Native.Nat.{_<_};
 ghost use Rattle.types.specs.Piece.{indexOf};
-ghost use Rattle.model.specs.Bep3.{numPieces, blockLength, blockLengthAt, blocksIn, blocksPerPiece, blocksInPiece};
+ghost use Rattle.model.specs.Bep3.{numPieces, blockLength, blockLengthAt, blockCount, wholePieceBlocks, pieceBlocks};
 ghost use Rattle.geometry.specs.Numbers.{payloadBlocks};
 
 // The length of a whole block.
@@ -20,7 +20,7 @@ pub fn block_size(size: u64) -> u64
 
 // The number of blocks of so many bytes. The divisor is a constant where pieces are longer than a block.
 fn blocks_of(long: u64, size: u64) -> u64
-    ensures { λ r. ⌜ r ≡ blocksIn long size ⌝ }
+    ensures { λ r. ⌜ r ≡ blockCount long size ⌝ }
 {
     if 16384 < size {
         return parts_of(long, 16384);
@@ -30,7 +30,7 @@ fn blocks_of(long: u64, size: u64) -> u64
 
 // The number of blocks of a whole piece.
 pub fn blocks_per_piece(size: u64) -> u64
-    ensures { λ r. ⌜ r ≡ blocksPerPiece size ⌝ }
+    ensures { λ r. ⌜ r ≡ wholePieceBlocks size ⌝ }
 {
     blocks_of(size, size)
 }
@@ -38,7 +38,7 @@ pub fn blocks_per_piece(size: u64) -> u64
 // The number of blocks of piece p, for a number that is a word of memory.
 pub fn blocks_at(total: u64, size: u64, p: u64) -> u64
     requires { ⌜ p < numPieces total size ⌝ }
-    ensures { λ r. ⌜ r ≡ blocksInPiece total size p ⌝ }
+    ensures { λ r. ⌜ r ≡ pieceBlocks total size p ⌝ }
 {
     blocks_of(piece_length(total, size, p), size)
 }
@@ -46,7 +46,7 @@ pub fn blocks_at(total: u64, size: u64, p: u64) -> u64
 // The number of blocks of a piece.
 pub fn blocks_in_piece(total: u64, size: u64, piece: PieceIndex) -> u64
     requires { ⌜ indexOf (piece .0) < numPieces total size ⌝ }
-    ensures { λ r. ⌜ r ≡ blocksInPiece total size (indexOf (piece .0)) ⌝ }
+    ensures { λ r. ⌜ r ≡ pieceBlocks total size (indexOf (piece .0)) ⌝ }
 {
     blocks_at(total, size, number_of(piece))
 }
@@ -64,7 +64,7 @@ pub fn payload_blocks_in_piece(total: u64, size: u64, piece: PieceIndex, pad: u6
 // The length of block j of a piece.
 pub fn block_length(total: u64, size: u64, piece: PieceIndex, j: u64) -> u64
     requires { ⌜ indexOf (piece .0) < numPieces total size ⌝ }
-    requires { ⌜ j < blocksInPiece total size (indexOf (piece .0)) ⌝ }
+    requires { ⌜ j < pieceBlocks total size (indexOf (piece .0)) ⌝ }
     ensures { λ r. ⌜ r ≡ blockLengthAt total size (indexOf (piece .0)) j ⌝ }
 {
     part_length(piece_size(total, size, piece), block_size(size), j)

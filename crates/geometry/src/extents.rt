@@ -5,7 +5,7 @@ use types::PieceIndex;
 ghost use mathlib.Core.Path.{_≡_};
 ghost use Prim.Native.Nat.{_<_};
 ghost use Rattle.types.specs.Piece.{indexOf};
-ghost use Rattle.model.specs.State.{extentSize, extentsOf};
+ghost use Rattle.model.specs.State.{extentSize, numExtents};
 ghost use Rattle.geometry.specs.Numbers.{extentOf, extentBegin, extentEnd};
 
 // The pieces from `begin` up to and without `end`.
@@ -26,7 +26,7 @@ pub fn extent_size(b: u64) -> u64
 
 // How many extents n pieces have.
 pub fn num_extents(n: u64, b: u64) -> u64
-    ensures { λ r. ⌜ r ≡ extentsOf n b ⌝ }
+    ensures { λ r. ⌜ r ≡ numExtents n b ⌝ }
 {
     if b == 256 {
         return 0;
@@ -47,7 +47,7 @@ pub fn extent_for(b: u64, piece: PieceIndex) -> u64
 
 // The pieces of extent e, of n pieces in all: the last extent may be shorter.
 pub fn extent_pieces(n: u64, b: u64, e: u64) -> PieceRange
-    requires { ⌜ e < extentsOf n b ⌝ }
+    requires { ⌜ e < numExtents n b ⌝ }
     ensures { λ r. ⌜ (r .begin ≡ extentBegin b e) × (r .end ≡ extentEnd n b e) ⌝ }
 {
     let long = extent_size(b);

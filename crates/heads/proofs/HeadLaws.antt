@@ -7,8 +7,8 @@ use Prim.Native.Nat.{ℕ, suc, _+_, _-_, _≤_, _<_}
 use native.Mathlib.Omega.{arith}
 use native.Mathlib.Decide.{ℕ-discrete}
 use lib.ListN.{length, set, length-set}
-use Rattle.model.specs.Lists.{at, without}
-use Rattle.model.specs.State.{withSeeds, withCursors, withListing, withExtents, outdated, fresh}
+use Rattle.model.specs.Lists.{nth, removeNth}
+use Rattle.model.specs.State.{withSeeds, withCursors, withListing, withRecentExtents, markDirty, fresh}
 use Rattle.layout.specs.declared.spots.Shape.{Shape}
 use Rattle.layout.specs.Tables.{tab, front, choose}
 use Rattle.layout.specs.Layout.{pieceSpot, headWord, yes?, extentsHeld, listWords, decode, headWith, Room, Became}
@@ -16,7 +16,8 @@ use Rattle.layout.proofs.TabLaws.{tab-without}
 use Rattle.layout.proofs.Same.{head-other, head-stored}
 use Rattle.layout.proofs.Stores.{decode-list, list-kept, list-words}
 use Rattle.heads.specs.Lines.{Entered}
-use Rattle.layout.proofs.HeadStores.{Behind, behind-none, behind-store, head-kept, decode-head, relisted-kept, decode-relisted, extents-kept, decode-extents}
+use Rattle.layout.proofs.HeadStores.{Behind, behind-none, behind-store, head-kept, decode-head, updated-kept, decode-updated, extents-kept}
+use Rattle.layout.proofs.HeadStores.{decode-extents}
 
 -- ---- seeds and cursors
 module _ (s : Shape) (xs : List ℕ) (r : Room s xs) (v : ℕ) where
@@ -37,16 +38,16 @@ module _ (s : Shape) (xs : List ℕ) (r : Room s xs) (v : ℕ) where
 
 -- ---- the list
 module _ (s : Shape) (xs : List ℕ) (r : Room s xs) where
-  pub stale-set : Became s xs (set (set xs 6 0) 5 1) (outdated (decode xs))
-  unfolding outdated yes?
-  stale-set = record { is = decode-relisted s xs r 0 1 (omega arith) (λ e. refl); kept = relisted-kept s xs r 0 1 (omega arith) (λ e. refl) }
+  pub dirty-set : Became s xs (set (set xs 6 0) 5 1) (markDirty (decode xs))
+  unfolding markDirty yes?
+  dirty-set = record { is = decode-updated s xs r 0 1 (omega arith) (λ e. refl); kept = updated-kept s xs r 0 1 (omega arith) (λ e. refl) }
 
   pub list-set : (len : ℕ) → len ≤ s .pieces → Became s xs (set (set xs 6 len) 5 0) (withListing (fresh (front len (listWords xs (s .pieces)))) (decode xs))
   unfolding yes?
   list-set len h =
       record {
-        is = decode-relisted s xs r len 0 h (λ e. absurd (true≢false (sym e)));
-        kept = relisted-kept s xs r len 0 h (λ e. absurd (true≢false (sym e)));
+        is = decode-updated s xs r len 0 h (λ e. absurd (true≢false (sym e)));
+        kept = updated-kept s xs r len 0 h (λ e. absurd (true≢false (sym e)));
       }
 
   -- an entry stored
@@ -71,7 +72,7 @@ closing-start s xs p n r e h =
     record {
       behind = λ t. behind-none t xs;
       room = r .spans .head;
-      few = rw e (r .extents);
+      few = rw e (r .recentExtents);
       from = omega arith;
       within = h;
       before = λ g l. refl;
@@ -125,21 +126,21 @@ module _ (s : Shape) (xs : List ℕ) (r : Room s xs) (p n j : ℕ) (ys : List �
   upper : (k : ℕ) → headWord shortened (9 + k) ≡ headWord ys (9 + k)
   upper k = head-other ys 8 j (9 + k) (λ e. omega arith)
 
-  extents-less : extentsHeld shortened ≡ without p (extentsHeld xs)
+  extents-less : extentsHeld shortened ≡ removeNth p (extentsHeld xs)
   unfolding extentsHeld
   extents-less =
       ap (λ (k : ℕ). tab k (λ i. headWord shortened (9 + i))) word8
       ∙ tab-without j (λ i. headWord xs (9 + i)) (λ i. headWord shortened (9 + i)) p (c .from)
       (λ i h. upper i ∙ c .before (9 + i) (omega arith)) (λ i h l. upper i ∙ c .moved i h l)
-      ∙ ap (λ (k : ℕ). without p (tab k (λ i. headWord xs (9 + i)))) (omega (arith, c .within))
+      ∙ ap (λ (k : ℕ). removeNth p (tab k (λ i. headWord xs (9 + i)))) (omega (arith, c .within))
 
   few : headWord shortened 8 ≤ 5
-  few = rw word8 (omega (arith, r .extents))
+  few = rw word8 (omega (arith, r .recentExtents))
 
-  pub extent-removed : Became s xs shortened (withExtents (without p (decode xs .extents)) (decode xs))
+  pub extent-removed : Became s xs shortened (withRecentExtents (removeNth p (decode xs .recentExtents)) (decode xs))
   extent-removed =
       record {
-        is = decode-extents s xs shortened r behind-end lower few ∙ ap (λ (l : List ℕ). withExtents l (decode xs)) extents-less;
+        is = decode-extents s xs shortened r behind-end lower few ∙ ap (λ (l : List ℕ). withRecentExtents l (decode xs)) extents-less;
         kept = extents-kept s xs shortened r behind-end lower few;
       }
 
@@ -149,7 +150,7 @@ pub closing-again : (xs : List ℕ) (p n j : ℕ) (ys : List ℕ) → Closing xs
 closing-again xs p n j ys c h v zs e q = rw (q, e) (closing-next xs p n j ys c h)
 
 pub extent-gone : (s : Shape) (xs : List ℕ) → Room s xs → (p n j : ℕ) (ys : List ℕ) → Closing xs p n j ys → n ≡ headWord xs 8 → n ≤ j + 1 → (w : ℕ) (zs : List ℕ) → w ≡ n - 1 → zs ≡ set ys 8 w
-    → Became s xs zs (withExtents (without p (decode xs .extents)) (decode xs))
+    → Became s xs zs (withRecentExtents (removeNth p (decode xs .recentExtents)) (decode xs))
 extent-gone s xs r p n j ys c e h w zs q o =
     let k : w ≡ j = omega (arith, c .within) in
     rw (o, k) (extent-removed s xs r p n j ys c e h)

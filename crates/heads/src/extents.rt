@@ -2,29 +2,29 @@
 ghost use mathlib.Core.Path.{_≡_};
 ghost use mathlib.Core.List.{_++_, _∷_, []};
 ghost use Prim.Native.Nat.{_<_};
-ghost use Rattle.model.specs.Lists.{at, size, without};
-ghost use Rattle.model.specs.State.{withExtents};
+ghost use Rattle.model.specs.Lists.{nth, len, removeNth};
+ghost use Rattle.model.specs.State.{withRecentExtents};
 ghost use Rattle.layout.specs.Layout.{decode, Room, Became};
 
 pub fn extent_count(mem: &[u64], s: layout::Shape) -> usize
     requires { ⌜ Room s (now mem) ⌝ }
-    ensures { λ r. ⌜ r ≡ size (decode (now (mem .entry)) .extents) ⌝ }
+    ensures { λ r. ⌜ r ≡ len (decode (now (mem .entry)) .recentExtents) ⌝ }
 {
     layout::idx(layout::head_word(mem, 8))
 }
 
 pub fn extent(mem: &[u64], s: layout::Shape, k: usize) -> u64
     requires { ⌜ Room s (now mem) ⌝ }
-    requires { ⌜ k < size (decode (now mem) .extents) ⌝ }
-    ensures { λ r. ⌜ r ≡ at 0 (decode (now (mem .entry)) .extents) k ⌝ }
+    requires { ⌜ k < len (decode (now mem) .recentExtents) ⌝ }
+    ensures { λ r. ⌜ r ≡ nth 0 (decode (now (mem .entry)) .recentExtents) k ⌝ }
 {
     layout::head_word(mem, 9 + k)
 }
 
 pub fn push_extent(mem: &mut [u64], s: layout::Shape, v: u64)
     requires { ⌜ Room s (now mem) ⌝ }
-    requires { ⌜ size (decode (now mem) .extents) < 5 ⌝ }
-    ensures { λ _. ⌜ Became s (now (mem .entry)) (now (mem .exit)) (withExtents (decode (now (mem .entry)) .extents ++ (v ∷ [])) (decode (now (mem .entry)))) ⌝ }
+    requires { ⌜ len (decode (now mem) .recentExtents) < 5 ⌝ }
+    ensures { λ _. ⌜ Became s (now (mem .entry)) (now (mem .exit)) (withRecentExtents (decode (now (mem .entry)) .recentExtents ++ (v ∷ [])) (decode (now (mem .entry)))) ⌝ }
 {
     let n = layout::idx(layout::head_word(mem, 8));
     layout::set_head_word(mem, 9 + n, v);
@@ -35,8 +35,8 @@ pub fn push_extent(mem: &mut [u64], s: layout::Shape, v: u64)
 // Those after place p move down by one.
 pub fn remove_extent(mem: &mut [u64], s: layout::Shape, p: usize)
     requires { ⌜ Room s (now mem) ⌝ }
-    requires { ⌜ p < size (decode (now mem) .extents) ⌝ }
-    ensures { λ _. ⌜ Became s (now (mem .entry)) (now (mem .exit)) (withExtents (without p (decode (now (mem .entry)) .extents)) (decode (now (mem .entry)))) ⌝ }
+    requires { ⌜ p < len (decode (now mem) .recentExtents) ⌝ }
+    ensures { λ _. ⌜ Became s (now (mem .entry)) (now (mem .exit)) (withRecentExtents (removeNth p (decode (now (mem .entry)) .recentExtents)) (decode (now (mem .entry)))) ⌝ }
 {
     let n = layout::idx(layout::head_word(mem, 8));
     let mut j = p;

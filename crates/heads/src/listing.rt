@@ -2,15 +2,15 @@
 ghost use mathlib.Core.Path.{_≡_};
 ghost use Prim.Native.Nat.{_<_, _≤_};
 ghost use lib.ListN.{length};
-ghost use Rattle.model.specs.Lists.{size};
-ghost use Rattle.model.specs.State.{isStale, orderOf, outdated, withListing, fresh};
+ghost use Rattle.model.specs.Lists.{len};
+ghost use Rattle.model.specs.State.{isDirty, listOf, markDirty, withListing, fresh};
 ghost use Rattle.layout.specs.Tables.{front};
 ghost use Rattle.layout.specs.Layout.{decode, listWords, Room, Became};
 ghost use Rattle.heads.specs.Lines.{Entry, Entered};
 
 pub fn is_stale(mem: &[u64], s: layout::Shape) -> bool
     requires { ⌜ Room s (now mem) ⌝ }
-    ensures { λ r. ⌜ r ≡ isStale (decode (now (mem .entry)) .listing) ⌝ }
+    ensures { λ r. ⌜ r ≡ isDirty (decode (now (mem .entry)) .listing) ⌝ }
 {
     layout::head_word(mem, 5) == 1
 }
@@ -18,7 +18,7 @@ pub fn is_stale(mem: &[u64], s: layout::Shape) -> bool
 // 0 where the list is stale.
 pub fn list_length(mem: &[u64], s: layout::Shape) -> usize
     requires { ⌜ Room s (now mem) ⌝ }
-    ensures { λ r. ⌜ r ≡ size (orderOf (decode (now (mem .entry)) .listing)) ⌝ }
+    ensures { λ r. ⌜ r ≡ len (listOf (decode (now (mem .entry)) .listing)) ⌝ }
 {
     layout::idx(layout::head_word(mem, 6))
 }
@@ -53,7 +53,7 @@ pub fn set_list_length(mem: &mut [u64], s: layout::Shape, len: usize)
 
 pub fn set_stale(mem: &mut [u64], s: layout::Shape)
     requires { ⌜ Room s (now mem) ⌝ }
-    ensures { λ _. ⌜ Became s (now (mem .entry)) (now (mem .exit)) (outdated (decode (now (mem .entry)))) ⌝ }
+    ensures { λ _. ⌜ Became s (now (mem .entry)) (now (mem .exit)) (markDirty (decode (now (mem .entry)))) ⌝ }
 {
     layout::set_head_word(mem, 6, 0);
     layout::set_head_word(mem, 5, 1);

@@ -7,60 +7,64 @@ use native.Mathlib.Omega.{arith}
 use native.Mathlib.Decide.{ℕ-discrete, decLe}
 use lib.ListN.{length, getD, set, length-set}
 use lib.Seq.{getD-set-same}
-use Rattle.model.specs.Lists.{at, size, put}
-use Rattle.model.specs.Bep3.{blocksInPiece}
-use Rattle.model.specs.State.{Block, Partial, Picker, noBlock, blocksAt, withBlocks, withPartials}
-use Rattle.model.specs.Partials.{blockAt}
+use Rattle.model.specs.Lists.{nth, len, setNth}
+use Rattle.model.specs.Bep3.{pieceBlocks}
+use Rattle.model.specs.State.{Block, DownloadingPiece, Picker, noBlock, blocksInPiece, withBlocks, withPartials}
+use Rattle.model.specs.change.Partials.{blockAt}
 use Rattle.layout.specs.declared.spots.Shape.{Shape}
 use Rattle.layout.specs.Tables.{tab, choose}
-use Rattle.layout.specs.Layout.{placesFor, blockSpot, headWord, partialWord, blockWord, blockFrom, blockHeld, blocksHeld, partialFrom, partialHeld, partialsHeld, decode, decodeAt, noPartial, partialIn, withPartial, withBlock, Room, Kept, Became}
+use Rattle.layout.specs.Layout.{placesFor, blockSpot, headWord, partialWord, blockWord, blockFrom, blockHeld, blocksHeld, partialFrom}
+use Rattle.layout.specs.Layout.{partialHeld, partialsHeld, decode, decodeAt, noPartial, partialIn, withPartial, withBlock, Room, Kept}
+use Rattle.layout.specs.Layout.{Became}
 use Rattle.layout.proofs.TabLaws.{size-tab, at-tab, tab-ext, tab-put, put-past, choose-same, choose-other}
 use Rattle.layout.proofs.SpotLaws.{block-from, block-below, block-field, block-place, block-index, block-in}
-use Rattle.layout.proofs.Same.{SameHead, SamePieces, SamePartials, SameBeyond, head-same, pieces-above, partials-above, block-other, beyond-same}
-use Rattle.layout.proofs.Readers.{partial-at, pieces-same, order-same, listing-same, extents-same, block-same, partial-same, decode-parts}
+use Rattle.layout.proofs.Same.{SameHead, SamePieces, SamePartials, SameBeyond, head-same, pieces-above, partials-above, block-other}
+use Rattle.layout.proofs.Same.{beyond-same}
+use Rattle.layout.proofs.Readers.{partial-at, pieces-same, order-same, listing-same, extents-same, block-same, partial-same}
+use Rattle.layout.proofs.Readers.{decode-parts}
 use Rattle.layout.proofs.RoomLaws.{decode-at, blocks-within, partial-room, place-room, kept-same, decoded}
 
 -- ---- the partials in the picker
 module _ (s : Shape) (xs : List ℕ) (r : Room s xs) where
-  pub partials-number : headWord xs 7 ≡ size (decode xs .partials)
+  pub partials-number : headWord xs 7 ≡ len (decode xs .partials)
   unfolding partialsHeld
-  partials-number = sym (ap (λ (d : Picker). size (d .partials)) (decode-at s xs r) ∙ size-tab (headWord xs 7) (partialHeld xs (s .pieces) (s .blocks)))
+  partials-number = sym (ap (λ (d : Picker). len (d .partials)) (decode-at s xs r) ∙ size-tab (headWord xs 7) (partialHeld xs (s .pieces) (s .blocks)))
 
   module _ (k : ℕ) (h : k < headWord xs 7) where
     pub partial-is : partialIn (decode xs) k ≡ partialHeld xs (s .pieces) (s .blocks) k
     unfolding partialIn
-    partial-is = ap (λ (d : Picker). at noPartial (d .partials) k) (decode-at s xs r) ∙ partial-at (s .pieces) (s .blocks) xs noPartial k h
+    partial-is = ap (λ (d : Picker). nth noPartial (d .partials) k) (decode-at s xs r) ∙ partial-at (s .pieces) (s .blocks) xs noPartial k h
 
     pub partial-piece-is : partialWord xs (s .pieces) 0 k ≡ partialIn (decode xs) k .piece
     unfolding partialHeld partialFrom
-    partial-piece-is = ap (λ (d : Partial). d .piece) (sym partial-is)
+    partial-piece-is = ap (λ (d : DownloadingPiece). d .piece) (sym partial-is)
 
     pub blocks-are : partialIn (decode xs) k .blocks ≡ blocksHeld xs (s .pieces) (s .blocks) (partialWord xs (s .pieces) 0 k) (partialWord xs (s .pieces) 2 k)
     unfolding partialHeld partialFrom
-    blocks-are = ap (λ (d : Partial). d .blocks) partial-is
+    blocks-are = ap (λ (d : DownloadingPiece). d .blocks) partial-is
 
-    here : blocksInPiece (headWord xs 0) (headWord xs 1) (partialWord xs (s .pieces) 0 k) ≡ blocksAt (decode xs) (partialIn (decode xs) k .piece)
-    unfolding blocksAt
-    here = ap (λ (i : ℕ). blocksInPiece (headWord xs 0) (headWord xs 1) i) partial-piece-is
+    here : pieceBlocks (headWord xs 0) (headWord xs 1) (partialWord xs (s .pieces) 0 k) ≡ blocksInPiece (decode xs) (partialIn (decode xs) k .piece)
+    unfolding blocksInPiece
+    here = ap (λ (i : ℕ). pieceBlocks (headWord xs 0) (headWord xs 1) i) partial-piece-is
 
     -- as many blocks as its piece has
-    pub blocks-number : size (partialIn (decode xs) k .blocks) ≡ blocksAt (decode xs) (partialIn (decode xs) k .piece)
+    pub blocks-number : len (partialIn (decode xs) k .blocks) ≡ blocksInPiece (decode xs) (partialIn (decode xs) k .piece)
     unfolding blocksHeld
     blocks-number =
-        ap size blocks-are
-        ∙ size-tab (blocksInPiece (headWord xs 0) (headWord xs 1) (partialWord xs (s .pieces) 0 k)) (blockHeld xs (s .pieces) (s .blocks) (partialWord xs (s .pieces) 2 k)) ∙ here
+        ap len blocks-are
+        ∙ size-tab (pieceBlocks (headWord xs 0) (headWord xs 1) (partialWord xs (s .pieces) 0 k)) (blockHeld xs (s .pieces) (s .blocks) (partialWord xs (s .pieces) 2 k)) ∙ here
 
     -- at most as many as a whole piece
-    pub blocks-most : blocksAt (decode xs) (partialIn (decode xs) k .piece) ≤ s .blocks
+    pub blocks-most : blocksInPiece (decode xs) (partialIn (decode xs) k .piece) ≤ s .blocks
     blocks-most = omega (arith, here, blocks-within s xs r (partialWord xs (s .pieces) 0 k))
 
     -- block j of it
-    pub block-is : (j : ℕ) → j < blocksAt (decode xs) (partialIn (decode xs) k .piece)
+    pub block-is : (j : ℕ) → j < blocksInPiece (decode xs) (partialIn (decode xs) k .piece)
         → blockAt (partialIn (decode xs) k) j ≡ blockHeld xs (s .pieces) (s .blocks) (partialWord xs (s .pieces) 2 k) j
     unfolding blockAt blocksHeld
     block-is j l =
-        ap (λ (bs : List Block). at noBlock bs j) blocks-are
-        ∙ at-tab (blocksInPiece (headWord xs 0) (headWord xs 1) (partialWord xs (s .pieces) 0 k)) (blockHeld xs (s .pieces) (s .blocks) (partialWord xs (s .pieces) 2 k)) j noBlock (omega (arith, here))
+        ap (λ (bs : List Block). nth noBlock bs j) blocks-are
+        ∙ at-tab (pieceBlocks (headWord xs 0) (headWord xs 1) (partialWord xs (s .pieces) 0 k)) (blockHeld xs (s .pieces) (s .blocks) (partialWord xs (s .pieces) 2 k)) j noBlock (omega (arith, here))
 
 -- ---- all regions but the blocks as they were
 pub record Around (s : Shape) (xs ys : List ℕ) : Type 0 where
@@ -77,15 +81,15 @@ around-none s xs = record { long = refl; head = λ k h. refl; pieces = λ f i h 
 pub around-store : (s : Shape) (xs ys : List ℕ) (f p j v : ℕ) → f < 4 → p < placesFor (s .pieces) → j < s .blocks → Around s xs ys
     → Around s xs (set ys (blockSpot (s .pieces) (s .blocks) f p j) v)
 around-store s xs ys f p j v hf hp hj b =
-    let at = blockSpot (s .pieces) (s .blocks) f p j in
+    let nth = blockSpot (s .pieces) (s .blocks) f p j in
     let low = block-from (s .pieces) (s .blocks) f p j in
     let high = block-below (s .pieces) (s .blocks) f p j hf hp hj in
     record {
-      long = length-set ys at v ∙ b .long;
-      head = λ k l. head-same ys at v (omega arith) k l ∙ b .head k l;
-      pieces = λ g i l m. pieces-above ys at v (s .pieces) (omega arith) g i l m ∙ b .pieces g i l m;
-      partials = λ g i l m. partials-above ys at v (s .pieces) low g i l m ∙ b .partials g i l m;
-      beyond = λ i l. beyond-same ys at v (s .pieces) (s .blocks) high i l ∙ b .beyond i l;
+      long = length-set ys nth v ∙ b .long;
+      head = λ k l. head-same ys nth v (omega arith) k l ∙ b .head k l;
+      pieces = λ g i l m. pieces-above ys nth v (s .pieces) (omega arith) g i l m ∙ b .pieces g i l m;
+      partials = λ g i l m. partials-above ys nth v (s .pieces) low g i l m ∙ b .partials g i l m;
+      beyond = λ i l. beyond-same ys nth v (s .pieces) (s .blocks) high i l ∙ b .beyond i l;
     }
 
 -- ---- a store of one word of block j of place p
@@ -182,14 +186,14 @@ module _ (s : Shape) (xs ys : List ℕ) (r : Room s xs) (a : Around s xs ys) whe
       decode-parts (s .pieces) (s .blocks) xs ys (λ g l. a .head g (omega arith))
       (pieces-same (s .pieces) xs ys (λ f k l m. a .pieces f k (omega arith) m))
       refl
-      (extents-same (s .pieces) xs ys (r .extents) (a .head))
+      (extents-same (s .pieces) xs ys (r .recentExtents) (a .head))
       (listing-same (s .pieces) xs ys (a .head 5 (omega arith)) (order-same (s .pieces) xs ys (a .head 6 (omega arith)) (r .list) (λ j l. a .pieces 5 j (omega arith) l)))
 
   -- the picker has the partials that stand now
-  pub around-became : (ds : List Partial) → partialsHeld ys (s .pieces) (s .blocks) ≡ ds → Became s xs ys (withPartials ds (decode xs))
+  pub around-became : (ds : List DownloadingPiece) → partialsHeld ys (s .pieces) (s .blocks) ≡ ds → Became s xs ys (withPartials ds (decode xs))
   around-became ds e =
       record {
-        is = decoded s xs ys r (withPartials ds) around-kept (around-at-shape ∙ ap (λ (l : List Partial). withPartials l (decodeAt (s .pieces) (s .blocks) xs)) e);
+        is = decoded s xs ys r (withPartials ds) around-kept (around-at-shape ∙ ap (λ (l : List DownloadingPiece). withPartials l (decodeAt (s .pieces) (s .blocks) xs)) e);
         kept = around-kept;
       }
 
@@ -198,10 +202,10 @@ module _ (s : Shape) (xs ys : List ℕ) (r : Room s xs) (k j : ℕ) (x : Block) 
   abbrev place : ℕ
   place = partialWord xs (s .pieces) 2 k
 
-  abbrev count : ℕ
-  count = blocksInPiece (headWord xs 0) (headWord xs 1) (partialWord xs (s .pieces) 0 k)
+  abbrev peerCount : ℕ
+  peerCount = pieceBlocks (headWord xs 0) (headWord xs 1) (partialWord xs (s .pieces) 0 k)
 
-  few : count ≤ s .blocks
+  few : peerCount ≤ s .blocks
   few = blocks-within s xs r (partialWord xs (s .pieces) 0 k)
 
   -- the others keep their blocks
@@ -212,18 +216,18 @@ module _ (s : Shape) (xs ys : List ℕ) (r : Room s xs) (k j : ℕ) (x : Block) 
       (λ i o. t .others (partialWord xs (s .pieces) 2 l) i (place-room s xs r l m) (omega (arith, blocks-within s xs r (partialWord xs (s .pieces) 0 l)))
       (λ e q. ne (r .apart l k (omega (arith, r .partials)) (omega (arith, r .partials)) e)))
 
-  blocks-put : blocksHeld ys (s .pieces) (s .blocks) (partialWord xs (s .pieces) 0 k) place ≡ put j x (blocksHeld xs (s .pieces) (s .blocks) (partialWord xs (s .pieces) 0 k) place)
+  blocks-put : blocksHeld ys (s .pieces) (s .blocks) (partialWord xs (s .pieces) 0 k) place ≡ setNth j x (blocksHeld xs (s .pieces) (s .blocks) (partialWord xs (s .pieces) 0 k) place)
   unfolding blocksHeld
   blocks-put =
-      ap₂ (λ (a c : ℕ). tab (blocksInPiece a c (partialWord xs (s .pieces) 0 k)) (blockHeld ys (s .pieces) (s .blocks) place)) (t .around .head 0 (omega arith)) (t .around .head 1 (omega arith))
-      ∙ elim (decLe count j) [
+      ap₂ (λ (a c : ℕ). tab (pieceBlocks a c (partialWord xs (s .pieces) 0 k)) (blockHeld ys (s .pieces) (s .blocks) place)) (t .around .head 0 (omega arith)) (t .around .head 1 (omega arith))
+      ∙ elim (decLe peerCount j) [
         | yes l ↦ (
-            tab-ext count (blockHeld ys (s .pieces) (s .blocks) place) (blockHeld xs (s .pieces) (s .blocks) place) (λ i m. t .others place i (place-room s xs r k h) (omega (arith, few)) (λ e q. omega arith))
-            ∙ sym (put-past j x (tab count (blockHeld xs (s .pieces) (s .blocks) place)) (rw (size-tab count (blockHeld xs (s .pieces) (s .blocks) place)) l))
+            tab-ext peerCount (blockHeld ys (s .pieces) (s .blocks) place) (blockHeld xs (s .pieces) (s .blocks) place) (λ i m. t .others place i (place-room s xs r k h) (omega (arith, few)) (λ e q. omega arith))
+            ∙ sym (put-past j x (tab peerCount (blockHeld xs (s .pieces) (s .blocks) place)) (rw (size-tab peerCount (blockHeld xs (s .pieces) (s .blocks) place)) l))
             )
         | no l ↦ (
-            tab-put count (blockHeld xs (s .pieces) (s .blocks) place) (blockHeld ys (s .pieces) (s .blocks) place) j (omega arith) (λ i m ne. t .others place i (place-room s xs r k h) (omega (arith, few)) (λ e q. ne q))
-            ∙ ap (λ (y : Block). put j y (tab count (blockHeld xs (s .pieces) (s .blocks) place))) (t .is)
+            tab-put peerCount (blockHeld xs (s .pieces) (s .blocks) place) (blockHeld ys (s .pieces) (s .blocks) place) j (omega arith) (λ i m ne. t .others place i (place-room s xs r k h) (omega (arith, few)) (λ e q. ne q))
+            ∙ ap (λ (y : Block). setNth j y (tab peerCount (blockHeld xs (s .pieces) (s .blocks) place))) (t .is)
             )
       ]
 
@@ -236,12 +240,12 @@ module _ (s : Shape) (xs ys : List ℕ) (r : Room s xs) (k j : ℕ) (x : Block) 
       (λ i. partialFrom (words 0 (omega arith) i) (words 1 (omega arith) i) (blocksHeld ys (s .pieces) (s .blocks) (words 0 (omega arith) i) (words 2 (omega arith) i)))
       ∙ ap (partialFrom (partialWord xs (s .pieces) 0 k) (partialWord xs (s .pieces) 1 k)) blocks-put
 
-  partials-put : partialsHeld ys (s .pieces) (s .blocks) ≡ put k (withBlock j x (partialHeld xs (s .pieces) (s .blocks) k)) (partialsHeld xs (s .pieces) (s .blocks))
+  partials-put : partialsHeld ys (s .pieces) (s .blocks) ≡ setNth k (withBlock j x (partialHeld xs (s .pieces) (s .blocks) k)) (partialsHeld xs (s .pieces) (s .blocks))
   unfolding partialsHeld
   partials-put =
       ap (λ (m : ℕ). tab m (partialHeld ys (s .pieces) (s .blocks))) (t .around .head 7 (omega arith))
       ∙ tab-put (headWord xs 7) (partialHeld xs (s .pieces) (s .blocks)) (partialHeld ys (s .pieces) (s .blocks)) k h other
-      ∙ ap (λ (d : Partial). put k d (tab (headWord xs 7) (partialHeld xs (s .pieces) (s .blocks)))) same
+      ∙ ap (λ (d : DownloadingPiece). setNth k d (tab (headWord xs 7) (partialHeld xs (s .pieces) (s .blocks)))) same
 
   pub block-became : Became s xs ys (withPartial k (withBlock j x) (decode xs))
   unfolding withPartial partialIn
@@ -250,7 +254,7 @@ module _ (s : Shape) (xs ys : List ℕ) (r : Room s xs) (k j : ℕ) (x : Block) 
       record {
         is = decoded s xs ys r (withPartial k (withBlock j x)) e
             (around-at-shape s xs ys r (t .around)
-            ∙ ap (λ (ds : List Partial). withPartials ds (decodeAt (s .pieces) (s .blocks) xs))
-            (partials-put ∙ ap (λ (d : Partial). put k (withBlock j x d) (partialsHeld xs (s .pieces) (s .blocks))) (sym (partial-at (s .pieces) (s .blocks) xs noPartial k h))));
+            ∙ ap (λ (ds : List DownloadingPiece). withPartials ds (decodeAt (s .pieces) (s .blocks) xs))
+            (partials-put ∙ ap (λ (d : DownloadingPiece). setNth k (withBlock j x d) (partialsHeld xs (s .pieces) (s .blocks))) (sym (partial-at (s .pieces) (s .blocks) xs noPartial k h))));
         kept = e;
       }

@@ -7,19 +7,21 @@ use Prim.Native.Nat.{ℕ, zero, suc, _<_}
 use native.Mathlib.Omega.{arith}
 use Rattle.types.specs.declared.queue.DownloadQueue.the-variants.{Downloading, Open}
 use Rattle.types.specs.declared.block.BlockState.the-variants.{Requested}
-use Rattle.model.specs.Lists.{least, at}
-use Rattle.model.specs.Bep3.{partsOf, partLength, numPieces, pieceLength, blockLength, blocksIn, blocksPerPiece, blocksInPiece, bitOf}
+use Rattle.model.specs.Lists.{least, nth}
+use Rattle.model.specs.Bep3.{partsOf, partLength, numPieces, pieceLength, blockLength, blockCount, wholePieceBlocks, pieceBlocks, bitOf}
 use Rattle.model.specs.State.{Picker, fresh, validGeometry}
 use Rattle.model.specs.Calls.{wordsNeeded}
 use Rattle.layout.specs.declared.spots.Shape.{Shape}
 use Rattle.layout.specs.Tables.{tab}
-use Rattle.layout.specs.Layout.{cell, placesFor, pieceSpot, partialSpot, blockSpot, headWord, pieceWord, partialWord, blockWord, piecesOn, blocksOn, queueFrom, stateFrom, yes?, peerFrom, pieceHeld, blockFrom, blockHeld, blocksHeld, partialFrom, partialHeld, piecesHeld, partialsHeld, extentsHeld, listHeld, listingHeld, decode, Room}
+use Rattle.layout.specs.Layout.{cell, placesFor, pieceSpot, partialSpot, blockSpot, headWord, pieceWord, partialWord, blockWord}
+use Rattle.layout.specs.Layout.{piecesOn, blocksOn, queueFrom, stateFrom, yes?, peerFrom, pieceHeld, blockFrom, blockHeld, blocksHeld}
+use Rattle.layout.specs.Layout.{partialFrom, partialHeld, piecesHeld, partialsHeld, extentsHeld, listHeld, listingHeld, decode, Room}
 
 -- three bytes in pieces of two, of one block each
 abbrev head : List ℕ
 head = 3 ∷ 2 ∷ 7 ∷ 1 ∷ 2 ∷ 0 ∷ 2 ∷ 1 ∷ 1 ∷ 0 ∷ 0 ∷ 0 ∷ 0 ∷ 0 ∷ 0 ∷ 0 ∷ []
 
--- counts, states, wishes, hads, pad bytes, and the list
+-- counts, states, priorities, hads, pad bytes, and the list
 abbrev pieces : List ℕ
 pieces = 5 ∷ 6 ∷ 4 ∷ 0 ∷ 4 ∷ 7 ∷ 1 ∷ 0 ∷ 0 ∷ 0 ∷ 1 ∷ 0 ∷ []
 
@@ -40,28 +42,28 @@ shape = record { pieces = 2; blocks = 1; places = 2 }
 abbrev picker : Picker
 picker =
     record {
-      total = 3;
-      size = 2;
+      totalSize = 3;
+      pieceSize = 2;
       seeds = 7;
       cursor = 1;
       reverseCursor = 2;
       pieces =
-          record { count = 5; state = Open; wish = 4; had = true; pad = 0 }
-          ∷ record { count = 6; state = Downloading; wish = 7; had = false; pad = 0 } ∷ [];
+          record { peerCount = 5; state = Open; priority = 4; flushed = true; padBytes = 0 }
+          ∷ record { peerCount = 6; state = Downloading; priority = 7; flushed = false; padBytes = 0 } ∷ [];
       partials =
           record {
             piece = 1;
-            passed = false;
+            passedHashCheck = false;
             locked = true;
             hashing = false;
-            blocks = record { state = Requested; requesters = 2; peer = some 99 } ∷ [];
+            blocks = record { state = Requested; numPeers = 2; peer = some 99 } ∷ [];
           } ∷ [];
-      extents = 0 ∷ [];
+      recentExtents = 0 ∷ [];
       listing = fresh (1 ∷ 0 ∷ []);
     }
 
 pub two-pieces : decode words ≡ picker
-unfolding least at partsOf partLength numPieces pieceLength blockLength blocksIn blocksPerPiece blocksInPiece bitOf tab cell placesFor pieceSpot partialSpot blockSpot headWord pieceWord partialWord blockWord piecesOn blocksOn queueFrom stateFrom yes? peerFrom pieceHeld blockFrom blockHeld blocksHeld partialFrom partialHeld piecesHeld partialsHeld extentsHeld listHeld listingHeld
+unfolding least nth partsOf partLength numPieces pieceLength blockLength blockCount wholePieceBlocks pieceBlocks bitOf tab cell placesFor pieceSpot partialSpot blockSpot headWord pieceWord partialWord blockWord piecesOn blocksOn queueFrom stateFrom yes? peerFrom pieceHeld blockFrom blockHeld blocksHeld partialFrom partialHeld piecesHeld partialsHeld extentsHeld listHeld listingHeld
 two-pieces = refl
 
 -- the places of the two
@@ -82,7 +84,7 @@ places-differ zero (suc (suc l)) h g e = absurd (omega arith)
 places-differ (suc zero) (suc (suc l)) h g e = absurd (omega arith)
 
 pub two-pieces-room : Room shape words
-unfolding least partsOf numPieces blockLength blocksIn blocksPerPiece validGeometry wordsNeeded placesFor headWord piecesOn blocksOn yes?
+unfolding least partsOf numPieces blockLength blockCount wholePieceBlocks validGeometry wordsNeeded placesFor headWord piecesOn blocksOn yes?
 two-pieces-room =
     record {
       spans = record {
@@ -96,7 +98,7 @@ two-pieces-room =
       list = omega arith;
       idle = λ e. absurd (true≢false (sym e));
       partials = omega arith;
-      extents = omega arith;
+      recentExtents = omega arith;
       placed = place;
       apart = places-differ;
     }

@@ -1,4 +1,4 @@
--- What a store in the head does to the picker: seeds and cursors, the list's length and whether it is stale, the extents. Assumes nothing.
+-- What a store in the head does to the picker: seeds and cursors, the list's length and whether it is dirty, the extents. Assumes nothing.
 use mathlib.Core.Path.{_≡_, refl, sym, ap, ap₂, _∙_}
 use mathlib.Core.Logic.{_≢_}
 use mathlib.Core.Bool.{true, cond}
@@ -8,14 +8,16 @@ use native.Mathlib.Omega.{arith}
 use native.Mathlib.Numerals.{add-one}
 use native.Mathlib.Decide.{ℕ-discrete}
 use lib.ListN.{length, set, length-set}
-use Rattle.model.specs.Lists.{size}
-use Rattle.model.specs.State.{stale, fresh, withListing, withExtents}
+use Rattle.model.specs.Lists.{len}
+use Rattle.model.specs.State.{dirty, fresh, withListing, withRecentExtents}
 use Rattle.layout.specs.declared.spots.Shape.{Shape}
 use Rattle.layout.specs.Tables.{tab, front, choose}
-use Rattle.layout.specs.Layout.{headWord, pieceWord, yes?, piecesHeld, extentsHeld, listHeld, listingHeld, listWords, decode, decodeAt, headWith, Room, Kept}
+use Rattle.layout.specs.Layout.{headWord, pieceWord, yes?, piecesHeld, extentsHeld, listHeld, listingHeld, listWords, decode}
+use Rattle.layout.specs.Layout.{decodeAt, headWith, Room, Kept}
 use Rattle.layout.proofs.TabLaws.{tab-ext, tab-front, tab-more, choose-same, choose-other}
 use Rattle.layout.proofs.SpotLaws.{words-needed}
-use Rattle.layout.proofs.Same.{SamePieces, SamePartials, SameBlocks, SameBeyond, head-other, head-stored, pieces-below, partials-below, blocks-below, beyond-same}
+use Rattle.layout.proofs.Same.{SamePieces, SamePartials, SameBlocks, SameBeyond, head-other, head-stored, pieces-below}
+use Rattle.layout.proofs.Same.{partials-below, blocks-below, beyond-same}
 use Rattle.layout.proofs.Readers.{pieces-same, order-same, listing-same, decode-parts}
 use Rattle.layout.proofs.RoomLaws.{kept-steady, partials-same, decoded}
 
@@ -45,7 +47,7 @@ module _ (s : Shape) (xs ys : List ℕ) (r : Room s xs) (b : Behind s xs ys) (t 
     (e : headWord ys 7 ≡ headWord xs 7) where
   pub behind-kept : headWord ys 6 ≤ s .pieces → (yes? (headWord ys 5) ≡ true → headWord ys 6 ≡ 0) → headWord ys 8 ≤ 5 → Kept s xs ys
   behind-kept l i x =
-      kept-steady s xs ys r (record { long = b .long; total = t; size = z; beyond = b .beyond; list = l; idle = i; extents = x }) e (λ k m. b .partials 2 k (omega arith) m)
+      kept-steady s xs ys r (record { long = b .long; totalSize = t; pieceSize = z; beyond = b .beyond; list = l; idle = i; recentExtents = x }) e (λ k m. b .partials 2 k (omega arith) m)
 
   pub behind-pieces : piecesHeld ys (s .pieces) ≡ piecesHeld xs (s .pieces)
   behind-pieces = pieces-same (s .pieces) xs ys (λ f i l m. b .pieces f i (omega arith) m)
@@ -69,7 +71,7 @@ module _ (s : Shape) (xs : List ℕ) (r : Room s xs) (k v : ℕ) (low : 2 ≤ k)
   pub head-kept : Kept s xs (set xs k v)
   head-kept =
       behind-kept s xs (set xs k v) r behind (same 0 (λ e. omega arith)) (same 1 (λ e. omega arith)) (same 7 (λ e. omega arith))
-      (rw (same 6 (λ e. omega arith)) (r .list)) (rw (same 5 (λ e. omega arith), same 6 (λ e. omega arith)) (r .idle)) (rw (same 8 (λ e. omega arith)) (r .extents))
+      (rw (same 6 (λ e. omega arith)) (r .list)) (rw (same 5 (λ e. omega arith), same 6 (λ e. omega arith)) (r .idle)) (rw (same 8 (λ e. omega arith)) (r .recentExtents))
 
   stored : (g : ℕ) → headWord (set xs k v) g ≡ choose k g v (headWord xs g)
   stored g = head-words xs k v (omega (arith, r .spans .head)) g
@@ -77,14 +79,14 @@ module _ (s : Shape) (xs : List ℕ) (r : Room s xs) (k v : ℕ) (low : 2 ≤ k)
   head-at-shape : decodeAt (s .pieces) (s .blocks) (set xs k v) ≡ headWith k v (decodeAt (s .pieces) (s .blocks) xs)
   unfolding headWith extentsHeld
   head-at-shape = λ i. record {
-    total = same 0 (λ e. omega arith) i;
-    size = same 1 (λ e. omega arith) i;
+    totalSize = same 0 (λ e. omega arith) i;
+    pieceSize = same 1 (λ e. omega arith) i;
     seeds = stored 2 i;
     cursor = stored 3 i;
     reverseCursor = stored 4 i;
     pieces = behind-pieces s xs (set xs k v) r behind (same 0 (λ e. omega arith)) (same 1 (λ e. omega arith)) (same 7 (λ e. omega arith)) i;
     partials = partials-same s xs (set xs k v) r (same 0 (λ e. omega arith)) (same 1 (λ e. omega arith)) (same 7 (λ e. omega arith)) (behind .partials) (behind .blocks) i;
-    extents = (ap (λ (n : ℕ). tab n (λ j. headWord (set xs k v) (9 + j))) (same 8 (λ e. omega arith))
+    recentExtents = (ap (λ (n : ℕ). tab n (λ j. headWord (set xs k v) (9 + j))) (same 8 (λ e. omega arith))
         ∙ tab-ext (headWord xs 8) (λ j. headWord (set xs k v) (9 + j)) (λ j. headWord xs (9 + j)) (λ j l. same (9 + j) (λ e. omega arith))) i;
     listing = listing-same (s .pieces) xs (set xs k v) (same 5 (λ e. omega arith)) (order-same (s .pieces) xs (set xs k v) (same 6 (λ e. omega arith)) (r .list) (λ j l. behind .pieces 5 j (omega arith) l)) i;
   }
@@ -92,7 +94,7 @@ module _ (s : Shape) (xs : List ℕ) (r : Room s xs) (k v : ℕ) (low : 2 ≤ k)
   pub decode-head : decode (set xs k v) ≡ headWith k v (decode xs)
   decode-head = decoded s xs (set xs k v) r (headWith k v) head-kept head-at-shape
 
--- ---- the list's length, and whether it is stale
+-- ---- the list's length, and whether it is dirty
 module _ (s : Shape) (xs : List ℕ) (r : Room s xs) (len flag : ℕ) (room : len ≤ s .pieces) (idle : yes? flag ≡ true → len ≡ 0) where
   abbrev pub relisted : List ℕ
   relisted = set (set xs 6 len) 5 flag
@@ -109,33 +111,33 @@ module _ (s : Shape) (xs : List ℕ) (r : Room s xs) (len flag : ℕ) (room : le
   rest : Behind s xs relisted
   rest = behind-store s xs (set xs 6 len) 5 flag (omega arith) (behind-store s xs xs 6 len (omega arith) (behind-none s xs))
 
-  pub relisted-kept : Kept s xs relisted
-  relisted-kept =
+  pub updated-kept : Kept s xs relisted
+  updated-kept =
       behind-kept s xs relisted r rest (others 0 (λ e. omega arith) (λ e. omega arith)) (others 1 (λ e. omega arith) (λ e. omega arith)) (others 7 (λ e. omega arith) (λ e. omega arith))
-      (rw word6 room) (rw (word5, word6) idle) (rw (others 8 (λ e. omega arith) (λ e. omega arith)) (r .extents))
+      (rw word6 room) (rw (word5, word6) idle) (rw (others 8 (λ e. omega arith) (λ e. omega arith)) (r .recentExtents))
 
-  pub relisted-words : listWords relisted (s .pieces) ≡ listWords xs (s .pieces)
+  pub updated-words : listWords relisted (s .pieces) ≡ listWords xs (s .pieces)
   unfolding listWords
-  relisted-words = tab-ext (s .pieces) (pieceWord relisted (s .pieces) 5) (pieceWord xs (s .pieces) 5) (λ i l. rest .pieces 5 i (omega arith) l)
+  updated-words = tab-ext (s .pieces) (pieceWord relisted (s .pieces) 5) (pieceWord xs (s .pieces) 5) (λ i l. rest .pieces 5 i (omega arith) l)
 
   order-front : listHeld relisted (s .pieces) ≡ front len (listWords xs (s .pieces))
   unfolding listHeld listWords
   order-front =
       ap (λ (k : ℕ). tab k (pieceWord relisted (s .pieces) 5)) word6 ∙ sym (tab-front len (s .pieces) (pieceWord relisted (s .pieces) 5) room)
-      ∙ ap (front len) relisted-words
+      ∙ ap (front len) updated-words
 
-  relisted-at-shape : decodeAt (s .pieces) (s .blocks) relisted
-      ≡ withListing (cond (yes? flag) stale (fresh (front len (listWords xs (s .pieces))))) (decodeAt (s .pieces) (s .blocks) xs)
+  updated-at-shape : decodeAt (s .pieces) (s .blocks) relisted
+      ≡ withListing (cond (yes? flag) dirty (fresh (front len (listWords xs (s .pieces))))) (decodeAt (s .pieces) (s .blocks) xs)
   unfolding withListing extentsHeld listingHeld
-  relisted-at-shape =
+  updated-at-shape =
       decode-parts (s .pieces) (s .blocks) xs relisted (λ g l. others g (λ e. omega arith) (λ e. omega arith))
       (pieces-same (s .pieces) xs relisted (λ f j l m. rest .pieces f j (omega arith) m))
       (partials-same s xs relisted r (others 0 (λ e. omega arith) (λ e. omega arith)) (others 1 (λ e. omega arith) (λ e. omega arith)) (others 7 (λ e. omega arith) (λ e. omega arith)) (rest .partials) (rest .blocks))
       (ap (λ (n : ℕ). tab n (λ j. headWord relisted (9 + j))) (others 8 (λ e. omega arith) (λ e. omega arith)) ∙ tab-ext (headWord xs 8) (λ j. headWord relisted (9 + j)) (λ j. headWord xs (9 + j)) (λ j l. others (9 + j) (λ e. omega arith) (λ e. omega arith)))
-      (λ i. cond (yes? (word5 i)) stale (fresh (order-front i)))
+      (λ i. cond (yes? (word5 i)) dirty (fresh (order-front i)))
 
-  pub decode-relisted : decode relisted ≡ withListing (cond (yes? flag) stale (fresh (front len (listWords xs (s .pieces))))) (decode xs)
-  decode-relisted = decoded s xs relisted r (withListing (cond (yes? flag) stale (fresh (front len (listWords xs (s .pieces)))))) relisted-kept relisted-at-shape
+  pub decode-updated : decode relisted ≡ withListing (cond (yes? flag) dirty (fresh (front len (listWords xs (s .pieces))))) (decode xs)
+  decode-updated = decoded s xs relisted r (withListing (cond (yes? flag) dirty (fresh (front len (listWords xs (s .pieces)))))) updated-kept updated-at-shape
 
 -- the list is the front of its region
 pub order-is-front : (s : Shape) (xs : List ℕ) → Room s xs → listHeld xs (s .pieces) ≡ front (headWord xs 6) (listWords xs (s .pieces))
@@ -148,8 +150,8 @@ module _ (s : Shape) (xs ys : List ℕ) (r : Room s xs) (b : Behind s xs ys) (h 
   extents-kept =
       behind-kept s xs ys r b (h 0 (omega arith)) (h 1 (omega arith)) (h 7 (omega arith)) (rw (h 6 (omega arith)) (r .list)) (rw (h 5 (omega arith), h 6 (omega arith)) (r .idle)) few
 
-  extents-at-shape : decodeAt (s .pieces) (s .blocks) ys ≡ withExtents (extentsHeld ys) (decodeAt (s .pieces) (s .blocks) xs)
-  unfolding withExtents
+  extents-at-shape : decodeAt (s .pieces) (s .blocks) ys ≡ withRecentExtents (extentsHeld ys) (decodeAt (s .pieces) (s .blocks) xs)
+  unfolding withRecentExtents
   extents-at-shape =
       decode-parts (s .pieces) (s .blocks) xs ys (λ g l. h g (omega arith))
       (behind-pieces s xs ys r b (h 0 (omega arith)) (h 1 (omega arith)) (h 7 (omega arith)))
@@ -157,8 +159,8 @@ module _ (s : Shape) (xs ys : List ℕ) (r : Room s xs) (b : Behind s xs ys) (h 
       refl
       (listing-same (s .pieces) xs ys (h 5 (omega arith)) (order-same (s .pieces) xs ys (h 6 (omega arith)) (r .list) (λ j l. b .pieces 5 j (omega arith) l)))
 
-  pub decode-extents : decode ys ≡ withExtents (extentsHeld ys) (decode xs)
-  decode-extents = decoded s xs ys r (withExtents (extentsHeld ys)) extents-kept extents-at-shape
+  pub decode-extents : decode ys ≡ withRecentExtents (extentsHeld ys) (decode xs)
+  decode-extents = decoded s xs ys r (withRecentExtents (extentsHeld ys)) extents-kept extents-at-shape
 
 -- one more
 module _ (s : Shape) (xs : List ℕ) (r : Room s xs) (v : ℕ) (few : headWord xs 8 < 5) where
@@ -188,7 +190,7 @@ module _ (s : Shape) (xs : List ℕ) (r : Room s xs) (v : ℕ) (few : headWord x
   pub extended-kept : Kept s xs extended
   extended-kept = extents-kept s xs extended r rest8 (λ g l. others8 g (λ e. omega arith) (λ e. omega arith)) (rw word8 (omega arith))
 
-  pub decode-extended : decode extended ≡ withExtents (decode xs .extents ++ (v ∷ [])) (decode xs)
+  pub decode-extended : decode extended ≡ withRecentExtents (decode xs .recentExtents ++ (v ∷ [])) (decode xs)
   decode-extended =
       decode-extents s xs extended r rest8 (λ g l. others8 g (λ e. omega arith) (λ e. omega arith)) (rw word8 (omega arith))
-      ∙ ap (λ (l : List ℕ). withExtents l (decode xs)) extents-more
+      ∙ ap (λ (l : List ℕ). withRecentExtents l (decode xs)) extents-more

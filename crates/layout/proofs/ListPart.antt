@@ -7,11 +7,12 @@ use native.Mathlib.Omega.{arith}
 use lib.ListN.{length, getD, take, drop, length-append, length-drop, List·getD-append}
 use lib.Seq.{getD-take, getD-drop, length-take-le, getD-append-add, ext-getD}
 use borrow.Rule.Slice.PartMut.{putMid, midOf, postOf}
-use Rattle.model.specs.Lists.{at, size}
-use Rattle.model.specs.State.{Picker, Listing, stale, fresh, orderOf, withListing}
+use Rattle.model.specs.Lists.{nth, len}
+use Rattle.model.specs.State.{Picker, Listing, dirty, fresh, listOf, withListing}
 use Rattle.layout.specs.declared.spots.Shape.{Shape}
 use Rattle.layout.specs.Tables.{tab}
-use Rattle.layout.specs.Layout.{cell, pieceSpot, partialSpot, blockSpot, headWord, pieceWord, partialWord, blockWord, yes?, listHeld, listingHeld, decode, decodeAt, inListing, Room, Kept, Became}
+use Rattle.layout.specs.Layout.{cell, pieceSpot, partialSpot, blockSpot, headWord, pieceWord, partialWord, blockWord, yes?, listHeld}
+use Rattle.layout.specs.Layout.{listingHeld, decode, decodeAt, inListing, Room, Kept, Became}
 use Rattle.layout.proofs.TabLaws.{size-tab, at-tab}
 use Rattle.layout.proofs.SpotLaws.{cell-below, partial-from, block-from, words-needed}
 use Rattle.layout.proofs.Same.{SameHead, SamePartials, SameBlocks}
@@ -99,18 +100,18 @@ module _ (s : Shape) (xs : List ℕ) (r : Room s xs) (k : ℕ) (room : k ≤ s .
       decode-parts (s .pieces) (s .blocks) xs putBack (λ g l. heads g (omega arith))
       (pieces-same (s .pieces) xs putBack fields)
       (partials-same s xs putBack r (heads 0 (omega arith)) (heads 1 (omega arith)) (heads 7 (omega arith)) partials blocks)
-      (extents-same (s .pieces) xs putBack (r .extents) heads)
+      (extents-same (s .pieces) xs putBack (r .recentExtents) heads)
       refl
 
 -- ---- the list lent whole
 -- a list of given elements is a table of them
 pub tab-is : (ys : List ℕ) (n : ℕ) (f : ℕ → ℕ) → length ys ≡ n → ((i : ℕ) → i < n → f i ≡ getD ys i 0) → tab n f ≡ ys
-unfolding size at
+unfolding len nth
 tab-is ys n f l h = ext-getD 0 (tab n f) ys (size-tab n f ∙ sym l) (λ i m. let g : i < n = rw (size-tab n f) at m in at-tab n f i 0 g ∙ h i g)
 
 module _ (s : Shape) (xs : List ℕ) (r : Room s xs) where
   -- what is lent is the list
-  pub list-lent : midOf (16 + 5 * s .pieces) (headWord xs 6) xs ≡ orderOf (decode xs .listing)
+  pub list-lent : midOf (16 + 5 * s .pieces) (headWord xs 6) xs ≡ listOf (decode xs .listing)
   unfolding listHeld pieceWord
   list-lent =
       let a = 16 + 5 * s .pieces in
@@ -132,9 +133,9 @@ module _ (s : Shape) (xs : List ℕ) (r : Room s xs) where
     listing-new : listingHeld back (s .pieces) ≡ inListing (λ l. ys) (listingHeld xs (s .pieces))
     unfolding listingHeld inListing
     listing-new =
-        ap₂ (λ (w : ℕ) (l : List ℕ). cond (yes? w) stale (fresh l)) (heads s xs r (headWord xs 6) (r .list) ys long 5 (omega arith)) list-new ∙ go (yes? (headWord xs 5))
+        ap₂ (λ (w : ℕ) (l : List ℕ). cond (yes? w) dirty (fresh l)) (heads s xs r (headWord xs 6) (r .list) ys long 5 (omega arith)) list-new ∙ go (yes? (headWord xs 5))
       where
-        go : (t : Bool) → cond t stale (fresh ys) ≡ inListing (λ l. ys) (cond t stale (fresh (listHeld xs (s .pieces))))
+        go : (t : Bool) → cond t dirty (fresh ys) ≡ inListing (λ l. ys) (cond t dirty (fresh (listHeld xs (s .pieces))))
         go true = refl
         go false = refl
 

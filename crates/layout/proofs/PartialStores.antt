@@ -7,15 +7,18 @@ use native.Mathlib.Omega.{arith}
 use native.Mathlib.Decide.{ℕ-discrete}
 use lib.ListN.{length, getD, set, length-set}
 use lib.Seq.{getD-set-same}
-use Rattle.model.specs.Lists.{at, put}
-use Rattle.model.specs.State.{Partial, withPartials}
+use Rattle.model.specs.Lists.{nth, setNth}
+use Rattle.model.specs.State.{DownloadingPiece, withPartials}
 use Rattle.layout.specs.declared.spots.Shape.{Shape}
 use Rattle.layout.specs.Tables.{tab, choose}
-use Rattle.layout.specs.Layout.{placesFor, partialSpot, headWord, partialWord, blocksHeld, partialFrom, partialHeld, partialsHeld, extentsHeld, decode, decodeAt, noPartial, partialIn, withPartial, withBits, Room, Kept, Became}
+use Rattle.layout.specs.Layout.{placesFor, partialSpot, headWord, partialWord, blocksHeld, partialFrom, partialHeld, partialsHeld}
+use Rattle.layout.specs.Layout.{extentsHeld, decode, decodeAt, noPartial, partialIn, withPartial, withBits, Room, Kept, Became}
 use Rattle.layout.proofs.TabLaws.{tab-put, tab-ext, choose-same, choose-other}
 use Rattle.layout.proofs.SpotLaws.{partial-from, partial-below, partial-field, partial-place, partial-in, words-needed}
-use Rattle.layout.proofs.Same.{SamePieces, SameBlocks, SameBeyond, head-other, head-same, pieces-below, pieces-above, partial-other, blocks-below, beyond-same}
-use Rattle.layout.proofs.Readers.{partial-at, pieces-same, order-same, listing-same, block-same, blocks-same, partial-same, decode-parts}
+use Rattle.layout.proofs.Same.{SamePieces, SameBlocks, SameBeyond, head-other, head-same, pieces-below, pieces-above, partial-other}
+use Rattle.layout.proofs.Same.{blocks-below, beyond-same}
+use Rattle.layout.proofs.Readers.{partial-at, pieces-same, order-same, listing-same, block-same, blocks-same, partial-same}
+use Rattle.layout.proofs.Readers.{decode-parts}
 use Rattle.layout.proofs.RoomLaws.{Steady, kept-steady, blocks-within, partial-room, place-room, decoded}
 
 -- ---- all as it was but the partials' words and how many they are
@@ -32,15 +35,15 @@ beside-none s xs = record { long = refl; head = λ k h ne. refl; pieces = λ f i
 -- after one store more in a partial
 pub beside-store : (s : Shape) (xs ys : List ℕ) (f k v : ℕ) → f < 3 → k < placesFor (s .pieces) → Beside s xs ys → Beside s xs (set ys (partialSpot (s .pieces) f k) v)
 beside-store s xs ys f k v hf hk b =
-    let at = partialSpot (s .pieces) f k in
+    let nth = partialSpot (s .pieces) f k in
     let low = partial-from (s .pieces) f k in
     let high = partial-below (s .pieces) f k hf hk in
     record {
-      long = length-set ys at v ∙ b .long;
-      head = λ i l ne. head-same ys at v (omega arith) i l ∙ b .head i l ne;
-      pieces = λ g i l m. pieces-above ys at v (s .pieces) low g i l m ∙ b .pieces g i l m;
-      blocks = λ g p j l m o. blocks-below ys at v (s .pieces) (s .blocks) high g p j l m o ∙ b .blocks g p j l m o;
-      beyond = λ i l. beyond-same ys at v (s .pieces) (s .blocks) (omega (arith, words-needed (s .pieces) (s .blocks))) i l ∙ b .beyond i l;
+      long = length-set ys nth v ∙ b .long;
+      head = λ i l ne. head-same ys nth v (omega arith) i l ∙ b .head i l ne;
+      pieces = λ g i l m. pieces-above ys nth v (s .pieces) low g i l m ∙ b .pieces g i l m;
+      blocks = λ g p j l m o. blocks-below ys nth v (s .pieces) (s .blocks) high g p j l m o ∙ b .blocks g p j l m o;
+      beyond = λ i l. beyond-same ys nth v (s .pieces) (s .blocks) (omega (arith, words-needed (s .pieces) (s .blocks))) i l ∙ b .beyond i l;
     }
 
 -- after a store of how many they are
@@ -59,19 +62,19 @@ module _ (s : Shape) (xs ys : List ℕ) (r : Room s xs) (b : Beside s xs ys) whe
   beside-steady =
       record {
         long = b .long;
-        total = b .head 0 (omega arith) (omega arith);
-        size = b .head 1 (omega arith) (omega arith);
+        totalSize = b .head 0 (omega arith) (omega arith);
+        pieceSize = b .head 1 (omega arith) (omega arith);
         beyond = b .beyond;
         list = rw (b .head 6 (omega arith) (omega arith)) (r .list);
         idle = rw (b .head 5 (omega arith) (omega arith), b .head 6 (omega arith) (omega arith)) (r .idle);
-        extents = rw (b .head 8 (omega arith) (omega arith)) (r .extents);
+        recentExtents = rw (b .head 8 (omega arith) (omega arith)) (r .recentExtents);
       }
 
   extents-held : extentsHeld ys ≡ extentsHeld xs
   unfolding extentsHeld
   extents-held =
       ap (λ (k : ℕ). tab k (λ i. headWord ys (9 + i))) (b .head 8 (omega arith) (omega arith))
-      ∙ tab-ext (headWord xs 8) (λ i. headWord ys (9 + i)) (λ i. headWord xs (9 + i)) (λ i l. b .head (9 + i) (omega (arith, r .extents)) (λ e. omega arith))
+      ∙ tab-ext (headWord xs 8) (λ i. headWord ys (9 + i)) (λ i. headWord xs (9 + i)) (λ i l. b .head (9 + i) (omega (arith, r .recentExtents)) (λ e. omega arith))
 
   beside-at-shape : decodeAt (s .pieces) (s .blocks) ys ≡ withPartials (partialsHeld ys (s .pieces) (s .blocks)) (decodeAt (s .pieces) (s .blocks) xs)
   unfolding withPartials
@@ -83,10 +86,10 @@ module _ (s : Shape) (xs ys : List ℕ) (r : Room s xs) (b : Beside s xs ys) whe
       (listing-same (s .pieces) xs ys (b .head 5 (omega arith) (omega arith)) (order-same (s .pieces) xs ys (b .head 6 (omega arith) (omega arith)) (r .list) (λ j l. b .pieces 5 j (omega arith) l)))
 
   -- the picker has the partials that stand now
-  pub beside-became : (ds : List Partial) → Kept s xs ys → partialsHeld ys (s .pieces) (s .blocks) ≡ ds → Became s xs ys (withPartials ds (decode xs))
+  pub beside-became : (ds : List DownloadingPiece) → Kept s xs ys → partialsHeld ys (s .pieces) (s .blocks) ≡ ds → Became s xs ys (withPartials ds (decode xs))
   beside-became ds k e =
       record {
-        is = decoded s xs ys r (withPartials ds) k (beside-at-shape ∙ ap (λ (l : List Partial). withPartials l (decodeAt (s .pieces) (s .blocks) xs)) e);
+        is = decoded s xs ys r (withPartials ds) k (beside-at-shape ∙ ap (λ (l : List DownloadingPiece). withPartials l (decodeAt (s .pieces) (s .blocks) xs)) e);
         kept = k;
       }
 
@@ -124,8 +127,8 @@ module _ (s : Shape) (xs : List ℕ) (r : Room s xs) (k v : ℕ) (h : k < headWo
   beside : Beside s xs afterFlags
   beside = beside-store s xs xs 1 k v (omega arith) room (beside-none s xs)
 
-  count : headWord afterFlags 7 ≡ headWord xs 7
-  count = head-same xs (partialSpot (s .pieces) 1 k) v (omega (arith, partial-from (s .pieces) 1 k)) 7 (omega arith)
+  peerCount : headWord afterFlags 7 ≡ headWord xs 7
+  peerCount = head-same xs (partialSpot (s .pieces) 1 k) v (omega (arith, partial-from (s .pieces) 1 k)) 7 (omega arith)
 
   stored : (g : ℕ) → partialWord afterFlags (s .pieces) g k ≡ choose 1 g v (partialWord xs (s .pieces) g k)
   stored g = partial-stored (s .pieces) xs 1 k v room (partial-in s xs (r .spans) 1 k (omega arith) (rw (r .spans .sizes .places) room)) g
@@ -143,22 +146,22 @@ module _ (s : Shape) (xs : List ℕ) (r : Room s xs) (k v : ℕ) (h : k < headWo
       block-same (s .pieces) xs afterFlags (s .blocks) (partialWord xs (s .pieces) 2 k) j (λ f o.
       beside .blocks f (partialWord xs (s .pieces) 2 k) j o (place-room s xs r k h) (omega (arith, blocks-within s xs r (partialWord xs (s .pieces) 0 k))))))
 
-  partials-put : partialsHeld afterFlags (s .pieces) (s .blocks) ≡ put k (withBits v (partialHeld xs (s .pieces) (s .blocks) k)) (partialsHeld xs (s .pieces) (s .blocks))
+  partials-put : partialsHeld afterFlags (s .pieces) (s .blocks) ≡ setNth k (withBits v (partialHeld xs (s .pieces) (s .blocks) k)) (partialsHeld xs (s .pieces) (s .blocks))
   unfolding partialsHeld
   partials-put =
-      ap (λ (m : ℕ). tab m (partialHeld afterFlags (s .pieces) (s .blocks))) count
+      ap (λ (m : ℕ). tab m (partialHeld afterFlags (s .pieces) (s .blocks))) peerCount
       ∙ tab-put (headWord xs 7) (partialHeld xs (s .pieces) (s .blocks)) (partialHeld afterFlags (s .pieces) (s .blocks)) k h (λ l m ne.
       beside-partial s xs afterFlags r beside l l m (λ f o. partial-others (s .pieces) xs 1 k v room f l (partial-room s xs r l m) ne))
-      ∙ ap (λ (d : Partial). put k d (tab (headWord xs 7) (partialHeld xs (s .pieces) (s .blocks)))) flagged
+      ∙ ap (λ (d : DownloadingPiece). setNth k d (tab (headWord xs 7) (partialHeld xs (s .pieces) (s .blocks)))) flagged
 
   pub flags-became : Became s xs afterFlags (withPartial k (withBits v) (decode xs))
   unfolding withPartial partialIn
   flags-became =
-      let e = kept-steady s xs afterFlags r (beside-steady s xs afterFlags r beside) count places in
+      let e = kept-steady s xs afterFlags r (beside-steady s xs afterFlags r beside) peerCount places in
       record {
         is = decoded s xs afterFlags r (withPartial k (withBits v)) e
             (beside-at-shape s xs afterFlags r beside
-            ∙ ap (λ (ds : List Partial). withPartials ds (decodeAt (s .pieces) (s .blocks) xs))
-            (partials-put ∙ ap (λ (d : Partial). put k (withBits v d) (partialsHeld xs (s .pieces) (s .blocks))) (sym (partial-at (s .pieces) (s .blocks) xs noPartial k h))));
+            ∙ ap (λ (ds : List DownloadingPiece). withPartials ds (decodeAt (s .pieces) (s .blocks) xs))
+            (partials-put ∙ ap (λ (d : DownloadingPiece). setNth k (withBits v d) (partialsHeld xs (s .pieces) (s .blocks))) (sym (partial-at (s .pieces) (s .blocks) xs noPartial k h))));
         kept = e;
       }

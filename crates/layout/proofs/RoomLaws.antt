@@ -5,11 +5,12 @@ use mathlib.Core.List.{List}
 use Prim.Native.Nat.{ℕ, _≤_, _<_}
 use native.Mathlib.Omega.{arith}
 use lib.ListN.{length}
-use Rattle.model.specs.Bep3.{numPieces, blocksPerPiece, blocksInPiece}
+use Rattle.model.specs.Bep3.{numPieces, wholePieceBlocks, pieceBlocks}
 use Rattle.model.specs.State.{Picker, validGeometry}
-use Rattle.model.proofs.Bep3Laws.{blocksInPiece-le}
+use Rattle.model.proofs.base.Bep3Laws.{blocksInPiece-le}
 use Rattle.layout.specs.declared.spots.Shape.{Shape}
-use Rattle.layout.specs.Layout.{placesFor, headWord, partialWord, partialHeld, piecesOn, blocksOn, yes?, partialsHeld, decode, decodeAt, Room, Kept, Became}
+use Rattle.layout.specs.Layout.{placesFor, headWord, partialWord, partialHeld, piecesOn, blocksOn, yes?, partialsHeld, decode}
+use Rattle.layout.specs.Layout.{decodeAt, Room, Kept, Became}
 use Rattle.layout.specs.Tables.{tab}
 use Rattle.layout.proofs.TabLaws.{tab-ext}
 use Rattle.geometry.proofs.ValidLaws.{bounds}
@@ -22,7 +23,7 @@ module _ (s : Shape) (xs : List ℕ) (r : Room s xs) where
   decode-at = ap₂ (λ (n b : ℕ). decodeAt n b xs) (sym (r .pieces)) (sym (r .blocks))
 
   -- no piece has more blocks than a whole one
-  pub blocks-within : (i : ℕ) → blocksInPiece (headWord xs 0) (headWord xs 1) i ≤ s .blocks
+  pub blocks-within : (i : ℕ) → pieceBlocks (headWord xs 0) (headWord xs 1) i ≤ s .blocks
   unfolding blocksOn
   blocks-within i =
       rw (r .blocks) (blocksInPiece-le (headWord xs 0) (headWord xs 1) i (bounds (headWord xs 0) (headWord xs 1) (r .geometry) .some-size))
@@ -37,12 +38,12 @@ module _ (s : Shape) (xs : List ℕ) (r : Room s xs) where
 -- what a change leaves of the memory's lengths
 pub record Steady (s : Shape) (xs ys : List ℕ) : Type 0 where
   pub long : length ys ≡ length xs
-  pub total : headWord ys 0 ≡ headWord xs 0
-  pub size : headWord ys 1 ≡ headWord xs 1
+  pub totalSize : headWord ys 0 ≡ headWord xs 0
+  pub pieceSize : headWord ys 1 ≡ headWord xs 1
   pub beyond : SameBeyond (s .pieces) (s .blocks) xs ys
   pub list : headWord ys 6 ≤ s .pieces
   pub idle : yes? (headWord ys 5) ≡ true → headWord ys 6 ≡ 0
-  pub extents : headWord ys 8 ≤ 5
+  pub recentExtents : headWord ys 8 ≤ 5
 
 module _ (s : Shape) (xs ys : List ℕ) (r : Room s xs) where
   -- where the places may have changed
@@ -54,8 +55,8 @@ module _ (s : Shape) (xs ys : List ℕ) (r : Room s xs) where
   kept-placed d m placed apart =
       record {
         long = d .long;
-        total = d .total;
-        size = d .size;
+        totalSize = d .totalSize;
+        pieceSize = d .pieceSize;
         beyond = d .beyond;
         room = record {
           spans = record {
@@ -63,13 +64,13 @@ module _ (s : Shape) (xs ys : List ℕ) (r : Room s xs) where
             head = omega (arith, d .long, r .spans .head);
             body = omega (arith, d .long, r .spans .body);
           };
-          geometry = ap₂ validGeometry (d .total) (d .size) ∙ r .geometry;
-          pieces = r .pieces ∙ sym (ap₂ numPieces (d .total) (d .size));
-          blocks = r .blocks ∙ sym (ap blocksPerPiece (d .size));
+          geometry = ap₂ validGeometry (d .totalSize) (d .pieceSize) ∙ r .geometry;
+          pieces = r .pieces ∙ sym (ap₂ numPieces (d .totalSize) (d .pieceSize));
+          blocks = r .blocks ∙ sym (ap wholePieceBlocks (d .pieceSize));
           list = d .list;
           idle = d .idle;
           partials = m;
-          extents = d .extents;
+          recentExtents = d .recentExtents;
           placed = placed;
           apart = apart;
         };
@@ -88,12 +89,12 @@ module _ (s : Shape) (xs ys : List ℕ) (r : Room s xs) where
   kept-same l h p b =
       kept-steady (record {
         long = l;
-        total = h 0 (omega arith);
-        size = h 1 (omega arith);
+        totalSize = h 0 (omega arith);
+        pieceSize = h 1 (omega arith);
         beyond = b;
         list = rw (h 6 (omega arith)) (r .list);
         idle = rw (h 5 (omega arith), h 6 (omega arith)) (r .idle);
-        extents = rw (h 8 (omega arith)) (r .extents);
+        recentExtents = rw (h 8 (omega arith)) (r .recentExtents);
       }) (h 7 (omega arith)) (λ k m. p 2 k (omega arith) m)
 
   -- all partials as they were
@@ -116,14 +117,14 @@ pub kept-again : (s : Shape) (xs ys zs : List ℕ) → Kept s xs ys → Kept s y
 kept-again s xs ys zs a b =
     record {
       long = b .long ∙ a .long;
-      total = b .total ∙ a .total;
-      size = b .size ∙ a .size;
+      totalSize = b .totalSize ∙ a .totalSize;
+      pieceSize = b .pieceSize ∙ a .pieceSize;
       beyond = λ k h. b .beyond k h ∙ a .beyond k h;
       room = b .room;
     }
 
 pub kept-none : (s : Shape) (xs : List ℕ) → Room s xs → Kept s xs xs
-kept-none s xs r = record { long = refl; total = refl; size = refl; beyond = λ k h. refl; room = r }
+kept-none s xs r = record { long = refl; totalSize = refl; pieceSize = refl; beyond = λ k h. refl; room = r }
 
 -- a law of the memory that a store gives, at the memory that a function leaves
 pub became-at : (s : Shape) (xs ys zs : List ℕ) (p : Picker) → ys ≡ zs → Became s xs zs p → Became s xs ys p

@@ -7,7 +7,7 @@ use native.Mathlib.Decide.{decLe}
 use lib.Arith.{digits-lt, digits-div, digits-mod}
 use borrow.Author.Tests.{le-leb, lt-leb}
 use Rattle.model.specs.Lists.{least}
-use Rattle.model.specs.State.{mostPartials}
+use Rattle.model.specs.State.{maxPartials}
 use Rattle.model.specs.Calls.{wordsNeeded}
 use lib.ListN.{length}
 use mathlib.Core.List.{List}
@@ -38,7 +38,7 @@ places-min n = elim (decLe n 512) [
 pub words-needed : (n b : ℕ) → wordsNeeded n b ≡ 16 + 6 * n + 3 * placesFor n + 4 * (placesFor n * b)
 unfolding wordsNeeded placesFor
 words-needed n b =
-    let m = least n mostPartials in
+    let m = least n maxPartials in
     rw (mul-add m 3 (4 * b), mul-left-comm m 4 b) (omega arith)
 
 -- ---- bounds

@@ -8,11 +8,12 @@ use native.Mathlib.Omega.{arith}
 use native.Mathlib.Decide.{ℕ-discrete, decLe}
 use lib.ListN.{getD, set, length-set}
 use lib.Seq.{getD-set-same}
-use Rattle.model.specs.Lists.{at, put}
-use Rattle.model.specs.State.{Piece, Picker, stale, fresh, withPiece, withPieces, withListing}
+use Rattle.model.specs.Lists.{nth, setNth}
+use Rattle.model.specs.State.{Piece, Picker, dirty, fresh, withPiece, withPieces, withListing}
 use Rattle.layout.specs.declared.spots.Shape.{Shape}
 use Rattle.layout.specs.Tables.{tab, choose}
-use Rattle.layout.specs.Layout.{pieceSpot, headWord, pieceWord, queueFrom, yes?, pieceHeld, piecesHeld, listHeld, listingHeld, listWords, decode, decodeAt, pieceWith, inListing, Room, Kept}
+use Rattle.layout.specs.Layout.{pieceSpot, headWord, pieceWord, queueFrom, yes?, pieceHeld, piecesHeld, listHeld, listingHeld}
+use Rattle.layout.specs.Layout.{listWords, decode, decodeAt, pieceWith, inListing, Room, Kept}
 use Rattle.layout.proofs.TabLaws.{size-tab, tab-ext, tab-put, put-past, choose-same, choose-other, choose-map}
 use Rattle.layout.proofs.SpotLaws.{piece-from, piece-below, piece-field, piece-place, piece-in, words-needed}
 use Rattle.layout.proofs.Same.{SameHead, SamePartials, SameBlocks, head-same, piece-other, partials-below, blocks-below, beyond-same}
@@ -63,18 +64,18 @@ module _ (s : Shape) (xs : List ℕ) (r : Room s xs) (f i v : ℕ) (hf : f < 6) 
   piece-with : pieceHeld afterPiece (s .pieces) i ≡ pieceWith f v (pieceHeld xs (s .pieces) i)
   unfolding pieceHeld pieceWith
   piece-with = λ k. record {
-    count = piece-stored 0 k;
+    peerCount = piece-stored 0 k;
     state = (ap queueFrom (piece-stored 1) ∙ choose-map queueFrom f 1 v (pieceWord xs (s .pieces) 1 i)) k;
-    wish = piece-stored 2 k;
-    had = (ap yes? (piece-stored 3) ∙ choose-map yes? f 3 v (pieceWord xs (s .pieces) 3 i)) k;
-    pad = piece-stored 4 k;
+    priority = piece-stored 2 k;
+    flushed = (ap yes? (piece-stored 3) ∙ choose-map yes? f 3 v (pieceWord xs (s .pieces) 3 i)) k;
+    padBytes = piece-stored 4 k;
   }
 
-  pieces-put : piecesHeld afterPiece (s .pieces) ≡ put i (pieceWith f v (pieceHeld xs (s .pieces) i)) (piecesHeld xs (s .pieces))
+  pieces-put : piecesHeld afterPiece (s .pieces) ≡ setNth i (pieceWith f v (pieceHeld xs (s .pieces) i)) (piecesHeld xs (s .pieces))
   unfolding piecesHeld
   pieces-put =
       tab-put (s .pieces) (pieceHeld xs (s .pieces)) (pieceHeld afterPiece (s .pieces)) i hi (λ j l m. piece-same (s .pieces) xs afterPiece j (λ g o. piece-others g j l m))
-      ∙ ap (λ (q : Piece). put i q (tab (s .pieces) (pieceHeld xs (s .pieces)))) piece-with
+      ∙ ap (λ (q : Piece). setNth i q (tab (s .pieces) (pieceHeld xs (s .pieces)))) piece-with
 
   pub heads-same : headWord afterPiece 6 ≡ headWord xs 6
   heads-same = heads 6 (omega arith)
@@ -90,9 +91,9 @@ module _ (s : Shape) (xs : List ℕ) (r : Room s xs) (f i v : ℕ) (hf : f < 6) 
     unfolding withPiece withPieces
     piece-at-shape =
         decode-parts (s .pieces) (s .blocks) xs afterPiece (λ g l. heads g (omega arith))
-        (pieces-put ∙ ap (λ (q : Piece). put i (pieceWith f v q) (piecesHeld xs (s .pieces))) (sym (piece-at (s .pieces) (s .blocks) xs i hi)))
+        (pieces-put ∙ ap (λ (q : Piece). setNth i (pieceWith f v q) (piecesHeld xs (s .pieces))) (sym (piece-at (s .pieces) (s .blocks) xs i hi)))
         (partials-same s xs afterPiece r (heads 0 (omega arith)) (heads 1 (omega arith)) (heads 7 (omega arith)) partials blocks)
-        (extents-same (s .pieces) xs afterPiece (r .extents) heads)
+        (extents-same (s .pieces) xs afterPiece (r .recentExtents) heads)
         listing-kept
 
     pub decode-piece : decode afterPiece ≡ withPiece i (pieceWith f v) (decode xs)
@@ -112,7 +113,7 @@ module _ (s : Shape) (xs : List ℕ) (r : Room s xs) (i v : ℕ) (hi : i < s .pi
   entries : (j : ℕ) → j < s .pieces → j ≢ i → pieceWord afterList (s .pieces) 5 j ≡ pieceWord xs (s .pieces) 5 j
   entries j l m = piece-others s xs r 5 i v (omega arith) hi 5 j l m
 
-  order-put : listHeld afterList (s .pieces) ≡ put i v (listHeld xs (s .pieces))
+  order-put : listHeld afterList (s .pieces) ≡ setNth i v (listHeld xs (s .pieces))
   unfolding listHeld
   order-put =
       ap (λ (k : ℕ). tab k (pieceWord afterList (s .pieces) 5)) (heads5 6 (omega arith)) ∙ elim (decLe (headWord xs 6) i) [
@@ -122,35 +123,35 @@ module _ (s : Shape) (xs : List ℕ) (r : Room s xs) (i v : ℕ) (hi : i < s .pi
             )
         | no h ↦ (
             tab-put (headWord xs 6) (pieceWord xs (s .pieces) 5) (pieceWord afterList (s .pieces) 5) i (omega arith) (λ j l m. entries j (omega (arith, r .list)) m)
-            ∙ ap (λ (w : ℕ). put i w (tab (headWord xs 6) (pieceWord xs (s .pieces) 5))) entry
+            ∙ ap (λ (w : ℕ). setNth i w (tab (headWord xs 6) (pieceWord xs (s .pieces) 5))) entry
             )
       ]
 
-  listing-put : listingHeld afterList (s .pieces) ≡ inListing (put i v) (listingHeld xs (s .pieces))
+  listing-put : listingHeld afterList (s .pieces) ≡ inListing (setNth i v) (listingHeld xs (s .pieces))
   unfolding listingHeld inListing
-  listing-put = ap₂ (λ (w : ℕ) (l : List ℕ). cond (yes? w) stale (fresh l)) (heads5 5 (omega arith)) order-put ∙ go (yes? (headWord xs 5))
+  listing-put = ap₂ (λ (w : ℕ) (l : List ℕ). cond (yes? w) dirty (fresh l)) (heads5 5 (omega arith)) order-put ∙ go (yes? (headWord xs 5))
     where
-      go : (t : Bool) → cond t stale (fresh (put i v (listHeld xs (s .pieces)))) ≡ inListing (put i v) (cond t stale (fresh (listHeld xs (s .pieces))))
+      go : (t : Bool) → cond t dirty (fresh (setNth i v (listHeld xs (s .pieces)))) ≡ inListing (setNth i v) (cond t dirty (fresh (listHeld xs (s .pieces))))
       go true = refl
       go false = refl
 
-  pub list-words : listWords afterList (s .pieces) ≡ put i v (listWords xs (s .pieces))
+  pub list-words : listWords afterList (s .pieces) ≡ setNth i v (listWords xs (s .pieces))
   unfolding listWords
   list-words =
       tab-put (s .pieces) (pieceWord xs (s .pieces) 5) (pieceWord afterList (s .pieces) 5) i hi entries
-      ∙ ap (λ (w : ℕ). put i w (tab (s .pieces) (pieceWord xs (s .pieces) 5))) entry
+      ∙ ap (λ (w : ℕ). setNth i w (tab (s .pieces) (pieceWord xs (s .pieces) 5))) entry
 
   pub list-kept : Kept s xs afterList
   list-kept = piece-kept s xs r 5 i v (omega arith) hi
 
-  list-at-shape : decodeAt (s .pieces) (s .blocks) afterList ≡ withListing (inListing (put i v) (listingHeld xs (s .pieces))) (decodeAt (s .pieces) (s .blocks) xs)
+  list-at-shape : decodeAt (s .pieces) (s .blocks) afterList ≡ withListing (inListing (setNth i v) (listingHeld xs (s .pieces))) (decodeAt (s .pieces) (s .blocks) xs)
   unfolding withListing
   list-at-shape =
       decode-parts (s .pieces) (s .blocks) xs afterList (λ g l. heads5 g (omega arith))
       (pieces-same (s .pieces) xs afterList (λ g j o l. field-others s xs r 5 i v (omega arith) hi g j l (λ e. omega arith)))
       (partials-same s xs afterList r (heads5 0 (omega arith)) (heads5 1 (omega arith)) (heads5 7 (omega arith)) (partials s xs r 5 i v (omega arith) hi) (blocks s xs r 5 i v (omega arith) hi))
-      (extents-same (s .pieces) xs afterList (r .extents) heads5)
+      (extents-same (s .pieces) xs afterList (r .recentExtents) heads5)
       listing-put
 
-  pub decode-list : decode afterList ≡ withListing (inListing (put i v) (decode xs .listing)) (decode xs)
-  decode-list = decoded s xs afterList r (λ (d : Picker). withListing (inListing (put i v) (d .listing)) d) list-kept list-at-shape
+  pub decode-list : decode afterList ≡ withListing (inListing (setNth i v) (decode xs .listing)) (decode xs)
+  decode-list = decoded s xs afterList r (λ (d : Picker). withListing (inListing (setNth i v) (d .listing)) d) list-kept list-at-shape

@@ -7,17 +7,17 @@ use native.Mathlib.Nat.{not-suc-le-zero, le-of-suc-le-suc}
 use native.Mathlib.Decide.{ℕ-discrete}
 use native.Mathlib.Omega.{arith}
 use borrow.Author.Tests.{eq-eqb, ne-eqb}
-use Rattle.model.specs.Lists.{at, size, put, without}
+use Rattle.model.specs.Lists.{nth, len, setNth, removeNth}
 use Rattle.layout.specs.Tables.{tab, front, choose}
 
 module _ {A : Type 0} where
-  pub size-tab : (n : ℕ) (f : ℕ → A) → size (tab n f) ≡ n
-  unfolding tab size
+  pub size-tab : (n : ℕ) (f : ℕ → A) → len (tab n f) ≡ n
+  unfolding tab len
   size-tab zero f = refl
   size-tab (suc n) f = ap suc (size-tab n (λ k. f (suc k)))
 
-  pub at-tab : (n : ℕ) (f : ℕ → A) (i : ℕ) (d : A) → i < n → at d (tab n f) i ≡ f i
-  unfolding tab at
+  pub at-tab : (n : ℕ) (f : ℕ → A) (i : ℕ) (d : A) → i < n → nth d (tab n f) i ≡ f i
+  unfolding tab nth
   at-tab zero f i d h = absurd (not-suc-le-zero h)
   at-tab (suc n) f zero d h = refl
   at-tab (suc n) f (suc i) d h = at-tab n (λ k. f (suc k)) i d (le-of-suc-le-suc h)
@@ -29,8 +29,8 @@ module _ {A : Type 0} where
       λ k. h zero (omega arith) k ∷ tab-ext n (λ j. f (suc j)) (λ j. g (suc j)) (λ j l. h (suc j) (omega arith)) k
 
   -- one place changed
-  pub tab-put : (n : ℕ) (f g : ℕ → A) (i : ℕ) → i < n → ((j : ℕ) → j < n → j ≢ i → g j ≡ f j) → tab n g ≡ put i (g i) (tab n f)
-  unfolding tab put
+  pub tab-put : (n : ℕ) (f g : ℕ → A) (i : ℕ) → i < n → ((j : ℕ) → j < n → j ≢ i → g j ≡ f j) → tab n g ≡ setNth i (g i) (tab n f)
+  unfolding tab setNth
   tab-put zero f g i l other = absurd (not-suc-le-zero l)
   tab-put (suc n) f g zero l other =
       λ k. g zero ∷ tab-ext n (λ j. g (suc j)) (λ j. f (suc j)) (λ j h. other (suc j) (omega arith) (omega arith)) k
@@ -39,8 +39,8 @@ module _ {A : Type 0} where
       ∷ tab-put n (λ j. f (suc j)) (λ j. g (suc j)) i (le-of-suc-le-suc l) (λ j h ne. other (suc j) (omega arith) (λ e. ne (omega arith))) k
 
   -- a place past the end changes nothing
-  pub put-past : (i : ℕ) (x : A) (l : List A) → size l ≤ i → put i x l ≡ l
-  unfolding put size
+  pub put-past : (i : ℕ) (x : A) (l : List A) → len l ≤ i → setNth i x l ≡ l
+  unfolding setNth len
   put-past i x [] h = refl
   put-past zero x (y ∷ ys) h = absurd (not-suc-le-zero h)
   put-past (suc i) x (y ∷ ys) h = ap (λ (l : List A). y ∷ l) (put-past i x ys (le-of-suc-le-suc h))
@@ -60,8 +60,8 @@ module _ {A : Type 0} where
 
   -- one less: those after it move down by one
   pub tab-without : (n : ℕ) (f g : ℕ → A) (i : ℕ) → i ≤ n → ((j : ℕ) → j < i → g j ≡ f j) → ((j : ℕ) → i ≤ j → j < n → g j ≡ f (suc j))
-      → tab n g ≡ without i (tab (suc n) f)
-  unfolding tab without
+      → tab n g ≡ removeNth i (tab (suc n) f)
+  unfolding tab removeNth
   tab-without n f g zero h low high = tab-ext n g (λ k. f (suc k)) (λ j l. high j (omega arith) l)
   tab-without zero f g (suc i) h low high = absurd (not-suc-le-zero h)
   tab-without (suc n) f g (suc i) h low high =

@@ -1,7 +1,7 @@
 -- The lent memory: where each word stands, the words by field, the picker that they mean, and the bounds under which they may be read.
--- A head of 16 words: 0 total, 1 piece size, 2 seeds, 3 cursor, 4 reverse cursor, 5 stale, 6 list length, 7 partials, 8 extents, 9..13 the extents.
--- Of each piece: 0 count, 1 state, 2 wish, 3 had, 4 pad; 5 is the list. Of each partial: 0 piece, 1 flags, 2 place; behind the last partial field 2
--- holds the places that are free. Of each block of a place: 0 state, 1 requesters, 2 has a peer, 3 that peer. Assumes nothing.
+-- A head of 16 words: 0 total, 1 piece size, 2 seeds, 3 cursor, 4 reverse cursor, 5 dirty, 6 list length, 7 partials, 8 extents, 9..13 the extents.
+-- Of each piece: 0 count, 1 state, 2 priority, 3 had, 4 pad; 5 is the list. Of each partial: 0 piece, 1 flags, 2 place; behind the last partial field 2
+-- holds the places that are free. Of each block of a place: 0 state, 1 peers, 2 has a peer, 3 that peer. Assumes nothing.
 use Prim.Native.Nat.{ℕ, _+_, _*_, _≤_, _<_}
 use mathlib.Core.Path.{_≡_}
 use mathlib.Core.Bool.{Bool, true, false, cond}
@@ -15,9 +15,10 @@ use Rattle.types.specs.declared.block.BlockState.{BlockState}
 use Rattle.types.specs.declared.block.BlockState.the-variants.{None}
 use Rattle.types.specs.Queue.{queues}
 use Rattle.types.specs.Block.{blockStates}
-use Rattle.model.specs.Lists.{least, at, put}
-use Rattle.model.specs.Bep3.{numPieces, blocksPerPiece, blocksInPiece, bitOf}
-use Rattle.model.specs.State.{Piece, Block, Partial, Listing, stale, fresh, Picker, mostPartials, validGeometry, withBlocks, withPartials}
+use Rattle.model.specs.Lists.{least, nth, setNth}
+use Rattle.model.specs.Bep3.{numPieces, wholePieceBlocks, pieceBlocks, bitOf}
+use Rattle.model.specs.State.{Piece, Block, DownloadingPiece, Listing, dirty, fresh, Picker, maxPartials, validGeometry, withBlocks}
+use Rattle.model.specs.State.{withPartials}
 use Rattle.model.specs.Calls.{wordsNeeded}
 use Rattle.layout.specs.declared.spots.Shape.{Shape}
 use Rattle.layout.specs.Tables.{tab, choose}
@@ -29,7 +30,7 @@ cell w f i = f * w + i
 
 -- how many partials have room
 unfoldable pub placesFor : ℕ → ℕ
-placesFor n = least n mostPartials
+placesFor n = least n maxPartials
 
 -- field f of piece i
 unfoldable pub pieceSpot : ℕ → ℕ → ℕ → ℕ
@@ -62,14 +63,14 @@ unfoldable pub piecesOn : List ℕ → ℕ
 piecesOn xs = numPieces (headWord xs 0) (headWord xs 1)
 
 unfoldable pub blocksOn : List ℕ → ℕ
-blocksOn xs = blocksPerPiece (headWord xs 1)
+blocksOn xs = wholePieceBlocks (headWord xs 1)
 
 -- a number that no state has is read as the state in which nothing is under way
 unfoldable pub queueFrom : ℕ → DownloadQueue
-queueFrom w = at Open queues w
+queueFrom w = nth Open queues w
 
 unfoldable pub stateFrom : ℕ → BlockState
-stateFrom w = at None blockStates w
+stateFrom w = nth None blockStates w
 
 unfoldable pub yes? : ℕ → Bool
 yes? w = eqb w 1
@@ -80,36 +81,36 @@ peerFrom has peer = cond (yes? has) (some peer) none
 unfoldable pub pieceHeld : List ℕ → ℕ → ℕ → Piece
 pieceHeld xs n i =
     record {
-      count = pieceWord xs n 0 i;
+      peerCount = pieceWord xs n 0 i;
       state = queueFrom (pieceWord xs n 1 i);
-      wish = pieceWord xs n 2 i;
-      had = yes? (pieceWord xs n 3 i);
-      pad = pieceWord xs n 4 i;
+      priority = pieceWord xs n 2 i;
+      flushed = yes? (pieceWord xs n 3 i);
+      padBytes = pieceWord xs n 4 i;
     }
 
 unfoldable pub blockFrom : ℕ → ℕ → ℕ → ℕ → Block
-blockFrom state requesters has peer =
-    record { state = stateFrom state; requesters = requesters; peer = peerFrom has peer }
+blockFrom state numPeers has peer =
+    record { state = stateFrom state; numPeers = numPeers; peer = peerFrom has peer }
 
 unfoldable pub blockHeld : List ℕ → ℕ → ℕ → ℕ → ℕ → Block
 blockHeld xs n b p j = blockFrom (blockWord xs n b 0 p j) (blockWord xs n b 1 p j) (blockWord xs n b 2 p j) (blockWord xs n b 3 p j)
 
 -- as many blocks as piece i has, from place p
 unfoldable pub blocksHeld : List ℕ → ℕ → ℕ → ℕ → ℕ → List Block
-blocksHeld xs n b i p = tab (blocksInPiece (headWord xs 0) (headWord xs 1) i) (blockHeld xs n b p)
+blocksHeld xs n b i p = tab (pieceBlocks (headWord xs 0) (headWord xs 1) i) (blockHeld xs n b p)
 
 -- flag bits: passed, locked, hashing
-unfoldable pub partialFrom : ℕ → ℕ → List Block → Partial
-partialFrom i flags bs = record { piece = i; passed = bitOf flags 0; locked = bitOf flags 1; hashing = bitOf flags 2; blocks = bs }
+unfoldable pub partialFrom : ℕ → ℕ → List Block → DownloadingPiece
+partialFrom i flags bs = record { piece = i; passedHashCheck = bitOf flags 0; locked = bitOf flags 1; hashing = bitOf flags 2; blocks = bs }
 
-unfoldable pub partialHeld : List ℕ → ℕ → ℕ → ℕ → Partial
+unfoldable pub partialHeld : List ℕ → ℕ → ℕ → ℕ → DownloadingPiece
 partialHeld xs n b k =
     partialFrom (partialWord xs n 0 k) (partialWord xs n 1 k) (blocksHeld xs n b (partialWord xs n 0 k) (partialWord xs n 2 k))
 
 unfoldable pub piecesHeld : List ℕ → ℕ → List Piece
 piecesHeld xs n = tab n (pieceHeld xs n)
 
-unfoldable pub partialsHeld : List ℕ → ℕ → ℕ → List Partial
+unfoldable pub partialsHeld : List ℕ → ℕ → ℕ → List DownloadingPiece
 partialsHeld xs n b = tab (headWord xs 7) (partialHeld xs n b)
 
 unfoldable pub extentsHeld : List ℕ → List ℕ
@@ -119,20 +120,20 @@ unfoldable pub listHeld : List ℕ → ℕ → List ℕ
 listHeld xs n = tab (headWord xs 6) (pieceWord xs n 5)
 
 unfoldable pub listingHeld : List ℕ → ℕ → Listing
-listingHeld xs n = cond (yes? (headWord xs 5)) stale (fresh (listHeld xs n))
+listingHeld xs n = cond (yes? (headWord xs 5)) dirty (fresh (listHeld xs n))
 
 -- the picker, for n pieces of b blocks
 abbrev pub decodeAt : ℕ → ℕ → List ℕ → Picker
 decodeAt n b xs =
     record {
-      total = headWord xs 0;
-      size = headWord xs 1;
+      totalSize = headWord xs 0;
+      pieceSize = headWord xs 1;
       seeds = headWord xs 2;
       cursor = headWord xs 3;
       reverseCursor = headWord xs 4;
       pieces = piecesHeld xs n;
       partials = partialsHeld xs n b;
-      extents = extentsHeld xs;
+      recentExtents = extentsHeld xs;
       listing = listingHeld xs n;
     }
 
@@ -147,47 +148,47 @@ listWords xs n = tab n (pieceWord xs n 5)
 unfoldable pub pieceWith : ℕ → ℕ → Piece → Piece
 pieceWith f v p =
     record {
-      count = choose f 0 v (p .count);
+      peerCount = choose f 0 v (p .peerCount);
       state = choose f 1 (queueFrom v) (p .state);
-      wish = choose f 2 v (p .wish);
-      had = choose f 3 (yes? v) (p .had);
-      pad = choose f 4 v (p .pad);
+      priority = choose f 2 v (p .priority);
+      flushed = choose f 3 (yes? v) (p .flushed);
+      padBytes = choose f 4 v (p .padBytes);
     }
 
 -- a word of the head other than the lengths replaced
 unfoldable pub headWith : ℕ → ℕ → Picker → Picker
 headWith k v s =
     record {
-      total = s .total;
-      size = s .size;
+      totalSize = s .totalSize;
+      pieceSize = s .pieceSize;
       seeds = choose k 2 v (s .seeds);
       cursor = choose k 3 v (s .cursor);
       reverseCursor = choose k 4 v (s .reverseCursor);
       pieces = s .pieces;
       partials = s .partials;
-      extents = s .extents;
+      recentExtents = s .recentExtents;
       listing = s .listing;
     }
 
 -- ---- a partial by its place among the partials
-unfoldable pub noPartial : Partial
-noPartial = record { piece = 0; passed = false; locked = false; hashing = false; blocks = [] }
+unfoldable pub noPartial : DownloadingPiece
+noPartial = record { piece = 0; passedHashCheck = false; locked = false; hashing = false; blocks = [] }
 
-unfoldable pub partialIn : Picker → ℕ → Partial
-partialIn d k = at noPartial (d .partials) k
+unfoldable pub partialIn : Picker → ℕ → DownloadingPiece
+partialIn d k = nth noPartial (d .partials) k
 
-unfoldable pub withPartial : ℕ → (Partial → Partial) → Picker → Picker
-withPartial k f d = withPartials (put k (f (partialIn d k)) (d .partials)) d
+unfoldable pub withPartial : ℕ → (DownloadingPiece → DownloadingPiece) → Picker → Picker
+withPartial k f d = withPartials (setNth k (f (partialIn d k)) (d .partials)) d
 
-unfoldable pub withBlock : ℕ → Block → Partial → Partial
-withBlock j x d = withBlocks (put j x (d .blocks)) d
+unfoldable pub withBlock : ℕ → Block → DownloadingPiece → DownloadingPiece
+withBlock j x d = withBlocks (setNth j x (d .blocks)) d
 
-unfoldable pub withBits : ℕ → Partial → Partial
+unfoldable pub withBits : ℕ → DownloadingPiece → DownloadingPiece
 withBits flags d = partialFrom (d .piece) flags (d .blocks)
 
--- a function on the list, where it is not stale
+-- a function on the list, where it is not dirty
 unfoldable pub inListing : (List ℕ → List ℕ) → Listing → Listing
-inListing f stale = stale
+inListing f dirty = dirty
 inListing f (fresh l) = fresh (f l)
 
 -- ---- columns: the words of one field, as a list of their own
@@ -229,15 +230,15 @@ pub record Room (s : Shape) (xs : List ℕ) : Type 0 where
   pub list : headWord xs 6 ≤ s .pieces
   pub idle : yes? (headWord xs 5) ≡ true → headWord xs 6 ≡ 0
   pub partials : headWord xs 7 ≤ s .places
-  pub extents : headWord xs 8 ≤ 5
+  pub recentExtents : headWord xs 8 ≤ 5
   pub placed : (k : ℕ) → k < s .places → partialWord xs (s .pieces) 2 k < s .places
   pub apart : (k l : ℕ) → k < s .places → l < s .places → partialWord xs (s .pieces) 2 k ≡ partialWord xs (s .pieces) 2 l → k ≡ l
 
 -- what every store leaves: the length, the geometry, what lies beyond the picker, and the bounds
 pub record Kept (s : Shape) (entry exit : List ℕ) : Type 0 where
   pub long : length exit ≡ length entry
-  pub total : headWord exit 0 ≡ headWord entry 0
-  pub size : headWord exit 1 ≡ headWord entry 1
+  pub totalSize : headWord exit 0 ≡ headWord entry 0
+  pub pieceSize : headWord exit 1 ≡ headWord entry 1
   pub beyond : (k : ℕ) → wordsNeeded (s .pieces) (s .blocks) ≤ k → getD exit k 0 ≡ getD entry k 0
   pub room : Room s exit
 

@@ -8,12 +8,13 @@ use native.Mathlib.Decide.{decLt, ℕ-discrete}
 use lib.Dec.{eqb, ltb}
 use lib.ListN.{length, getD, take}
 use borrow.Author.Tests.{eq-eqb}
-use Rattle.model.specs.Lists.{bit, tally, filter, from, size}
-use Rattle.model.specs.State.{Picker, Listing, stale, fresh, isStale, orderOf, piecesIn, withListing}
-use Rattle.model.specs.Listed.{Listed, ListingOf}
-use Rattle.model.specs.Order.{rank, relisted, relistDraws, Led, led, relist, relistIn}
-use Rattle.model.proofs.Tallies.{bit-le, tally-le, tally-all, length-filter, stands, counts-le, length-from, filter-within, eq-bit, ne-bit}
-use Rattle.model.proofs.ListedMoves.{relisted-stays}
+use Rattle.model.specs.Lists.{bit, count, filter, from, len}
+use Rattle.model.specs.State.{Picker, Listing, dirty, fresh, isDirty, listOf, piecesIn, withListing}
+use Rattle.model.specs.list.Listed.{Listed, ListingOf}
+use Rattle.model.specs.list.Order.{rank, updated, updateDraws, Drawing, drawing, update, updateIn}
+use Rattle.model.proofs.base.Counts.{bit-le, count-le, count-all, length-filter, stands, counts-le, length-from, filter-within, eq-bit}
+use Rattle.model.proofs.base.Counts.{ne-bit}
+use Rattle.model.proofs.list.ListedMoves.{updated-stays}
 use Rattle.layout.specs.declared.spots.Shape.{Shape}
 use Rattle.layout.specs.Tables.{front}
 use Rattle.layout.specs.Layout.{listWords, decode, Room, Became}
@@ -35,10 +36,10 @@ module _ (b : ℕ → ℕ) (n : ℕ) (l : List ℕ) (g : Listed b n l) where
 
   -- and so there are more pieces than entries where one is in no bucket
   listed-room : (x : ℕ) → x < n → b x ≡ 0 → length l + 1 ≤ n
-  unfolding tally
+  unfolding count
   listed-room x hx z =
       let m = filter (λ (i : ℕ). true) (from 0 n) in
-      let f : (i : ℕ) → tally (eqb i) (x ∷ l) ≤ tally (eqb i) m = λ i. elim (decLt i n) [
+      let f : (i : ℕ) → count (eqb i) (x ∷ l) ≤ count (eqb i) m = λ i. elim (decLt i n) [
         | yes h ↦ elim (ℕ-discrete i x) [
           | yes q ↦ omega (arith, eq-bit i x q, g .within i h ∙ ap (λ (m : ℕ). bit (ltb 0 m)) (ap b q ∙ z), filter-within (λ (j : ℕ). true) i n h)
           | no q ↦ omega (arith, ne-bit i x q, g .within i h, bit-le (ltb 0 (b i)), filter-within (λ (j : ℕ). true) i n h)
@@ -48,10 +49,10 @@ module _ (b : ℕ → ℕ) (n : ℕ) (l : List ℕ) (g : Listed b n l) where
       omega (
         arith,
         counts-le (x ∷ l) m f (λ i. true),
-        tally-all (x ∷ l),
-        tally-all m,
+        count-all (x ∷ l),
+        count-all m,
         length-filter (λ (i : ℕ). true) (from 0 n),
-        tally-le (λ (i : ℕ). true) (from 0 n),
+        count-le (λ (i : ℕ). true) (from 0 n),
         length-from 0 n,
       )
 
@@ -62,16 +63,16 @@ former-own b old x = rw (eq-eqb x x refl)
 
 -- ---- what mending asks
 module _ (s : Shape) (xs keys : List ℕ) (r : Room s xs) (k : rankIn keys ≡ rank (decode xs)) (old x : ℕ) (hx : x < s .pieces) (g : OrderBefore old x (decode xs))
-    (a : ℕ) (ea : a ≡ 16 + 5 * s .pieces) (n w : ℕ) (en : n ≡ size (orderOf (decode xs .listing))) (ew : w ≡ x) where
+    (a : ℕ) (ea : a ≡ 16 + 5 * s .pieces) (n w : ℕ) (en : n ≡ len (listOf (decode xs .listing))) (ew : w ≡ x) where
   there : x < piecesIn (decode xs)
   there = rw (pieces-number s xs r) hx
 
-  front-is : take n (lentAt a (s .pieces) xs) ≡ orderOf (decode xs .listing)
+  front-is : take n (lentAt a (s .pieces) xs) ≡ listOf (decode xs .listing)
   front-is = ap (λ (m : ℕ). take m (lentAt a (s .pieces) xs)) en ∙ part-list s xs r a ea
 
   -- room for one more where x is to be added
   pub mending-room : n + bit (eqb old 0) ≤ length (lentAt a (s .pieces) xs)
-  unfolding size OrderBefore
+  unfolding len OrderBefore
   mending-room = elim (ℕ-discrete old 0) [
     | yes q ↦ omega (
       arith,
@@ -79,12 +80,12 @@ module _ (s : Shape) (xs keys : List ℕ) (r : Room s xs) (k : rankIn keys ≡ r
       eq-bit old 0 q,
       part-long s xs r a ea,
       pieces-number s xs r,
-      listed-room (former (rank (decode xs)) old x) (piecesIn (decode xs)) (orderOf (decode xs .listing)) g x there (former-own (rank (decode xs)) old x ∙ q),
+      listed-room (former (rank (decode xs)) old x) (piecesIn (decode xs)) (listOf (decode xs .listing)) g x there (former-own (rank (decode xs)) old x ∙ q),
     )
     | no q ↦ omega (arith, en, ne-bit old 0 q, part-long s xs r a ea, length-is s xs r, r .list)
   ]
 
-  ready-list : length keys ≡ 4096 → Ready (rank (decode xs)) (length keys) old x (orderOf (decode xs .listing))
+  ready-list : length keys ≡ 4096 → Ready (rank (decode xs)) (length keys) old x (listOf (decode xs .listing))
   unfolding OrderBefore
   ready-list e = record {
     within = λ i h.
@@ -93,7 +94,7 @@ module _ (s : Shape) (xs keys : List ℕ) (r : Room s xs) (k : rankIn keys ≡ r
           e,
           pieces-number s xs r,
           r .spans .sizes .many,
-          listed-pieces (former (rank (decode xs)) old x) (piecesIn (decode xs)) (orderOf (decode xs .listing)) g i h,
+          listed-pieces (former (rank (decode xs)) old x) (piecesIn (decode xs)) (listOf (decode xs .listing)) g i h,
         );
     order = g .order;
     once = g .within x there ∙ ap (λ (m : ℕ). bit (ltb 0 m)) (former-own (rank (decode xs)) old x);
@@ -113,13 +114,13 @@ module _ (s : Shape) (xs keys : List ℕ) (r : Room s xs) (k : rankIn keys ≡ r
   module _ (ds : List ℕ) (t : ℕ) (ys : List ℕ) (len used : ℕ) (long : length ys ≡ length (lentAt a (s .pieces) xs))
       (b : IsRelisted (rankIn keys) ds t old w (take n (lentAt a (s .pieces) xs)) (lentAt a (s .pieces) xs) ys len used) where
     abbrev found : List ℕ
-    found = relisted (rankIn keys) ds t old w (take n (lentAt a (s .pieces) xs))
+    found = updated (rankIn keys) ds t old w (take n (lentAt a (s .pieces) xs))
 
-    list-is : found ≡ relisted (rank (decode xs)) ds t old x (orderOf (decode xs .listing))
-    list-is = λ i. relisted (k i) ds t old (ew i) (front-is i)
+    list-is : found ≡ updated (rank (decode xs)) ds t old x (listOf (decode xs .listing))
+    list-is = λ i. updated (k i) ds t old (ew i) (front-is i)
 
-    draws-are : relistDraws (rankIn keys) old w (take n (lentAt a (s .pieces) xs)) ≡ relistDraws (rank (decode xs)) old x (orderOf (decode xs .listing))
-    draws-are = λ i. relistDraws (k i) old (ew i) (front-is i)
+    draws-are : updateDraws (rankIn keys) old w (take n (lentAt a (s .pieces) xs)) ≡ updateDraws (rank (decode xs)) old x (listOf (decode xs .listing))
+    draws-are = λ i. updateDraws (k i) old (ew i) (front-is i)
 
     -- with the region back, its length may be stored
     pub mended-ready : Room s (backAt a (s .pieces) xs ys) × (len ≤ s .pieces)
@@ -131,87 +132,87 @@ module _ (s : Shape) (xs keys : List ℕ) (r : Room s xs) (k : rankIn keys ≡ r
     -- and it is the mended list
     pub mended : (zs : List ℕ)
         → Became s (backAt a (s .pieces) xs ys) zs (withListing (fresh (front len (listWords (backAt a (s .pieces) xs ys) (s .pieces)))) (decode (backAt a (s .pieces) xs ys)))
-        → Became s xs zs (withListing (fresh (relisted (rank (decode xs)) ds t old x (orderOf (decode xs .listing)))) (decode xs))
-        × (used ≡ t + relistDraws (rank (decode xs)) old x (orderOf (decode xs .listing)))
+        → Became s xs zs (withListing (fresh (updated (rank (decode xs)) ds t old x (listOf (decode xs .listing)))) (decode xs))
+        × (used ≡ t + updateDraws (rank (decode xs)) old x (listOf (decode xs .listing)))
     mended zs h = (
       subst (λ (l : List ℕ). Became s xs zs (withListing (fresh l) (decode xs))) list-is
           (filed s xs r a ea ys found len long (b .list) (b .len-is) zs h),
       b .used-is ∙ ap (λ (d : ℕ). t + d) draws-are,
     )
 
--- ---- only where the list is not stale
--- a list that is not stale was right
-pub order-before : (old x : ℕ) (p : Picker) → isStale (p .listing) ≡ false → ListedBefore old x p → OrderBefore old x p
-unfolding OrderBefore ListedBefore isStale orderOf
+-- ---- only where the list is not dirty
+-- a list that is not dirty was right
+pub order-before : (old x : ℕ) (p : Picker) → isDirty (p .listing) ≡ false → ListedBefore old x p → OrderBefore old x p
+unfolding OrderBefore ListedBefore isDirty listOf
 order-before old x p e g = go (p .listing) e g
   where
-    go : (k : Listing) → isStale k ≡ false → ListingOf (former (rank p) old x) (piecesIn p) k
-        → Listed (former (rank p) old x) (piecesIn p) (orderOf k)
-    go stale e g = absurd (true≢false e)
+    go : (k : Listing) → isDirty k ≡ false → ListingOf (former (rank p) old x) (piecesIn p) k
+        → Listed (former (rank p) old x) (piecesIn p) (listOf k)
+    go dirty e g = absurd (true≢false e)
     go (fresh l) e g = g
 
 module _ (s : Shape) (xs ds : List ℕ) (old x t : ℕ) where
-  -- a stale list stays as it is
-  pub relist-stale : Room s xs → isStale (decode xs .listing) ≡ true
-      → Became s xs xs (relist ds old x (led t (decode xs)) .picker) × (t ≡ relist ds old x (led t (decode xs)) .used)
-  unfolding relist relistIn led isStale
-  relist-stale r e = go (decode xs .listing) e
+  -- a dirty list stays as it is
+  pub update-dirty : Room s xs → isDirty (decode xs .listing) ≡ true
+      → Became s xs xs (update ds old x (drawing t (decode xs)) .picker) × (t ≡ update ds old x (drawing t (decode xs)) .used)
+  unfolding update updateIn drawing isDirty
+  update-dirty r e = go (decode xs .listing) e
     where
-      go : (l : Listing) → isStale l ≡ true
-          → Became s xs xs (relistIn l ds old x (led t (decode xs)) .picker) × (t ≡ relistIn l ds old x (led t (decode xs)) .used)
-      go stale e = (became-none s xs r, refl)
+      go : (l : Listing) → isDirty l ≡ true
+          → Became s xs xs (updateIn l ds old x (drawing t (decode xs)) .picker) × (t ≡ updateIn l ds old x (drawing t (decode xs)) .used)
+      go dirty e = (became-none s xs r, refl)
       go (fresh l) e = absurd (true≢false (sym e))
 
-  relist-mended : isStale (decode xs .listing) ≡ false → (zs : List ℕ) (used : ℕ)
-      → Became s xs zs (withListing (fresh (relisted (rank (decode xs)) ds t old x (orderOf (decode xs .listing)))) (decode xs))
-      × (used ≡ t + relistDraws (rank (decode xs)) old x (orderOf (decode xs .listing)))
-      → Became s xs zs (relist ds old x (led t (decode xs)) .picker) × (used ≡ relist ds old x (led t (decode xs)) .used)
-  unfolding relist relistIn led isStale orderOf withListing relistDraws
-  relist-mended e zs used h = go (decode xs .listing) e h
+  update-mended : isDirty (decode xs .listing) ≡ false → (zs : List ℕ) (used : ℕ)
+      → Became s xs zs (withListing (fresh (updated (rank (decode xs)) ds t old x (listOf (decode xs .listing)))) (decode xs))
+      × (used ≡ t + updateDraws (rank (decode xs)) old x (listOf (decode xs .listing)))
+      → Became s xs zs (update ds old x (drawing t (decode xs)) .picker) × (used ≡ update ds old x (drawing t (decode xs)) .used)
+  unfolding update updateIn drawing isDirty listOf withListing updateDraws
+  update-mended e zs used h = go (decode xs .listing) e h
     where
-      go : (l : Listing) → isStale l ≡ false
-          → Became s xs zs (withListing (fresh (relisted (rank (decode xs)) ds t old x (orderOf l))) (decode xs)) × (used ≡ t + relistDraws (rank (decode xs)) old x (orderOf l))
-          → Became s xs zs (relistIn l ds old x (led t (decode xs)) .picker) × (used ≡ relistIn l ds old x (led t (decode xs)) .used)
-      go stale e h = absurd (true≢false e)
+      go : (l : Listing) → isDirty l ≡ false
+          → Became s xs zs (withListing (fresh (updated (rank (decode xs)) ds t old x (listOf l))) (decode xs)) × (used ≡ t + updateDraws (rank (decode xs)) old x (listOf l))
+          → Became s xs zs (updateIn l ds old x (drawing t (decode xs)) .picker) × (used ≡ updateIn l ds old x (drawing t (decode xs)) .used)
+      go dirty e h = absurd (true≢false e)
       go (fresh l) e h = h
 
   -- any other is mended; i is x as the code has it
-  pub relist-fresh : isStale (decode xs .listing) ≡ false → (i : ℕ) → i ≡ x → (zs : List ℕ) (used : ℕ)
-      → Became s xs zs (withListing (fresh (relisted (rank (decode xs)) ds t old i (orderOf (decode xs .listing)))) (decode xs))
-      × (used ≡ t + relistDraws (rank (decode xs)) old i (orderOf (decode xs .listing)))
-      → Became s xs zs (relist ds old x (led t (decode xs)) .picker) × (used ≡ relist ds old x (led t (decode xs)) .used)
-  relist-fresh e i q zs used h =
-      relist-mended e zs used
+  pub update-fresh : isDirty (decode xs .listing) ≡ false → (i : ℕ) → i ≡ x → (zs : List ℕ) (used : ℕ)
+      → Became s xs zs (withListing (fresh (updated (rank (decode xs)) ds t old i (listOf (decode xs .listing)))) (decode xs))
+      × (used ≡ t + updateDraws (rank (decode xs)) old i (listOf (decode xs .listing)))
+      → Became s xs zs (update ds old x (drawing t (decode xs)) .picker) × (used ≡ update ds old x (drawing t (decode xs)) .used)
+  update-fresh e i q zs used h =
+      update-mended e zs used
       (subst (λ (y : ℕ).
-      Became s xs zs (withListing (fresh (relisted (rank (decode xs)) ds t old y (orderOf (decode xs .listing)))) (decode xs))
-      × (used ≡ t + relistDraws (rank (decode xs)) old y (orderOf (decode xs .listing)))) q h)
+      Became s xs zs (withListing (fresh (updated (rank (decode xs)) ds t old y (listOf (decode xs .listing)))) (decode xs))
+      × (used ≡ t + updateDraws (rank (decode xs)) old y (listOf (decode xs .listing)))) q h)
 
 -- ---- a piece that keeps its rank keeps its place
-no-draws : (b : ℕ → ℕ) (old x : ℕ) (l : List ℕ) → b x ≡ old → relistDraws b old x l ≡ 0
-unfolding relistDraws
+no-draws : (b : ℕ → ℕ) (old x : ℕ) (l : List ℕ) → b x ≡ old → updateDraws b old x l ≡ 0
+unfolding updateDraws
 no-draws b old x l e = rw (eq-eqb (b x) old e)
 
 listing-own : (l : List ℕ) (p : Picker) → p .listing ≡ fresh l → withListing (fresh l) p ≡ p
 unfolding withListing
 listing-own l p q = ap (λ (k : Listing). withListing k p) (sym q)
 
-relist-kept : (ds : List ℕ) (old x t : ℕ) (p : Picker) → rank p x ≡ old → relist ds old x (led t p) ≡ led t p
-unfolding relist relistIn led
-relist-kept ds old x t p e = go (p .listing) refl
+update-kept : (ds : List ℕ) (old x t : ℕ) (p : Picker) → rank p x ≡ old → update ds old x (drawing t p) ≡ drawing t p
+unfolding update updateIn drawing
+update-kept ds old x t p e = go (p .listing) refl
   where
-    go : (l : Listing) → p .listing ≡ l → relistIn l ds old x (led t p) ≡ led t p
-    go stale q = refl
+    go : (l : Listing) → p .listing ≡ l → updateIn l ds old x (drawing t p) ≡ drawing t p
+    go dirty q = refl
     go (fresh l) q =
-        ap₂ led (omega (arith, no-draws (rank p) old x l e))
-        (ap (λ (m : List ℕ). withListing (fresh m) p) (relisted-stays (rank p) ds t old x l e) ∙ listing-own l p q)
+        ap₂ drawing (omega (arith, no-draws (rank p) old x l e))
+        (ap (λ (m : List ℕ). withListing (fresh m) p) (updated-stays (rank p) ds t old x l e) ∙ listing-own l p q)
 
 module _ (s : Shape) (xs : List ℕ) (t : ℕ) (r : Room s xs) where
-  nothing-done : Became s xs xs (led t (decode xs) .picker) × (t ≡ led t (decode xs) .used)
-  unfolding led
+  nothing-done : Became s xs xs (drawing t (decode xs) .picker) × (t ≡ drawing t (decode xs) .used)
+  unfolding drawing
   nothing-done = (became-none s xs r, refl)
 
-  pub relist-same : (ds : List ℕ) (old x i : ℕ) → i ≡ x → (v : ℕ) → v ≡ rank (decode xs) i → v ≡ old
-      → Became s xs xs (relist ds old x (led t (decode xs)) .picker) × (t ≡ relist ds old x (led t (decode xs)) .used)
-  relist-same ds old x i q v ev e =
-      subst (λ (z : Led). Became s xs xs (z .picker) × (t ≡ z .used))
-      (sym (relist-kept ds old x t (decode xs) (ap (rank (decode xs)) (sym q) ∙ sym ev ∙ e))) nothing-done
+  pub update-same : (ds : List ℕ) (old x i : ℕ) → i ≡ x → (v : ℕ) → v ≡ rank (decode xs) i → v ≡ old
+      → Became s xs xs (update ds old x (drawing t (decode xs)) .picker) × (t ≡ update ds old x (drawing t (decode xs)) .used)
+  update-same ds old x i q v ev e =
+      subst (λ (z : Drawing). Became s xs xs (z .picker) × (t ≡ z .used))
+      (sym (update-kept ds old x t (decode xs) (ap (rank (decode xs)) (sym q) ∙ sym ev ∙ e))) nothing-done

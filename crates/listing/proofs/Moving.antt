@@ -6,9 +6,9 @@ use Prim.Native.Nat.{ℕ}
 use native.Mathlib.Decide.{ℕ-discrete}
 use borrow.Author.Tests.{eq-eqb, ne-eqb}
 use Rattle.model.specs.State.{Picker, piecesIn}
-use Rattle.model.specs.Listed.{ListingOf, ListingOk}
-use Rattle.model.specs.Order.{rank, Led, led, on, relist, moved}
-use Rattle.model.proofs.SoundFields.{Alone}
+use Rattle.model.specs.list.Listed.{ListingOf, ListingOk}
+use Rattle.model.specs.list.Order.{rank, Drawing, drawing, noDraw, update, changeAndUpdate}
+use Rattle.model.proofs.sound.SoundFields.{Alone}
 use Rattle.layout.specs.declared.spots.Shape.{Shape}
 use Rattle.layout.specs.Layout.{decode, Became}
 use Rattle.layout.proofs.RoomLaws.{kept-again}
@@ -34,12 +34,12 @@ module _ (s : Shape) (xs ys : List ℕ) (x : ℕ) (f : Picker → Picker) (b : B
 
   -- what both give
   pub moved-after : (ds : List ℕ) (t : ℕ) (zs : List ℕ) (used : ℕ)
-      → Became s ys zs (relist ds (rank (decode xs) x) x (led t (decode ys)) .picker)
-      → used ≡ relist ds (rank (decode xs) x) x (led t (decode ys)) .used
-      → Became s xs zs (moved ds x f (led t (decode xs)) .picker) × (used ≡ moved ds x f (led t (decode xs)) .used)
-  unfolding moved on led
+      → Became s ys zs (update ds (rank (decode xs) x) x (drawing t (decode ys)) .picker)
+      → used ≡ update ds (rank (decode xs) x) x (drawing t (decode ys)) .used
+      → Became s xs zs (changeAndUpdate ds x f (drawing t (decode xs)) .picker) × (used ≡ changeAndUpdate ds x f (drawing t (decode xs)) .used)
+  unfolding changeAndUpdate noDraw drawing
   moved-after ds t zs used h e =
-      let q = ap (λ (p : Picker). relist ds (rank (decode xs) x) x (led t p)) (b .is) in (
-        record { is = h .is ∙ ap (λ (w : Led). w .picker) q; kept = kept-again s xs ys zs (b .kept) (h .kept) },
-        e ∙ ap (λ (w : Led). w .used) q,
+      let q = ap (λ (p : Picker). update ds (rank (decode xs) x) x (drawing t p)) (b .is) in (
+        record { is = h .is ∙ ap (λ (w : Drawing). w .picker) q; kept = kept-again s xs ys zs (b .kept) (h .kept) },
+        e ∙ ap (λ (w : Drawing). w .used) q,
       )

@@ -10,16 +10,16 @@ use lib.ListN.{length, getD, set, length-set}
 use lib.Seq.{getD-set-same, getD-set-other}
 use borrow.Author.Tests.{leb-true}
 use Rattle.types.specs.Queue.{queueNumber}
-use Rattle.model.specs.State.{Picker, mostPeers, pieceAt, piecesIn}
-use Rattle.model.specs.Order.{rank, rankOf, bucket}
-use Rattle.model.specs.WellFormed.{pieceOk, wellFormed}
-use Rattle.model.proofs.SoundBody.{Frame, sound-body}
-use Rattle.model.proofs.SoundLaws.{wellFormed-sound}
-use Rattle.model.proofs.ListingLaws.{OnlyListing}
-use Rattle.model.proofs.Truths.{and-left, and-right}
+use Rattle.model.specs.State.{Picker, maxPeers, pieceAt, piecesIn}
+use Rattle.model.specs.list.Order.{rank, rankOf, bucket}
+use Rattle.model.specs.image.WellFormed.{pieceOk, wellFormed}
+use Rattle.model.proofs.sound.SoundBody.{Frame, sound-body}
+use Rattle.model.proofs.sound.SoundLaws.{wellFormed-sound}
+use Rattle.model.proofs.list.ListingLaws.{OnlyListing}
+use Rattle.model.proofs.base.Truths.{and-left, and-right}
 use Rattle.layout.specs.declared.spots.Shape.{Shape}
 use Rattle.layout.specs.Layout.{headWord, pieceWord, queueFrom, yes?, decode, Room}
-use Rattle.layout.proofs.Meanings.{pieces-number, count-is, state-is, wish-is, had-is}
+use Rattle.layout.proofs.Meanings.{pieces-number, count-is, state-is, priority-is, flushed-is}
 use Rattle.bucket.specs.Ranks.{Numbers, IsRank}
 use Rattle.listing.specs.Listings.{Ranges, Keyed}
 
@@ -28,11 +28,11 @@ pub frame-ranges : (p : Picker) → Frame p → Ranges p
 unfolding pieceOk
 frame-ranges p g =
     record {
-      count = λ i h. (
-          let l = leb-true (pieceAt p i .count + p .seeds) mostPeers (and-left _ _ (g .piece i h)) in
+      peerCount = λ i h. (
+          let l = leb-true (pieceAt p i .peerCount + p .seeds) maxPeers (and-left _ _ (g .piece i h)) in
           omega arith
           );
-      wish = λ i h. leb-true (pieceAt p i .wish) 7 (and-left _ _ (and-right (leb (pieceAt p i .count + p .seeds) mostPeers) _ (g .piece i h)));
+      priority = λ i h. leb-true (pieceAt p i .priority) 7 (and-left _ _ (and-right (leb (pieceAt p i .peerCount + p .seeds) maxPeers) _ (g .piece i h)));
     }
 
 -- and so a well-formed one
@@ -43,7 +43,7 @@ well-formed-ranges p e = frame-ranges p (sound-body p (wellFormed-sound p e) .fr
 pub only-ranges : (p q : Picker) → OnlyListing p q → Ranges p → Ranges q
 unfolding pieceAt piecesIn
 only-ranges p q o g =
-    record { count = λ i h. rw (o .pieces) (g .count i (rw (o .pieces) at h)); wish = λ i h. rw (o .pieces) (g .wish i (rw (o .pieces) at h)) }
+    record { peerCount = λ i h. rw (o .pieces) (g .peerCount i (rw (o .pieces) at h)); priority = λ i h. rw (o .pieces) (g .priority i (rw (o .pieces) at h)) }
 
 -- ---- one piece
 module _ (s : Shape) (xs : List ℕ) (r : Room s xs) (g : Ranges (decode xs)) (i : ℕ) (h : i < s .pieces) where
@@ -51,23 +51,23 @@ module _ (s : Shape) (xs : List ℕ) (r : Room s xs) (g : Ranges (decode xs)) (i
   there = rw (pieces-number s xs r) h
 
   pub count-most : (w : ℕ) → w ≡ pieceWord xs (s .pieces) 0 i → w ≤ 1000
-  count-most w e = rw (e ∙ count-is s xs r i h) (g .count i there)
+  count-most w e = rw (e ∙ count-is s xs r i h) (g .peerCount i there)
 
-  pub wish-most : (w : ℕ) → w ≡ pieceWord xs (s .pieces) 2 i → w ≤ 7
-  wish-most w e = rw (e ∙ wish-is s xs r i h) (g .wish i there)
+  pub priority-most : (w : ℕ) → w ≡ pieceWord xs (s .pieces) 2 i → w ≤ 7
+  priority-most w e = rw (e ∙ priority-is s xs r i h) (g .priority i there)
 
   -- its rank is the one that its words give
-  pub rank-is : (seeds count state wish had v : ℕ) → seeds ≡ headWord xs 2 → count ≡ pieceWord xs (s .pieces) 0 i
-      → state ≡ pieceWord xs (s .pieces) 1 i → wish ≡ pieceWord xs (s .pieces) 2 i → had ≡ pieceWord xs (s .pieces) 3 i
-      → IsRank seeds count (queueNumber (queueFrom state)) wish (eqb had 1) v
+  pub rank-is : (seeds peerCount state priority flushed v : ℕ) → seeds ≡ headWord xs 2 → peerCount ≡ pieceWord xs (s .pieces) 0 i
+      → state ≡ pieceWord xs (s .pieces) 1 i → priority ≡ pieceWord xs (s .pieces) 2 i → flushed ≡ pieceWord xs (s .pieces) 3 i
+      → IsRank seeds peerCount (queueNumber (queueFrom state)) priority (eqb flushed 1) v
       → (v ≡ rank (decode xs) i) × (v < 21022)
   unfolding rank yes?
-  rank-is seeds count state wish had v es ec et ei eh k =
-      let n : Numbers count (queueNumber (queueFrom state)) wish (eqb had 1) (pieceAt (decode xs) i) = record {
+  rank-is seeds peerCount state priority flushed v es ec et ei eh k =
+      let n : Numbers peerCount (queueNumber (queueFrom state)) priority (eqb flushed 1) (pieceAt (decode xs) i) = record {
         counts = sym (ec ∙ count-is s xs r i h);
         states = sym (ap (λ (w : ℕ). queueNumber (queueFrom w)) et ∙ ap queueNumber (state-is s xs r i h));
-        wishes = sym (ei ∙ wish-is s xs r i h);
-        haves = sym (ap (λ (w : ℕ). eqb w 1) eh ∙ had-is s xs r i h);
+        wishes = sym (ei ∙ priority-is s xs r i h);
+        haves = sym (ap (λ (w : ℕ). eqb w 1) eh ∙ flushed-is s xs r i h);
       } in
       (k .is (pieceAt (decode xs) i) n ∙ ap (λ (m : ℕ). rankOf (bucket m (pieceAt (decode xs) i))) es, omega (arith, k .low))
 

@@ -6,8 +6,8 @@ use native.Mathlib.Omega.{arith}
 use lib.ListN.{length, getD, take, drop, length-append, length-drop}
 use lib.Seq.{getD-take, getD-drop, length-take-le, take-at}
 use borrow.Rule.Slice.PartMut.{putMid, midOf}
-use Rattle.model.specs.Lists.{at, size}
-use Rattle.model.specs.State.{Picker, Listing, fresh, orderOf, withListing}
+use Rattle.model.specs.Lists.{nth, len}
+use Rattle.model.specs.State.{Picker, Listing, fresh, listOf, withListing}
 use Rattle.layout.specs.declared.spots.Shape.{Shape}
 use Rattle.layout.specs.Tables.{front}
 use Rattle.layout.specs.Layout.{headWord, pieceWord, listHeld, listingHeld, listWords, decode, Room, Kept, Became}
@@ -42,7 +42,7 @@ module _ (s : Shape) (xs : List ℕ) (r : Room s xs) where
       ap (λ (j : ℕ). getD xs j 0) (list-spot (s .pieces) i) ∙ sym (getD-take (s .pieces) (drop a xs) i 0 h ∙ getD-drop a xs i 0)))
 
   -- the list is their front
-  list-front : take (headWord xs 6) (listWords xs (s .pieces)) ≡ orderOf (decode xs .listing)
+  list-front : take (headWord xs 6) (listWords xs (s .pieces)) ≡ listOf (decode xs .listing)
   unfolding listWords listHeld front
   list-front = tab-front (headWord xs 6) (s .pieces) (pieceWord xs (s .pieces) 5) (r .list) ∙ sym (order-is s xs r)
 
@@ -90,12 +90,12 @@ module _ (s : Shape) (xs : List ℕ) (r : Room s xs) (a : ℕ) (ea : a ≡ 16 + 
   part-long = ap length lent-region ∙ region-long s xs r
 
   -- its front is the list
-  pub part-list : take (size (orderOf (decode xs .listing))) (lentAt a (s .pieces) xs) ≡ orderOf (decode xs .listing)
+  pub part-list : take (len (listOf (decode xs .listing))) (lentAt a (s .pieces) xs) ≡ listOf (decode xs .listing)
   part-list =
       ap₂ (λ (k : ℕ) (l : List ℕ). take k l) (sym (length-is s xs r)) (lent-region ∙ region-lent s xs r) ∙ list-front s xs r
 
   -- a list put in front, and the other words as they were
-  module _ (ys l : List ℕ) (len : ℕ) (long : length ys ≡ length (lentAt a (s .pieces) xs)) (e : ys ≡ l ++ drop len (lentAt a (s .pieces) xs)) (el : len ≡ size l) where
+  module _ (ys l : List ℕ) (len : ℕ) (long : length ys ≡ length (lentAt a (s .pieces) xs)) (e : ys ≡ l ++ drop len (lentAt a (s .pieces) xs)) (el : len ≡ len l) where
     back-is : backAt a (s .pieces) xs ys ≡ putMid (16 + 5 * s .pieces) (s .pieces) xs ys
     back-is = ap₂ (λ (i k : ℕ). putMid i k xs ys) ea many
 
@@ -106,11 +106,11 @@ module _ (s : Shape) (xs : List ℕ) (r : Room s xs) (a : ℕ) (ea : a ≡ 16 + 
     filed-room = rw back-is (region-back s xs r ys long-is .kept .room)
 
     pub filed-few : len ≤ s .pieces
-    unfolding size
+    unfolding len
     filed-few = omega (arith, long-is, ap length e, length-append l (drop len (lentAt a (s .pieces) xs)))
 
     front-is : front len (listWords (putMid (16 + 5 * s .pieces) (s .pieces) xs ys) (s .pieces)) ≡ l
-    unfolding front size
+    unfolding front len
     front-is = ap (take len) (region-words s xs r ys long-is ∙ e) ∙ take-at l (drop len (lentAt a (s .pieces) xs)) len (sym el)
 
     -- with its length stored it is the picker's list

@@ -6,8 +6,8 @@ use Prim.Native.Nat.{ℕ, _+_, _*_, _≤_}
 use native.Mathlib.Omega.{arith}
 use native.Mathlib.Decide.{decLt}
 use lib.ListN.{length, getD, replicate, getD-replicate, length-replicate, List·getD-eq-default}
-use Rattle.model.specs.State.{Listing, stale, fresh, isStale, withListing}
-use Rattle.model.specs.Order.{rank, rebuilt, rebuildDraws, led, refresh, refreshIn}
+use Rattle.model.specs.State.{Listing, dirty, fresh, isDirty, withListing}
+use Rattle.model.specs.list.Order.{rank, rebuilt, rebuildDraws, drawing, updatePieces, updatePiecesIn}
 use Rattle.layout.specs.declared.spots.Shape.{Shape}
 use Rattle.layout.specs.Tables.{front}
 use Rattle.layout.specs.Layout.{listWords, decode, Room, Became}
@@ -62,25 +62,25 @@ module _ (s : Shape) (xs keys : List ℕ) (r : Room s xs) (k : rankIn keys ≡ r
       b .used-is ∙ ap (λ (d : ℕ). t + d) draws-are,
     )
 
--- ---- only where it is stale
+-- ---- only where it is dirty
 module _ (s : Shape) (xs : List ℕ) (ds : List ℕ) (t : ℕ) where
-  pub refresh-stale : isStale (decode xs .listing) ≡ true → (zs : List ℕ) (used : ℕ)
+  pub updatePieces-dirty : isDirty (decode xs .listing) ≡ true → (zs : List ℕ) (used : ℕ)
       → Became s xs zs (withListing (fresh (rebuilt ds t (decode xs))) (decode xs)) × (used ≡ t + rebuildDraws (decode xs))
-      → Became s xs zs (refresh ds (led t (decode xs)) .picker) × (used ≡ refresh ds (led t (decode xs)) .used)
-  unfolding refresh refreshIn led isStale withListing rebuildDraws
-  refresh-stale e zs used h = go (decode xs .listing) e
+      → Became s xs zs (updatePieces ds (drawing t (decode xs)) .picker) × (used ≡ updatePieces ds (drawing t (decode xs)) .used)
+  unfolding updatePieces updatePiecesIn drawing isDirty withListing rebuildDraws
+  updatePieces-dirty e zs used h = go (decode xs .listing) e
     where
-      go : (l : Listing) → isStale l ≡ true
-          → Became s xs zs (refreshIn l ds (led t (decode xs)) .picker) × (used ≡ refreshIn l ds (led t (decode xs)) .used)
-      go stale e = h
+      go : (l : Listing) → isDirty l ≡ true
+          → Became s xs zs (updatePiecesIn l ds (drawing t (decode xs)) .picker) × (used ≡ updatePiecesIn l ds (drawing t (decode xs)) .used)
+      go dirty e = h
       go (fresh l) e = absurd (true≢false (sym e))
 
-  pub refresh-fresh : Room s xs → isStale (decode xs .listing) ≡ false
-      → Became s xs xs (refresh ds (led t (decode xs)) .picker) × (t ≡ refresh ds (led t (decode xs)) .used)
-  unfolding refresh refreshIn led isStale
-  refresh-fresh r e = go (decode xs .listing) e
+  pub updatePieces-fresh : Room s xs → isDirty (decode xs .listing) ≡ false
+      → Became s xs xs (updatePieces ds (drawing t (decode xs)) .picker) × (t ≡ updatePieces ds (drawing t (decode xs)) .used)
+  unfolding updatePieces updatePiecesIn drawing isDirty
+  updatePieces-fresh r e = go (decode xs .listing) e
     where
-      go : (l : Listing) → isStale l ≡ false
-          → Became s xs xs (refreshIn l ds (led t (decode xs)) .picker) × (t ≡ refreshIn l ds (led t (decode xs)) .used)
-      go stale e = absurd (true≢false e)
+      go : (l : Listing) → isDirty l ≡ false
+          → Became s xs xs (updatePiecesIn l ds (drawing t (decode xs)) .picker) × (t ≡ updatePiecesIn l ds (drawing t (decode xs)) .used)
+      go dirty e = absurd (true≢false e)
       go (fresh l) e = (became-none s xs r, refl)

@@ -3,15 +3,15 @@ use mathlib.Core.Path.{_≡_}
 use mathlib.Core.List.{List}
 use Prim.Native.Nat.{ℕ, _≤_, _<_}
 use lib.ListN.{length, getD}
-use Rattle.model.specs.State.{Picker, mostPeers, orderOf, pieceAt, piecesIn}
-use Rattle.model.specs.Order.{rank}
-use Rattle.model.specs.Listed.{Listed, ListingOf}
+use Rattle.model.specs.State.{Picker, maxPeers, listOf, pieceAt, piecesIn}
+use Rattle.model.specs.list.Order.{rank}
+use Rattle.model.specs.list.Listed.{Listed, ListingOf}
 use Rattle.update.specs.Relisting.{former}
 
--- peers and wish of each piece are in range, so that its rank has a place in the table
+-- peers and priority of each piece are in range, so that its rank has a place in the table
 pub record Ranges (p : Picker) : Type 0 where
-  pub count : (i : ℕ) → i < piecesIn p → pieceAt p i .count ≤ mostPeers
-  pub wish : (i : ℕ) → i < piecesIn p → pieceAt p i .wish ≤ 7
+  pub peerCount : (i : ℕ) → i < piecesIn p → pieceAt p i .peerCount ≤ maxPeers
+  pub priority : (i : ℕ) → i < piecesIn p → pieceAt p i .priority ≤ 7
 
 -- the first n keys are the ranks, each with a place in a table of 21,022; the others are as they were
 pub record Keyed (p : Picker) (n : ℕ) (before keys : List ℕ) : Type 0 where
@@ -22,8 +22,8 @@ pub record Keyed (p : Picker) (n : ℕ) (before keys : List ℕ) : Type 0 where
 
 -- the list was right while piece x had rank `old`
 unfoldable pub OrderBefore : ℕ → ℕ → Picker → Type 0
-OrderBefore old x p = Listed (former (rank p) old x) (piecesIn p) (orderOf (p .listing))
+OrderBefore old x p = Listed (former (rank p) old x) (piecesIn p) (listOf (p .listing))
 
--- the list is stale, or was right while piece x had rank `old`
+-- the list is dirty, or was right while piece x had rank `old`
 unfoldable pub ListedBefore : ℕ → ℕ → Picker → Type 0
 ListedBefore old x p = ListingOf (former (rank p) old x) (piecesIn p) (p .listing)

@@ -3,8 +3,8 @@ ghost use mathlib.Core.Path.{_≡_};
 ghost use Prim.Native.Nat.{_+_, _≤_, _<_};
 ghost use lib.ListN.{length};
 ghost use Rattle.types.specs.Piece.{indexOf};
-ghost use Rattle.model.specs.State.{fresh, orderOf, withListing};
-ghost use Rattle.model.specs.Order.{rank, rebuilt, rebuildDraws, relisted, relistDraws, led, refresh, relist};
+ghost use Rattle.model.specs.State.{fresh, listOf, withListing};
+ghost use Rattle.model.specs.list.Order.{rank, rebuilt, rebuildDraws, updated, updateDraws, drawing, updatePieces, update};
 ghost use Rattle.layout.specs.Layout.{decode, Room, Became};
 ghost use Rattle.listing.specs.Listings.{Ranges, OrderBefore, ListedBefore};
 use crate::ranks::rank_at;
@@ -33,8 +33,8 @@ pub fn refresh(mem: &mut [u64], s: layout::Shape, draws: &[u32], t: usize) -> us
     requires { ⌜ Room s (now mem) ⌝ }
     requires { ⌜ Ranges (decode (now mem)) ⌝ }
     requires { ⌜ t ≤ length (now draws) ⌝ }
-    ensures { λ _. ⌜ Became s (now (mem .entry)) (now (mem .exit)) (refresh (now (draws .entry)) (led t (decode (now (mem .entry)))) .picker) ⌝ }
-    ensures { λ r. ⌜ r ≡ refresh (now (draws .entry)) (led t (decode (now (mem .entry)))) .used ⌝ }
+    ensures { λ _. ⌜ Became s (now (mem .entry)) (now (mem .exit)) (updatePieces (now (draws .entry)) (drawing t (decode (now (mem .entry)))) .picker) ⌝ }
+    ensures { λ r. ⌜ r ≡ updatePieces (now (draws .entry)) (drawing t (decode (now (mem .entry)))) .used ⌝ }
 {
     if heads::is_stale(mem, s) {
         return rebuild_list(mem, s, draws, t);
@@ -57,9 +57,9 @@ fn mend_list(
     requires { ⌜ OrderBefore old x (decode (now mem)) ⌝ }
     requires { ⌜ t ≤ length (now draws) ⌝ }
     ensures { λ _. ⌜ Became s (now (mem .entry)) (now (mem .exit))
-        (withListing (fresh (relisted (rank (decode (now (mem .entry)))) (now (draws .entry)) t old x (orderOf (decode (now (mem .entry)) .listing))))
+        (withListing (fresh (updated (rank (decode (now (mem .entry)))) (now (draws .entry)) t old x (listOf (decode (now (mem .entry)) .listing))))
         (decode (now (mem .entry)))) ⌝ }
-    ensures { λ r. ⌜ r ≡ t + relistDraws (rank (decode (now (mem .entry)))) old x (orderOf (decode (now (mem .entry)) .listing)) ⌝ }
+    ensures { λ r. ⌜ r ≡ t + updateDraws (rank (decode (now (mem .entry)))) old x (listOf (decode (now (mem .entry)) .listing)) ⌝ }
 {
     let mut keys = [0; 4096];
     rank_pieces(mem, s, &mut keys);
@@ -86,8 +86,8 @@ pub fn relist(
     requires { ⌜ indexOf (piece .0) < s .pieces ⌝ }
     requires { ⌜ ListedBefore old (indexOf (piece .0)) (decode (now mem)) ⌝ }
     requires { ⌜ t ≤ length (now draws) ⌝ }
-    ensures { λ _. ⌜ Became s (now (mem .entry)) (now (mem .exit)) (relist (now (draws .entry)) old (indexOf (piece .0)) (led t (decode (now (mem .entry)))) .picker) ⌝ }
-    ensures { λ r. ⌜ r ≡ relist (now (draws .entry)) old (indexOf (piece .0)) (led t (decode (now (mem .entry)))) .used ⌝ }
+    ensures { λ _. ⌜ Became s (now (mem .entry)) (now (mem .exit)) (update (now (draws .entry)) old (indexOf (piece .0)) (drawing t (decode (now (mem .entry)))) .picker) ⌝ }
+    ensures { λ r. ⌜ r ≡ update (now (draws .entry)) old (indexOf (piece .0)) (drawing t (decode (now (mem .entry)))) .used ⌝ }
 {
     if heads::is_stale(mem, s) {
         return t;

@@ -5,16 +5,16 @@ ghost use lib.Dec.{eqb};
 ghost use lib.ListN.{length};
 ghost use Rattle.types.specs.Piece.{indexOf};
 ghost use Rattle.types.specs.Queue.{queueNumber};
-ghost use Rattle.model.specs.Order.{rank};
+ghost use Rattle.model.specs.list.Order.{rank};
 ghost use Rattle.layout.specs.Layout.{queueFrom, decode, Room};
 ghost use Rattle.bucket.specs.Ranks.{IsRank};
 ghost use Rattle.listing.specs.Listings.{Ranges, Keyed};
 
 // The rank by a piece's words. Most pieces are Open: tested first, they need no other test of the state.
 fn rank_by(seeds: u64, count: u64, state: u64, wish: u64, had: u64) -> u64
-    requires { ⌜ count ≤ 1000 ⌝ }
-    requires { ⌜ wish ≤ 7 ⌝ }
-    ensures { λ r. ⌜ IsRank seeds count (queueNumber (queueFrom state)) wish (eqb had 1) r ⌝ }
+    requires { ⌜ peerCount ≤ 1000 ⌝ }
+    requires { ⌜ priority ≤ 7 ⌝ }
+    ensures { λ r. ⌜ IsRank seeds peerCount (queueNumber (queueFrom state)) priority (eqb flushed 1) r ⌝ }
 {
     if state == 4 {
         return bucket::bucket(seeds, count, 4, wish, had == 1);

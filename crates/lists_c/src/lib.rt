@@ -5,7 +5,7 @@ use types::PieceIndex;
 ghost use mathlib.Core.Path.{_≡_};
 ghost use mathlib.Core.Bool.{true};
 ghost use Prim.Native.Nat.{_<_};
-ghost use Rattle.model.specs.WellFormed.{wellFormed};
+ghost use Rattle.model.specs.image.WellFormed.{wellFormed};
 ghost use Rattle.layout.specs.Layout.{piecesOn, decode};
 ghost use Rattle.listing.specs.Listings.{ListedBefore};
 ghost use Rattle.lists_c.specs.Standing.{Stands};

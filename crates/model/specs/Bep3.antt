@@ -23,50 +23,50 @@ sumTo (suc n) f = sumTo n f + f n
 -- ---- pieces
 -- the number of pieces
 unfoldable pub numPieces : ℕ → ℕ → ℕ
-numPieces total size = partsOf total size
+numPieces totalSize pieceSize = partsOf totalSize pieceSize
 
 -- the length of piece i
 unfoldable pub pieceLength : ℕ → ℕ → ℕ → ℕ
-pieceLength total size i = partLength total size i
+pieceLength totalSize pieceSize i = partLength totalSize pieceSize i
 
 -- ---- blocks
 -- the length of a whole block: 2^14, or the piece length if that is smaller
 unfoldable pub blockLength : ℕ → ℕ
-blockLength size = min 16384 size
+blockLength pieceSize = min 16384 pieceSize
 
 -- the number of blocks in a piece of `long` bytes
-unfoldable pub blocksIn : ℕ → ℕ → ℕ
-blocksIn long size = partsOf long (blockLength size)
+unfoldable pub blockCount : ℕ → ℕ → ℕ
+blockCount long pieceSize = partsOf long (blockLength pieceSize)
 
 -- where block j starts in its piece
 unfoldable pub blockStart : ℕ → ℕ → ℕ
-blockStart size j = j * blockLength size
+blockStart pieceSize j = j * blockLength pieceSize
 
 -- the length of block j of piece i
 unfoldable pub blockLengthAt : ℕ → ℕ → ℕ → ℕ → ℕ
-blockLengthAt total size i j = partLength (pieceLength total size i) (blockLength size) j
+blockLengthAt totalSize pieceSize i j = partLength (pieceLength totalSize pieceSize i) (blockLength pieceSize) j
 
 -- the number of blocks in a whole piece
-unfoldable pub blocksPerPiece : ℕ → ℕ
-blocksPerPiece size = blocksIn size size
+unfoldable pub wholePieceBlocks : ℕ → ℕ
+wholePieceBlocks pieceSize = blockCount pieceSize pieceSize
 
 -- the number of blocks in piece i
-unfoldable pub blocksInPiece : ℕ → ℕ → ℕ → ℕ
-blocksInPiece total size i = blocksIn (pieceLength total size i) size
+unfoldable pub pieceBlocks : ℕ → ℕ → ℕ → ℕ
+pieceBlocks totalSize pieceSize i = blockCount (pieceLength totalSize pieceSize i) pieceSize
 
 -- ---- the bytes of the torrent
 -- byte number x of the torrent lies in block j of piece i
-pub record InBlock (total size x i j : ℕ) : Type 0 where
-  pub from : i * size + blockStart size j ≤ x
-  pub below : x < i * size + blockStart size j + blockLengthAt total size i j
+pub record InBlock (totalSize pieceSize x i j : ℕ) : Type 0 where
+  pub from : i * pieceSize + blockStart pieceSize j ≤ x
+  pub below : x < i * pieceSize + blockStart pieceSize j + blockLengthAt totalSize pieceSize i j
 
 -- the piece of byte number x
 unfoldable pub pieceOfByte : ℕ → ℕ → ℕ
-pieceOfByte size x = x / size
+pieceOfByte pieceSize x = x / pieceSize
 
 -- the block of byte number x in its piece
 unfoldable pub blockOfByte : ℕ → ℕ → ℕ
-blockOfByte size x = x % size / blockLength size
+blockOfByte pieceSize x = x % pieceSize / blockLength pieceSize
 
 -- ---- bitfields
 -- the number of bytes that hold so many bits

@@ -6,17 +6,22 @@ use mathlib.Core.List.{List, [], _∷_}
 use mathlib.Core.Option.{Option, none, some}
 use lib.Dec.{eqb, ltb, leb}
 use Rattle.types.specs.declared.block.BlockState.the-variants.{Requested}
-use Rattle.model.specs.Lists.{least, some?, size}
+use Rattle.model.specs.Lists.{least, any, len}
 use Rattle.model.specs.Bep3.{bitfieldBytes}
-use Rattle.model.specs.State.{Piece, Block, Picker, Listing, stale, fresh, mostPeers, mostPartials, leastDraws, isOpen, sameState, validGeometry, new, pieceAt, piecesIn, blocksPer, blocksAt}
+use Rattle.model.specs.State.{Piece, Block, Picker, Listing, dirty, fresh, maxPeers, maxPartials, minDraws, isOpen, sameBlockState}
+use Rattle.model.specs.State.{validGeometry, new, pieceAt, piecesIn, blocksPerPiece, blocksInPiece}
 use Rattle.model.specs.Options.{rarestFirst, sequential}
-use Rattle.model.specs.Order.{Led, led}
-use Rattle.model.specs.Partials.{partialOf}
-use Rattle.model.specs.Changes.{Change, quietly, incRefcount, decRefcount, incRefcountAll, decRefcountAll, setPiecePriority, markAsDownloading, markAsWriting, markAsFinished, abortDownload, lockPiece, piecePassed, received}
-use Rattle.model.specs.Questions.{ListOfPicker, get-availability-vec, piece-priorities, get-download-queue, Question, ofPicker, listOfPicker, ofPiece, listOfPiece, ofBlock, partial-at, recent-extent, list-place, Told, blockOf, blockTest, ask}
-use Rattle.model.specs.Blocks.{Ask, option, PieceBlock, Work}
-use Rattle.model.specs.Pick.{pickPieces}
-use Rattle.model.specs.Image.{image, Read, accepted, faultAt, readImage}
+use Rattle.model.specs.list.Order.{Drawing, drawing}
+use Rattle.model.specs.change.Partials.{partialOf}
+use Rattle.model.specs.change.Changes.{Change, quietly, incRefcount, decRefcount, incRefcountAll, decRefcountAll, setPiecePriority}
+use Rattle.model.specs.change.Changes.{markAsDownloading, markAsWriting, markAsFinished, abortDownload, lockPiece, piecePassed}
+use Rattle.model.specs.change.Changes.{received}
+use Rattle.model.specs.ask.Questions.{ListOfPicker, get-availability-vec, piece-priorities, get-download-queue, Question, ofPicker}
+use Rattle.model.specs.ask.Questions.{listOfPicker, ofPiece, listOfPiece, ofBlock, partial-at, recent-extent, list-place, Reply}
+use Rattle.model.specs.ask.Questions.{blockIn, blockTest, reply}
+use Rattle.model.specs.pick.Blocks.{PickRequest, option, PieceBlock, PickState}
+use Rattle.model.specs.pick.Pick.{pickPieces}
+use Rattle.model.specs.image.Image.{image, Read, accepted, faultAt, readImage}
 
 -- ---- calls
 -- what a call does, with its arguments; `draws` are the lent words, `free` the output places that a pick finds free
@@ -24,11 +29,11 @@ pub data Action : Type 0 where
   question : Question → Action
   inc-refcount dec-refcount : (piece : ℕ) → (draws : List ℕ) → Action
   inc-refcount-all dec-refcount-all : Action
-  set-piece-priority : (piece wish : ℕ) → (draws : List ℕ) → Action
+  set-piece-priority : (piece priority : ℕ) → (draws : List ℕ) → Action
   mark-as-downloading : (piece block : ℕ) → (peer : Option ℕ) → (options : ℕ) → (draws : List ℕ) → Action
   mark-as-writing mark-as-finished abort-download : (piece block : ℕ) → (peer : Option ℕ) → (draws : List ℕ) → Action
   lock-piece piece-passed : (piece : ℕ) → Action
-  pick-pieces : Ask → (free : ℕ) → (draws : List ℕ) → Action
+  pick-pieces : PickRequest → (free : ℕ) → (draws : List ℕ) → Action
 
 -- `lent` are the words of memory that the picker stands in
 pub record Call : Type 0 where
@@ -40,23 +45,23 @@ pub data Answer : Type 0 where
   refused : ℕ → Answer
   done : (used : ℕ) → Answer
   said : Bool → (used : ℕ) → Answer
-  told : Told → Answer
+  replied : Reply → Answer
   picked : List PieceBlock → (flags : ℕ) → (loops : List ℕ) → (used : ℕ) → Answer
 
 -- ---- needs
 -- words of memory for a picker of n pieces of b blocks: a head, six fields of a piece, three of a partial and four of a block
 unfoldable pub wordsNeeded : ℕ → ℕ → ℕ
-wordsNeeded n b = 16 + 6 * n + least n mostPartials * (3 + 4 * b)
+wordsNeeded n b = 16 + 6 * n + least n maxPartials * (3 + 4 * b)
 
 -- the memory of a picker
 unfoldable pub memoryNeeded : Picker → ℕ
-memoryNeeded s = wordsNeeded (piecesIn s) (blocksPer s)
+memoryNeeded s = wordsNeeded (piecesIn s) (blocksPerPiece s)
 
 -- records of an answer
 unfoldable pub recordsNeeded : Picker → ListOfPicker → ℕ
 recordsNeeded s get-availability-vec = piecesIn s
 recordsNeeded s piece-priorities = piecesIn s
-recordsNeeded s get-download-queue = least (piecesIn s) mostPartials
+recordsNeeded s get-download-queue = least (piecesIn s) maxPartials
 
 -- ---- refusals: the first of the table that holds
 unfoldable pub check : Bool → ℕ → Option ℕ → Option ℕ
@@ -64,84 +69,84 @@ check true n r = some n
 check false n r = r
 
 -- 4
-unfoldable pub fewDraws : List ℕ → Option ℕ → Option ℕ
-fewDraws ds r = check (ltb (size ds) leastDraws) 4 r
+unfoldable pub refuseFewDraws : List ℕ → Option ℕ → Option ℕ
+refuseFewDraws ds r = check (ltb (len ds) minDraws) 4 r
 
 -- 5, of a piece
-unfoldable pub noPiece : Picker → ℕ → Option ℕ → Option ℕ
-noPiece s i r = check (leb (piecesIn s) i) 5 r
+unfoldable pub refuseBadPiece : Picker → ℕ → Option ℕ → Option ℕ
+refuseBadPiece s i r = check (leb (piecesIn s) i) 5 r
 
 -- 5, of a block
-unfoldable pub noBlock : Picker → ℕ → ℕ → Option ℕ → Option ℕ
-noBlock s i j r = noPiece s i (check (leb (blocksAt s i) j) 5 r)
+unfoldable pub refuseBadBlock : Picker → ℕ → ℕ → Option ℕ → Option ℕ
+refuseBadBlock s i j r = refuseBadPiece s i (check (leb (blocksInPiece s i) j) 5 r)
 
--- no more peers of a piece, or requesters of a block
-unfoldable pub countFull : Picker → Piece → Bool
-countFull s p = leb mostPeers (p .count + s .seeds)
+-- no more peers of a piece, or peers of a block
+unfoldable pub peersFull : Picker → Piece → Bool
+peersFull s p = leb maxPeers (p .peerCount + s .seeds)
 
 -- of a block that a request would count up
-unfoldable pub requestersFull : Block → Bool
-requestersFull b = not (received b) && leb mostPeers (b .requesters)
+unfoldable pub numPeersFull : Block → Bool
+numPeersFull b = not (received b) && leb maxPeers (b .numPeers)
 
 -- the block, where a partial stands
 unfoldable pub blockThere : Picker → ℕ → ℕ → Option Block
-blockThere s i j = blockOf (partialOf s i) j
+blockThere s i j = blockIn (partialOf s i) j
 
 -- a partial more than may stand would be opened
 unfoldable pub noPartialLeft : Picker → ℕ → Bool
-noPartialLeft s i = isOpen (pieceAt s i .state) && (not (pieceAt s i .had) && leb mostPartials (size (s .partials)))
+noPartialLeft s i = isOpen (pieceAt s i .state) && (not (pieceAt s i .flushed) && leb maxPartials (len (s .partials)))
 
--- past the end of a list that is not stale
+-- past the end of a list that is not dirty
 unfoldable pub noPlace : Listing → ℕ → Bool
-noPlace stale k = false
-noPlace (fresh l) k = leb (size l) k
+noPlace dirty k = false
+noPlace (fresh l) k = leb (len l) k
 
 -- 2 and 5 of a question
 unfoldable pub questionRefusal : Picker → Question → Option ℕ
 questionRefusal s (ofPicker q) = none
 questionRefusal s (listOfPicker q room) = check (ltb room (recordsNeeded s q)) 2 none
-questionRefusal s (ofPiece q i) = noPiece s i none
-questionRefusal s (listOfPiece q i room) = check (ltb room (blocksPer s)) 2 (noPiece s i none)
-questionRefusal s (ofBlock q i j) = noBlock s i j none
+questionRefusal s (ofPiece q i) = refuseBadPiece s i none
+questionRefusal s (listOfPiece q i room) = check (ltb room (blocksPerPiece s)) 2 (refuseBadPiece s i none)
+questionRefusal s (ofBlock q i j) = refuseBadBlock s i j none
 questionRefusal s (partial-at k) = none
 questionRefusal s (recent-extent k) = none
 questionRefusal s (list-place k) = check (noPlace (s .listing) k) 5 none
 
 -- the bitfield has a bit for each piece, and the bytes that they need
-unfoldable pub bitfieldFits : Picker → Ask → Bool
-bitfieldFits s a = eqb (a .bits) (piecesIn s) && eqb (size (a .bytes)) (bitfieldBytes (a .bits))
+unfoldable pub bitfieldFits : Picker → PickRequest → Bool
+bitfieldFits s a = eqb (a .bits) (piecesIn s) && eqb (len (a .bytes)) (bitfieldBytes (a .bits))
 
 -- the arguments of a pick are in range
-unfoldable pub askFits : Picker → Ask → Bool
-askFits s a =
+unfoldable pub requestFits : Picker → PickRequest → Bool
+requestFits s a =
     leb 1 (a .wanted)
     && (leb (a .wanted) 2048
-    && (leb (a .run) 2048
+    && (leb (a .contiguous) 2048
     && (leb (a .peers) 1000
-    && (leb (size (a .suggestions)) 256 && (not (option rarestFirst a && option sequential a) && bitfieldFits s a)))))
+    && (leb (len (a .suggestions)) 256 && (not (option rarestFirst a && option sequential a) && bitfieldFits s a)))))
 
 -- the table's refusals from 4 on, and 2 of lists
 unfoldable pub refusal : Picker → Action → Option ℕ
 refusal s (question q) = questionRefusal s q
-refusal s (inc-refcount i ds) = fewDraws ds (noPiece s i (check (countFull s (pieceAt s i)) 6 none))
-refusal s (dec-refcount i ds) = fewDraws ds (noPiece s i (check (eqb (s .seeds) 0 && eqb (pieceAt s i .count) 0) 7 none))
-refusal s inc-refcount-all = check (some? (countFull s) (s .pieces)) 6 none
-refusal s dec-refcount-all = check (eqb (s .seeds) 0 && some? (λ p. eqb (p .count) 0) (s .pieces)) 7 none
-refusal s (set-piece-priority i wish ds) = fewDraws ds (noPiece s i (check (ltb 7 wish) 5 none))
+refusal s (inc-refcount i ds) = refuseFewDraws ds (refuseBadPiece s i (check (peersFull s (pieceAt s i)) 6 none))
+refusal s (dec-refcount i ds) = refuseFewDraws ds (refuseBadPiece s i (check (eqb (s .seeds) 0 && eqb (pieceAt s i .peerCount) 0) 7 none))
+refusal s inc-refcount-all = check (any (peersFull s) (s .pieces)) 6 none
+refusal s dec-refcount-all = check (eqb (s .seeds) 0 && any (λ p. eqb (p .peerCount) 0) (s .pieces)) 7 none
+refusal s (set-piece-priority i priority ds) = refuseFewDraws ds (refuseBadPiece s i (check (ltb 7 priority) 5 none))
 refusal s (mark-as-downloading i j peer options ds) =
-    fewDraws ds
-    (noBlock s i j
-    (check (blockTest requestersFull (blockThere s i j)) 6 (check (pieceAt s i .had) 8 (check (noPartialLeft s i) 10 none))))
-refusal s (mark-as-writing i j peer ds) = fewDraws ds (noBlock s i j (check (noPartialLeft s i) 10 none))
+    refuseFewDraws ds
+    (refuseBadBlock s i j
+    (check (blockTest numPeersFull (blockThere s i j)) 6 (check (pieceAt s i .flushed) 8 (check (noPartialLeft s i) 10 none))))
+refusal s (mark-as-writing i j peer ds) = refuseFewDraws ds (refuseBadBlock s i j (check (noPartialLeft s i) 10 none))
 refusal s (mark-as-finished i j peer ds) =
-    fewDraws ds
-    (noBlock s i j
-    (check (blockTest (λ b. sameState (b .state) Requested) (blockThere s i j)) 9 (check (noPartialLeft s i) 10 none)))
-refusal s (abort-download i j peer ds) = fewDraws ds (noBlock s i j none)
-refusal s (lock-piece i) = noPiece s i none
-refusal s (piece-passed i) = noPiece s i none
+    refuseFewDraws ds
+    (refuseBadBlock s i j
+    (check (blockTest (λ b. sameBlockState (b .state) Requested) (blockThere s i j)) 9 (check (noPartialLeft s i) 10 none)))
+refusal s (abort-download i j peer ds) = refuseFewDraws ds (refuseBadBlock s i j none)
+refusal s (lock-piece i) = refuseBadPiece s i none
+refusal s (piece-passed i) = refuseBadPiece s i none
 refusal s (pick-pieces a free ds) =
-    fewDraws ds (check (not (askFits s a)) 11 (check (ltb free (a .wanted + a .run + 255)) 12 none))
+    refuseFewDraws ds (check (not (requestFits s a)) 11 (check (ltb free (a .wanted + a .contiguous + 255)) 12 none))
 
 -- ---- a step
 pub record Step : Type 0 where
@@ -162,7 +167,7 @@ unfoldable pub changing : Change → Step
 changing c = answering (changeAnswer (c .answer) (c .after .used)) (c .after .picker)
 
 -- a change that answers nothing
-unfoldable pub doing : Led → Step
+unfoldable pub doing : Drawing → Step
 doing w = changing (quietly w)
 
 -- a lent peer is a number of 64 bits
@@ -171,23 +176,23 @@ lentPeer none = none
 lentPeer (some n) = some (n % 2 ^ 64)
 
 -- a pick as a step
-unfoldable pub picking : Work → Step
+unfoldable pub picking : PickState → Step
 picking w = answering (picked (w .out) (w .flags) (w .loops) (w .used)) (w .picker)
 
 -- what a call does that is not refused
 unfoldable pub act : Picker → Action → Step
-act s (question q) = answering (told (ask s q)) s
-act s (inc-refcount i ds) = doing (incRefcount ds i (led 0 s))
-act s (dec-refcount i ds) = doing (decRefcount ds i (led 0 s))
-act s inc-refcount-all = doing (led 0 (incRefcountAll s))
-act s dec-refcount-all = doing (led 0 (decRefcountAll s))
-act s (set-piece-priority i wish ds) = changing (setPiecePriority ds i wish (led 0 s))
-act s (mark-as-downloading i j peer options ds) = changing (markAsDownloading ds i j (lentPeer peer) options (led 0 s))
-act s (mark-as-writing i j peer ds) = changing (markAsWriting ds i j (lentPeer peer) (led 0 s))
-act s (mark-as-finished i j peer ds) = doing (markAsFinished ds i j (lentPeer peer) (led 0 s))
-act s (abort-download i j peer ds) = doing (abortDownload ds i j (lentPeer peer) (led 0 s))
-act s (lock-piece i) = doing (led 0 (lockPiece i s))
-act s (piece-passed i) = doing (led 0 (piecePassed i s))
+act s (question q) = answering (replied (reply s q)) s
+act s (inc-refcount i ds) = doing (incRefcount ds i (drawing 0 s))
+act s (dec-refcount i ds) = doing (decRefcount ds i (drawing 0 s))
+act s inc-refcount-all = doing (drawing 0 (incRefcountAll s))
+act s dec-refcount-all = doing (drawing 0 (decRefcountAll s))
+act s (set-piece-priority i priority ds) = changing (setPiecePriority ds i priority (drawing 0 s))
+act s (mark-as-downloading i j peer options ds) = changing (markAsDownloading ds i j (lentPeer peer) options (drawing 0 s))
+act s (mark-as-writing i j peer ds) = changing (markAsWriting ds i j (lentPeer peer) (drawing 0 s))
+act s (mark-as-finished i j peer ds) = doing (markAsFinished ds i j (lentPeer peer) (drawing 0 s))
+act s (abort-download i j peer ds) = doing (abortDownload ds i j (lentPeer peer) (drawing 0 s))
+act s (lock-piece i) = doing (drawing 0 (lockPiece i s))
+act s (piece-passed i) = doing (drawing 0 (piecePassed i s))
 act s (pick-pieces a free ds) = picking (pickPieces ds s a)
 
 -- refused, the picker stays as it is
@@ -221,7 +226,7 @@ within lent s = cond (ltb lent (memoryNeeded s)) (notMade 2 none) (made s)
 
 -- `new`
 unfoldable pub newPicker : ℕ → ℕ → ℕ → Made
-newPicker lent total size = cond (validGeometry total size) (within lent (new total size)) (notMade 1 none)
+newPicker lent totalSize pieceSize = cond (validGeometry totalSize pieceSize) (within lent (new totalSize pieceSize)) (notMade 1 none)
 
 -- an accepted image
 unfoldable pub readWithin : ℕ → Read Picker → Made
@@ -240,4 +245,4 @@ pub data Taken : Type 0 where
 -- taking the image needs room for it
 unfoldable pub takeImage : Picker → ℕ → ℕ → Taken
 takeImage s lent room =
-    cond (ltb lent (memoryNeeded s)) (notTaken 2) (cond (ltb room (size (image s))) (notTaken 2) (taken (image s)))
+    cond (ltb lent (memoryNeeded s)) (notTaken 2) (cond (ltb room (len (image s))) (notTaken 2) (taken (image s)))

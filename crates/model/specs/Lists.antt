@@ -30,9 +30,9 @@ rangeDown k (suc end) = cond (leb k end) (end ∷ rangeDown k end) []
 
 module _ {A : Type 0} where
   -- how many pass the test
-  unfoldable pub tally : (A → Bool) → List A → ℕ
-  tally t [] = 0
-  tally t (x ∷ xs) = bit (t x) + tally t xs
+  unfoldable pub count : (A → Bool) → List A → ℕ
+  count t [] = 0
+  count t (x ∷ xs) = bit (t x) + count t xs
 
   -- those that pass the test
   unfoldable pub filter : (A → Bool) → List A → List A
@@ -45,41 +45,41 @@ module _ {A : Type 0} where
   every t (x ∷ xs) = t x && every t xs
 
   -- one passes the test
-  unfoldable pub some? : (A → Bool) → List A → Bool
-  some? t [] = false
-  some? t (x ∷ xs) = t x || some? t xs
+  unfoldable pub any : (A → Bool) → List A → Bool
+  any t [] = false
+  any t (x ∷ xs) = t x || any t xs
 
   -- the element at a place, or another where the list ends before
-  unfoldable pub at : A → List A → ℕ → A
-  at d l i = getD l i d
+  unfoldable pub nth : A → List A → ℕ → A
+  nth d l i = getD l i d
 
   -- how many there are
-  unfoldable pub size : List A → ℕ
-  size l = length l
+  unfoldable pub len : List A → ℕ
+  len l = length l
 
   -- the list with another element at a place
-  unfoldable pub put : ℕ → A → List A → List A
-  put i x l = set l i x
+  unfoldable pub setNth : ℕ → A → List A → List A
+  setNth i x l = set l i x
 
   -- the list without its element at a place
-  unfoldable pub without : ℕ → List A → List A
-  without n [] = []
-  without zero (x ∷ xs) = xs
-  without (suc n) (x ∷ xs) = x ∷ without n xs
+  unfoldable pub removeNth : ℕ → List A → List A
+  removeNth n [] = []
+  removeNth zero (x ∷ xs) = xs
+  removeNth (suc n) (x ∷ xs) = x ∷ removeNth n xs
 
   -- the last element, or another where there is none
-  unfoldable pub lastOf : A → List A → A
-  lastOf d [] = d
-  lastOf d (x ∷ xs) = lastOf x xs
+  unfoldable pub lastOr : A → List A → A
+  lastOr d [] = d
+  lastOr d (x ∷ xs) = lastOr x xs
 
   -- one after another in the other order
-  unfoldable pub backwards : List A → List A
-  backwards [] = []
-  backwards (x ∷ xs) = backwards xs ++ (x ∷ [])
+  unfoldable pub reversed : List A → List A
+  reversed [] = []
+  reversed (x ∷ xs) = reversed xs ++ (x ∷ [])
 
 -- x is an element
 unfoldable pub member : ℕ → List ℕ → Bool
-member x l = some? (eqb x) l
+member x l = any (eqb x) l
 
 -- the place of x, or the length where it is none
 unfoldable pub placeOf : ℕ → List ℕ → ℕ
@@ -93,9 +93,9 @@ module _ {A B : Type 0} where
   each f (x ∷ xs) = f x ∷ each f xs
 
   -- what each element gives, one after another
-  unfoldable pub joined : (A → List B) → List A → List B
-  joined f [] = []
-  joined f (x ∷ xs) = f x ++ joined f xs
+  unfoldable pub concatMap : (A → List B) → List A → List B
+  concatMap f [] = []
+  concatMap f (x ∷ xs) = f x ++ concatMap f xs
 
 module _ {S : Type 0} where
   -- a phase after another: none where the work is done
@@ -104,9 +104,9 @@ module _ {S : Type 0} where
   unless false f s = f s
 
   -- a phase where a condition holds
-  unfoldable pub onlyIf : Bool → (S → S) → S → S
-  onlyIf true f s = f s
-  onlyIf false f s = s
+  unfoldable pub when : Bool → (S → S) → S → S
+  when true f s = f s
+  when false f s = s
 
 module _ {S : Type 0} where
   -- at most n turns, and none once the work is done

@@ -11,71 +11,71 @@ use Rattle.types.specs.declared.block.BlockState.{BlockState}
 use Rattle.types.specs.declared.block.BlockState.the-variants.{None}
 use Rattle.types.specs.Queue.{queueNumber}
 use Rattle.types.specs.Block.{blockStateNumber}
-use Rattle.model.specs.Lists.{least, at, size, put}
-use Rattle.model.specs.Bep3.{numPieces, pieceLength, blockLength, blocksPerPiece, blocksInPiece}
+use Rattle.model.specs.Lists.{least, nth, len, setNth}
+use Rattle.model.specs.Bep3.{numPieces, pieceLength, blockLength, wholePieceBlocks, pieceBlocks}
 
 -- ---- limits of document 01
-abbrev pub mostPieces : ℕ
-mostPieces = 4096
+abbrev pub maxPieces : ℕ
+maxPieces = 4096
 
 -- of a piece, in bytes
-abbrev pub mostPieceSize : ℕ
-mostPieceSize = 4194304
+abbrev pub maxPieceSize : ℕ
+maxPieceSize = 4194304
 
--- of a piece's peers with the seeds, and of a block's requesters
-abbrev pub mostPeers : ℕ
-mostPeers = 1000
+-- of a piece's peers with the seeds, and of a block's peers
+abbrev pub maxPeers : ℕ
+maxPeers = 1000
 
 -- of partials
-abbrev pub mostPartials : ℕ
-mostPartials = 512
+abbrev pub maxPartials : ℕ
+maxPartials = 512
 
 -- of recent extents
-abbrev pub mostExtents : ℕ
-mostExtents = 5
+abbrev pub maxExtents : ℕ
+maxExtents = 5
 
 -- of words lent to a call that may draw
-abbrev pub leastDraws : ℕ
-leastDraws = 4352
+abbrev pub minDraws : ℕ
+minDraws = 4352
 
 -- ---- the fields
--- `wish` is document 01's word for the priority 0 to 7, and `had` for flushed
+-- `priority` is document 01's word for the priority 0 to 7, and `flushed` for flushed
 pub record Piece : Type 0 where
-  pub count : ℕ
+  pub peerCount : ℕ
   pub state : DownloadQueue
-  pub wish : ℕ
-  pub had : Bool
-  pub pad : ℕ
+  pub priority : ℕ
+  pub flushed : Bool
+  pub padBytes : ℕ
 
 -- `peer` asked for it last
 pub record Block : Type 0 where
   pub state : BlockState
-  pub requesters : ℕ
+  pub numPeers : ℕ
   pub peer : Option ℕ
 
 -- a piece that is being downloaded: whether its hash passed, whether it is locked, whether it is being hashed, and its blocks
-pub record Partial : Type 0 where
+pub record DownloadingPiece : Type 0 where
   pub piece : ℕ
-  pub passed : Bool
+  pub passedHashCheck : Bool
   pub locked : Bool
   pub hashing : Bool
   pub blocks : List Block
 
--- the bucket list: stale, or the pieces in its order
+-- the bucket list: dirty, or the pieces in its order
 pub data Listing : Type 0 where
-  stale : Listing
+  dirty : Listing
   fresh : List ℕ → Listing
 
 -- partials by rising piece, extents oldest first
 pub record Picker : Type 0 where
-  pub total : ℕ
-  pub size : ℕ
+  pub totalSize : ℕ
+  pub pieceSize : ℕ
   pub seeds : ℕ
   pub cursor : ℕ
   pub reverseCursor : ℕ
   pub pieces : List Piece
-  pub partials : List Partial
-  pub extents : List ℕ
+  pub partials : List DownloadingPiece
+  pub recentExtents : List ℕ
   pub listing : Listing
 
 -- ---- tests on the kinds of state
@@ -87,8 +87,8 @@ unfoldable pub isOpen : DownloadQueue → Bool
 isOpen q = sameQueue q Open
 
 -- two blocks in one state
-unfoldable pub sameState : BlockState → BlockState → Bool
-sameState a b = eqb (blockStateNumber a) (blockStateNumber b)
+unfoldable pub sameBlockState : BlockState → BlockState → Bool
+sameBlockState a b = eqb (blockStateNumber a) (blockStateNumber b)
 
 -- two peers, or none of both
 unfoldable pub samePeer : Option ℕ → Option ℕ → Bool
@@ -98,68 +98,68 @@ samePeer (some p) none = false
 samePeer (some p) (some q) = eqb p q
 
 -- there is a peer
-unfoldable pub somebody : Option ℕ → Bool
-somebody none = false
-somebody (some p) = true
+unfoldable pub hasPeer : Option ℕ → Bool
+hasPeer none = false
+hasPeer (some p) = true
 
 -- the list has to be rebuilt
-unfoldable pub isStale : Listing → Bool
-isStale stale = true
-isStale (fresh l) = false
+unfoldable pub isDirty : Listing → Bool
+isDirty dirty = true
+isDirty (fresh l) = false
 
--- the pieces of a list, none of a stale one
-unfoldable pub orderOf : Listing → List ℕ
-orderOf stale = []
-orderOf (fresh l) = l
+-- the pieces of a list, none of a dirty one
+unfoldable pub listOf : Listing → List ℕ
+listOf dirty = []
+listOf (fresh l) = l
 
 -- ---- what stands where nothing is
 unfoldable pub noPiece : Piece
-noPiece = record { count = 0; state = Open; wish = 0; had = false; pad = 0 }
+noPiece = record { peerCount = 0; state = Open; priority = 0; flushed = false; padBytes = 0 }
 
 -- a block past the last
 unfoldable pub noBlock : Block
-noBlock = record { state = None; requesters = 0; peer = none }
+noBlock = record { state = None; numPeers = 0; peer = none }
 
 -- ---- a field replaced
-unfoldable pub withCount : ℕ → Piece → Piece
-withCount c p = record { count = c; state = p .state; wish = p .wish; had = p .had; pad = p .pad }
+unfoldable pub withPeerCount : ℕ → Piece → Piece
+withPeerCount c p = record { peerCount = c; state = p .state; priority = p .priority; flushed = p .flushed; padBytes = p .padBytes }
 
 -- the piece in another state
 unfoldable pub withState : DownloadQueue → Piece → Piece
-withState q p = record { count = p .count; state = q; wish = p .wish; had = p .had; pad = p .pad }
+withState q p = record { peerCount = p .peerCount; state = q; priority = p .priority; flushed = p .flushed; padBytes = p .padBytes }
 
--- with another wish
-unfoldable pub withWish : ℕ → Piece → Piece
-withWish w p = record { count = p .count; state = p .state; wish = w; had = p .had; pad = p .pad }
+-- with another priority
+unfoldable pub withPriority : ℕ → Piece → Piece
+withPriority w p = record { peerCount = p .peerCount; state = p .state; priority = w; flushed = p .flushed; padBytes = p .padBytes }
 
 -- had from here on
-unfoldable pub withHad : Piece → Piece
-withHad p = record { count = p .count; state = p .state; wish = p .wish; had = true; pad = p .pad }
+unfoldable pub withFlushed : Piece → Piece
+withFlushed p = record { peerCount = p .peerCount; state = p .state; priority = p .priority; flushed = true; padBytes = p .padBytes }
 
 -- the block held by another peer, or by none
 unfoldable pub withPeer : Option ℕ → Block → Block
-withPeer peer b = record { state = b .state; requesters = b .requesters; peer = peer }
+withPeer peer b = record { state = b .state; numPeers = b .numPeers; peer = peer }
 
 -- the partial with other blocks
-unfoldable pub withBlocks : List Block → Partial → Partial
-withBlocks bs d = record { piece = d .piece; passed = d .passed; locked = d .locked; hashing = d .hashing; blocks = bs }
+unfoldable pub withBlocks : List Block → DownloadingPiece → DownloadingPiece
+withBlocks bs d = record { piece = d .piece; passedHashCheck = d .passedHashCheck; locked = d .locked; hashing = d .hashing; blocks = bs }
 
 -- passed and locked, or not
-unfoldable pub withFlags : Bool → Bool → Partial → Partial
-withFlags p l d = record { piece = d .piece; passed = p; locked = l; hashing = d .hashing; blocks = d .blocks }
+unfoldable pub withFlags : Bool → Bool → DownloadingPiece → DownloadingPiece
+withFlags p l d = record { piece = d .piece; passedHashCheck = p; locked = l; hashing = d .hashing; blocks = d .blocks }
 
 -- the picker with another number of seeds
 unfoldable pub withSeeds : ℕ → Picker → Picker
 withSeeds n s =
     record {
-      total = s .total;
-      size = s .size;
+      totalSize = s .totalSize;
+      pieceSize = s .pieceSize;
       seeds = n;
       cursor = s .cursor;
       reverseCursor = s .reverseCursor;
       pieces = s .pieces;
       partials = s .partials;
-      extents = s .extents;
+      recentExtents = s .recentExtents;
       listing = s .listing;
     }
 
@@ -167,14 +167,14 @@ withSeeds n s =
 unfoldable pub withCursors : ℕ → ℕ → Picker → Picker
 withCursors c r s =
     record {
-      total = s .total;
-      size = s .size;
+      totalSize = s .totalSize;
+      pieceSize = s .pieceSize;
       seeds = s .seeds;
       cursor = c;
       reverseCursor = r;
       pieces = s .pieces;
       partials = s .partials;
-      extents = s .extents;
+      recentExtents = s .recentExtents;
       listing = s .listing;
     }
 
@@ -182,44 +182,44 @@ withCursors c r s =
 unfoldable pub withPieces : List Piece → Picker → Picker
 withPieces ps s =
     record {
-      total = s .total;
-      size = s .size;
+      totalSize = s .totalSize;
+      pieceSize = s .pieceSize;
       seeds = s .seeds;
       cursor = s .cursor;
       reverseCursor = s .reverseCursor;
       pieces = ps;
       partials = s .partials;
-      extents = s .extents;
+      recentExtents = s .recentExtents;
       listing = s .listing;
     }
 
 -- with other partials
-unfoldable pub withPartials : List Partial → Picker → Picker
+unfoldable pub withPartials : List DownloadingPiece → Picker → Picker
 withPartials ds s =
     record {
-      total = s .total;
-      size = s .size;
+      totalSize = s .totalSize;
+      pieceSize = s .pieceSize;
       seeds = s .seeds;
       cursor = s .cursor;
       reverseCursor = s .reverseCursor;
       pieces = s .pieces;
       partials = ds;
-      extents = s .extents;
+      recentExtents = s .recentExtents;
       listing = s .listing;
     }
 
 -- with other recent extents
-unfoldable pub withExtents : List ℕ → Picker → Picker
-withExtents es s =
+unfoldable pub withRecentExtents : List ℕ → Picker → Picker
+withRecentExtents es s =
     record {
-      total = s .total;
-      size = s .size;
+      totalSize = s .totalSize;
+      pieceSize = s .pieceSize;
       seeds = s .seeds;
       cursor = s .cursor;
       reverseCursor = s .reverseCursor;
       pieces = s .pieces;
       partials = s .partials;
-      extents = es;
+      recentExtents = es;
       listing = s .listing;
     }
 
@@ -227,48 +227,48 @@ withExtents es s =
 unfoldable pub withListing : Listing → Picker → Picker
 withListing l s =
     record {
-      total = s .total;
-      size = s .size;
+      totalSize = s .totalSize;
+      pieceSize = s .pieceSize;
       seeds = s .seeds;
       cursor = s .cursor;
       reverseCursor = s .reverseCursor;
       pieces = s .pieces;
       partials = s .partials;
-      extents = s .extents;
+      recentExtents = s .recentExtents;
       listing = l;
     }
 
 -- ---- a piece of the picker
 unfoldable pub pieceAt : Picker → ℕ → Piece
-pieceAt s i = at noPiece (s .pieces) i
+pieceAt s i = nth noPiece (s .pieces) i
 
 -- piece i changed
 unfoldable pub withPiece : ℕ → (Piece → Piece) → Picker → Picker
-withPiece i f s = withPieces (put i (f (pieceAt s i)) (s .pieces)) s
+withPiece i f s = withPieces (setNth i (f (pieceAt s i)) (s .pieces)) s
 
 -- how many pieces
 unfoldable pub piecesIn : Picker → ℕ
-piecesIn s = size (s .pieces)
+piecesIn s = len (s .pieces)
 
--- the list is stale from here on
-unfoldable pub outdated : Picker → Picker
-outdated s = withListing stale s
+-- the list is dirty from here on
+unfoldable pub markDirty : Picker → Picker
+markDirty s = withListing dirty s
 
 -- ---- lengths of the picker's torrent
-unfoldable pub lengthAt : Picker → ℕ → ℕ
-lengthAt s i = pieceLength (s .total) (s .size) i
+unfoldable pub pieceSizeAt : Picker → ℕ → ℕ
+pieceSizeAt s i = pieceLength (s .totalSize) (s .pieceSize) i
 
 -- blocks of a whole piece: document 01's b
-unfoldable pub blocksPer : Picker → ℕ
-blocksPer s = blocksPerPiece (s .size)
+unfoldable pub blocksPerPiece : Picker → ℕ
+blocksPerPiece s = wholePieceBlocks (s .pieceSize)
 
 -- blocks of piece i
-unfoldable pub blocksAt : Picker → ℕ → ℕ
-blocksAt s i = blocksInPiece (s .total) (s .size) i
+unfoldable pub blocksInPiece : Picker → ℕ → ℕ
+blocksInPiece s i = pieceBlocks (s .totalSize) (s .pieceSize) i
 
 -- blocks that hold more than pad bytes
-unfoldable pub payloadAt : Picker → ℕ → ℕ
-payloadAt s i = blocksAt s i - pieceAt s i .pad / blockLength (s .size)
+unfoldable pub payloadBlocksInPiece : Picker → ℕ → ℕ
+payloadBlocksInPiece s i = blocksInPiece s i - pieceAt s i .padBytes / blockLength (s .pieceSize)
 
 -- ---- extents: runs of pieces of 256 blocks, none where a piece has as many
 abbrev pub extentBlocks : ℕ
@@ -279,42 +279,42 @@ unfoldable pub extentSize : ℕ → ℕ
 extentSize b = extentBlocks / b
 
 -- how many extents n pieces of b blocks have
-unfoldable pub extentsOf : ℕ → ℕ → ℕ
-extentsOf n b = cond (eqb b extentBlocks) 0 ((n + extentSize b - 1) / extentSize b)
+unfoldable pub numExtents : ℕ → ℕ → ℕ
+numExtents n b = cond (eqb b extentBlocks) 0 ((n + extentSize b - 1) / extentSize b)
 
 -- the extent of piece i
 unfoldable pub extentFor : Picker → ℕ → ℕ
-extentFor s i = i / extentSize (blocksPer s)
+extentFor s i = i / extentSize (blocksPerPiece s)
 
 -- its first piece
 unfoldable pub extentStart : Picker → ℕ → ℕ
-extentStart s e = e * extentSize (blocksPer s)
+extentStart s e = e * extentSize (blocksPerPiece s)
 
 -- one past its last piece
 unfoldable pub extentEnd : Picker → ℕ → ℕ
-extentEnd s e = least (extentStart s e + extentSize (blocksPer s)) (piecesIn s)
+extentEnd s e = least (extentStart s e + extentSize (blocksPerPiece s)) (piecesIn s)
 
 -- ---- a new picker
 -- total and piece size that make one
 unfoldable pub validGeometry : ℕ → ℕ → Bool
-validGeometry total size =
-    leb 1 total && (leb 1 size && (leb size mostPieceSize && leb (numPieces total size) mostPieces))
+validGeometry totalSize pieceSize =
+    leb 1 totalSize && (leb 1 pieceSize && (leb pieceSize maxPieceSize && leb (numPieces totalSize pieceSize) maxPieces))
 
--- a piece that nobody has, at the default wish
+-- a piece that nobody has, at the default priority
 unfoldable pub freshPiece : Piece
-freshPiece = record { count = 0; state = Open; wish = 4; had = false; pad = 0 }
+freshPiece = record { peerCount = 0; state = Open; priority = 4; flushed = false; padBytes = 0 }
 
 -- `new`: no seeds, cursors at both ends, the list to be built
 unfoldable pub new : ℕ → ℕ → Picker
-new total size =
+new totalSize pieceSize =
     record {
-      total = total;
-      size = size;
+      totalSize = totalSize;
+      pieceSize = pieceSize;
       seeds = 0;
       cursor = 0;
-      reverseCursor = numPieces total size;
-      pieces = replicate (numPieces total size) freshPiece;
+      reverseCursor = numPieces totalSize pieceSize;
+      pieces = replicate (numPieces totalSize pieceSize) freshPiece;
       partials = [];
-      extents = [];
-      listing = stale;
+      recentExtents = [];
+      listing = dirty;
     }

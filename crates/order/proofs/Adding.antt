@@ -8,19 +8,19 @@ use native.Mathlib.Omega.{arith}
 use lib.Dec.{ltb}
 use lib.ListN.{length, getD, take, drop, List·getD-eq-default}
 use lib.Seq.{take-take}
-use Rattle.model.specs.Lists.{at, bit}
-use Rattle.model.specs.Order.{draw, placed, added, addDraws}
-use Rattle.model.proofs.GroupMoves.{draw-le}
+use Rattle.model.specs.Lists.{nth, bit}
+use Rattle.model.specs.list.Order.{draw, placed, added, addDraws}
+use Rattle.model.proofs.list.GroupMoves.{draw-le}
 use Rattle.order.specs.Places.{pushed, IsGroup}
 
 -- the word modulo one more than the limit
 pub drawn : (ds : List ℕ) (t limit w : ℕ) → w ≡ getD ds t 0 → w % (limit + 1) ≡ draw ds t limit
-unfolding draw at
+unfolding draw nth
 drawn ds t limit w e = rw (e, add-one)
 
 -- beyond the last word
 pub drawn-none : (ds : List ℕ) (t limit : ℕ) → length ds ≤ t → 0 ≡ draw ds t limit
-unfolding draw at
+unfolding draw nth
 drawn-none ds t limit h = rw (List·getD-eq-default ds 0 h) (sym (zero-mod (suc limit)))
 
 module _ {b : ℕ → ℕ} {x n : ℕ} {l : List ℕ} {s g : ℕ} (m : IsGroup b x n l s g) (ds : List ℕ) (t d : ℕ) (e : d ≡ draw ds t g) where

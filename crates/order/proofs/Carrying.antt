@@ -9,7 +9,7 @@ use lib.ListN.{length, getD, set, take, length-set}
 use lib.Seq.{slice-cons, slice-empty, take-suc, take-suc-set, take-set-lt, drop-set-lt, append-snoc, set-split, getD-set-same}
 use lib.Seq.{getD-set-other}
 use borrow.Author.Tests.{eq-eqb, ne-eqb}
-use Rattle.model.specs.Order.{carry, turnLeft}
+use Rattle.model.specs.list.Order.{carry, turnLeft}
 use Rattle.order.specs.Places.{Pieces, carried, pushed}
 
 -- a piece stored leaves pieces

@@ -9,11 +9,11 @@ use lib.Dec.{eqb, ltb}
 use lib.ListN.{length, getD, take, drop, length-map, drop-of-length-le}
 use lib.Seq.{drop-cons, getD-take, length-take-le}
 use borrow.Author.Tests.{eq-eqb, ne-eqb}
-use Rattle.model.specs.Lists.{bit, tally, placeOf}
-use Rattle.model.specs.Order.{start, groupSize}
-use Rattle.model.proofs.Tallies.{bit-le}
-use Rattle.model.proofs.GroupRise.{group-in}
-use Rattle.model.proofs.GroupMoves.{start-below, size-equal}
+use Rattle.model.specs.Lists.{bit, count, placeOf}
+use Rattle.model.specs.list.Order.{groupStart, groupSize}
+use Rattle.model.proofs.base.Counts.{bit-le}
+use Rattle.model.proofs.list.GroupRise.{group-in}
+use Rattle.model.proofs.list.GroupMoves.{start-below, size-equal}
 use Rattle.order.specs.Places.{IsGroup}
 
 module _ (n j : ℕ) (l : List ℕ) (h : n ≤ length l) where
@@ -29,8 +29,8 @@ module _ (n j : ℕ) (l : List ℕ) (h : n ≤ length l) where
 -- ---- `group_of`
 -- what holds at the head of the loop: the rest's numbers are missing; k is the rank
 pub record Counts (b : ℕ → ℕ) (k n : ℕ) (l : List ℕ) (start′ size′ j : ℕ) : Type 0 where
-  pub starts : tally (λ y. ltb (b y) k) (drop j (take n l)) + start′ ≡ tally (λ y. ltb (b y) k) (take n l)
-  pub sizes : tally (λ y. eqb (b y) k) (drop j (take n l)) + size′ ≡ tally (λ y. eqb (b y) k) (take n l)
+  pub starts : count (λ y. ltb (b y) k) (drop j (take n l)) + start′ ≡ count (λ y. ltb (b y) k) (take n l)
+  pub sizes : count (λ y. eqb (b y) k) (drop j (take n l)) + size′ ≡ count (λ y. eqb (b y) k) (take n l)
   pub at : j ≤ n
   pub low : start′ ≤ j
   pub few : size′ ≤ j
@@ -40,8 +40,8 @@ pub counts-start : (b : ℕ → ℕ) (k n : ℕ) (l : List ℕ) → Counts b k n
 counts-start b k n l = record { starts = omega arith; sizes = omega arith; at = omega arith; low = omega arith; few = omega arith }
 
 module _ {b : ℕ → ℕ} {k n : ℕ} {l : List ℕ} {start′ size′ j : ℕ} (m : Counts b k n l start′ size′ j) (h : n ≤ length l) where
-  more : (u : ℕ → Bool) → j < n → tally u (drop j (take n l)) ≡ bit (u (getD l j 0)) + tally u (drop (j + 1) (take n l))
-  unfolding tally
+  more : (u : ℕ → Bool) → j < n → count u (drop j (take n l)) ≡ bit (u (getD l j 0)) + count u (drop (j + 1) (take n l))
+  unfolding count
   more u lt = rw (next n j l h lt)
 
   -- one place counted
@@ -55,15 +55,15 @@ module _ {b : ℕ → ℕ} {k n : ℕ} {l : List ℕ} {start′ size′ j : ℕ}
     few = omega (arith, m .few, bit-le (eqb c k));
   }
 
-  gone : (u : ℕ → Bool) → n ≤ j → tally u (drop j (take n l)) ≡ 0
-  unfolding tally
+  gone : (u : ℕ → Bool) → n ≤ j → count u (drop j (take n l)) ≡ 0
+  unfolding count
   gone u le = rw (none n j l h le)
 
   -- at the end none is missing
   pub counts-end : n ≤ j → (x : ℕ) → k ≡ b x → IsGroup b x n l start′ size′
-  unfolding start groupSize
+  unfolding groupStart groupSize
   counts-end le x e =
-      let s : start′ ≡ start b x (take n l) = rw (← e) (omega (arith, m .starts, gone (λ y. ltb (b y) k) le)) in
+      let s : start′ ≡ groupStart b x (take n l) = rw (← e) (omega (arith, m .starts, gone (λ y. ltb (b y) k) le)) in
       let z : size′ ≡ groupSize b x (take n l) = rw (← e) (omega (arith, m .sizes, gone (λ y. eqb (b y) k) le)) in
       record {
         starts = s;

@@ -5,7 +5,7 @@ use Prim.Native.Nat.{ℕ, suc, _+_, _-_, _≤_, _<_}
 use native.Mathlib.Omega.{arith}
 use lib.ListN.{take, drop, take-append-drop}
 use lib.Seq.{slice-empty, take-take}
-use Rattle.model.specs.Order.{removed, turnRight}
+use Rattle.model.specs.list.Order.{removed, turnRight}
 use Rattle.order.specs.Places.{pulled}
 
 module _ (b : ℕ → ℕ) (n i : ℕ) (l : List ℕ) where

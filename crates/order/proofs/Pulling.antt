@@ -7,7 +7,7 @@ use lib.ListN.{length, getD, set, take, drop, length-set, take-append-drop}
 use lib.Seq.{slice, slice-cons, slice-empty, take-take, take-set-le, take-set-lt, drop-set-lt, drop-append-le, length-take-le, set-split}
 use lib.Seq.{getD-take, getD-set-same}
 use borrow.Author.Tests.{eq-eqb, ne-eqb}
-use Rattle.model.specs.Order.{bring, turnRight}
+use Rattle.model.specs.list.Order.{bring, turnRight}
 use Rattle.order.specs.Places.{Pieces, pulled}
 use Rattle.order.proofs.Carrying.{pieces-set}
 

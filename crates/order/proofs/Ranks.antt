@@ -5,16 +5,16 @@ use Prim.Native.Nat.{ℕ, _≤_, _<_}
 use native.Mathlib.Decide.{decLe}
 use native.Mathlib.Omega.{arith}
 use lib.ListN.{length, getD, List·getD-eq-default}
-use Rattle.model.specs.Lists.{at}
+use Rattle.model.specs.Lists.{nth}
 use Rattle.model.specs.State.{Picker, piecesIn}
-use Rattle.model.specs.Order.{rank}
-use Rattle.model.proofs.RankLaws.{rank-beyond}
+use Rattle.model.specs.list.Order.{rank}
+use Rattle.model.proofs.list.RankLaws.{rank-beyond}
 use Rattle.order.specs.Places.{rankIn}
 
 module _ (s : Picker) (ks : List ℕ) (same : (i : ℕ) → i < piecesIn s → getD ks i 0 ≡ rank s i) where
   -- with 0 behind the pieces
   pub ranks-are : ((i : ℕ) → piecesIn s ≤ i → getD ks i 0 ≡ 0) → rankIn ks ≡ rank s
-  unfolding rankIn at
+  unfolding rankIn nth
   ranks-are none = fun-ext (λ i. elim (decLe (piecesIn s) i) [ yes h ↦ none i h ∙ sym (rank-beyond s i h) | no h ↦ same i (omega arith) ])
 
   -- with as many words as pieces

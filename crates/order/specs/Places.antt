@@ -4,12 +4,12 @@ use mathlib.Core.Path.{_≡_}
 use mathlib.Core.List.{List, _∷_, _++_}
 use lib.ListN.{getD, take, drop}
 use lib.Seq.{slice}
-use Rattle.model.specs.Lists.{at}
-use Rattle.model.specs.Order.{start, groupSize, carry, turnLeft, turnRight}
+use Rattle.model.specs.Lists.{nth}
+use Rattle.model.specs.list.Order.{groupStart, groupSize, carry, turnLeft, turnRight}
 
 -- the rank of piece x, 0 where there is no such piece
 unfoldable pub rankIn : List ℕ → ℕ → ℕ
-rankIn ks x = at 0 ks x
+rankIn ks x = nth 0 ks x
 
 -- the first n entries are pieces
 abbrev pub Pieces : ℕ → ℕ → List ℕ → Type 0
@@ -29,6 +29,6 @@ pulled b i e l = take i l ++ (turnRight b (slice (suc i) (suc e) l) ++ drop e l)
 
 -- where the group of x's rank stands among the first n of l
 pub record IsGroup (b : ℕ → ℕ) (x n : ℕ) (l : List ℕ) (start′ size′ : ℕ) : Type 0 where
-  pub starts : start′ ≡ start b x (take n l)
+  pub starts : start′ ≡ groupStart b x (take n l)
   pub sizes : size′ ≡ groupSize b x (take n l)
   pub inside : start′ + size′ ≤ n

@@ -6,7 +6,7 @@ ghost use mathlib.Core.List.{_++_};
 ghost use lib.Dec.{ltb};
 ghost use lib.ListN.{length, take, drop};
 ghost use Rattle.model.specs.Lists.{bit, placeOf};
-ghost use Rattle.model.specs.Order.{draw, swap, added, addDraws, removed};
+ghost use Rattle.model.specs.list.Order.{draw, swap, added, addDraws, removed};
 ghost use Rattle.order.specs.Places.{rankIn, Pieces, carried, pushed, pulled, IsGroup};
 
 // A word as an index.

@@ -9,9 +9,9 @@ use native.Mathlib.Decide.{ℕ-discrete}
 use native.Mathlib.Omega.{arith}
 use lib.Dec.{eqb}
 use borrow.Author.Tests.{eq-eqb, ne-eqb}
-use Rattle.model.specs.Lists.{bit, tally, every, from}
-use Rattle.model.proofs.Truths.{both-true, true-both, true-or-false, not-both}
-use Rattle.model.proofs.Tallies.{and-false, tally-append}
+use Rattle.model.specs.Lists.{bit, count, every, from}
+use Rattle.model.proofs.base.Truths.{both-true, true-both, true-or-false, not-both}
+use Rattle.model.proofs.base.Counts.{and-false, count-append}
 use Rattle.layout.specs.Tables.{tab}
 use Rattle.layout.proofs.TabLaws.{tab-more}
 use Rattle.partial_rows.specs.Rows.{allBelow, countBelow}
@@ -134,11 +134,11 @@ count-one p (suc n) h = elim (ℕ-discrete p n) [
 ]
 
 -- ---- the same on lists
-pub tally-tab : {A : Type 0} (t : A → Bool) (f : ℕ → A) (n : ℕ) → tally t (tab n f) ≡ countBelow (λ k. t (f k)) n
-unfolding tally countBelow tab
-tally-tab t f zero = refl
-tally-tab t f (suc n) =
-    ap (tally t) (tab-more n f) ∙ tally-append t (tab n f) (f n ∷ []) ∙ omega (arith, tally-tab t f n)
+pub count-tab : {A : Type 0} (t : A → Bool) (f : ℕ → A) (n : ℕ) → count t (tab n f) ≡ countBelow (λ k. t (f k)) n
+unfolding count countBelow tab
+count-tab t f zero = refl
+count-tab t f (suc n) =
+    ap (count t) (tab-more n f) ∙ count-append t (tab n f) (f n ∷ []) ∙ omega (arith, count-tab t f n)
 
 every-from-at : (t : ℕ → Bool) (j n : ℕ) → every t (from j n) ≡ true → (k : ℕ) → k < n → t (j + k) ≡ true
 unfolding every from

@@ -7,8 +7,8 @@ use native.Mathlib.Omega.{arith}
 use lib.Dec.{eqb, leb}
 use borrow.Author.Tests.{eq-eqb, ne-eqb, lt-ltb, le-ltb, lt-leb, le-leb}
 use Rattle.model.specs.Lists.{bit}
-use Rattle.model.specs.Bep3.{numPieces, blocksInPiece}
-use Rattle.model.proofs.Bep3Laws.{blocksInPiece-le}
+use Rattle.model.specs.Bep3.{numPieces, pieceBlocks}
+use Rattle.model.proofs.base.Bep3Laws.{blocksInPiece-le}
 use Rattle.layout.specs.declared.spots.Shape.{Shape}
 use Rattle.layout.specs.Layout.{headWord, pieceWord, partialWord, piecesOn, blocksOn}
 use Rattle.geometry.proofs.ValidLaws.{bounds}
@@ -43,14 +43,14 @@ module _ (s : Shape) (xs : List ℕ) (r : Ready s xs) (i t z : ℕ) (et : t ≡ 
   unfolding piecesOn
   piece-there l = rw (et, ez) (rw (r .pieces) at l)
 
-  pub blocks-few : (m : ℕ) → m ≡ blocksInPiece t z i → m ≤ s .blocks
+  pub blocks-few : (m : ℕ) → m ≡ pieceBlocks t z i → m ≤ s .blocks
   unfolding blocksOn
   blocks-few m e =
       rw (e, et, ez, r .blocks) (blocksInPiece-le (headWord xs 0) (headWord xs 1) i (bounds (headWord xs 0) (headWord xs 1) (r .geometry) .some-size))
 
-module _ (xs : List ℕ) (n b i p t z m : ℕ) (h : Bool) (et : t ≡ headWord xs 0) (ez : z ≡ headWord xs 1) (em : m ≡ blocksInPiece t z i) (ok : Bool) (eo : ok ≡ rowsOk xs n b p m) where
-  many-is : blocksInPiece (headWord xs 0) (headWord xs 1) i ≡ m
-  many-is = sym (em ∙ ap₂ (λ (x y : ℕ). blocksInPiece x y i) et ez)
+module _ (xs : List ℕ) (n b i p t z m : ℕ) (h : Bool) (et : t ≡ headWord xs 0) (ez : z ≡ headWord xs 1) (em : m ≡ pieceBlocks t z i) (ok : Bool) (eo : ok ≡ rowsOk xs n b p m) where
+  many-is : pieceBlocks (headWord xs 0) (headWord xs 1) i ≡ m
+  many-is = sym (em ∙ ap₂ (λ (x y : ℕ). pieceBlocks x y i) et ez)
 
   pub good-rows : ok ≡ false → false ≡ blocksGood xs n b i p h
   unfolding blocksGood

@@ -8,17 +8,17 @@ use native.Mathlib.Decide.{ℕ-discrete}
 use native.Mathlib.Omega.{arith}
 use lib.Dec.{eqb}
 use borrow.Author.Tests.{eq-eqb, ne-eqb, eqb-true}
-use Rattle.model.specs.Lists.{size}
-use Rattle.model.specs.State.{Partial}
-use Rattle.model.specs.Partials.{findIn}
-use Rattle.model.specs.Sound.{partialsFrom}
-use Rattle.model.proofs.PartialLaws.{findIn-here, findIn-there, findIn-below, from-head, from-tail, from-cons}
+use Rattle.model.specs.Lists.{len}
+use Rattle.model.specs.State.{DownloadingPiece}
+use Rattle.model.specs.change.Partials.{findDlPiece}
+use Rattle.model.specs.image.Sound.{partialsFrom}
+use Rattle.model.proofs.sound.PartialLaws.{findDlPiece-here, findDlPiece-there, findDlPiece-below, from-head, from-tail, from-cons}
 use Rattle.layout.specs.Tables.{tab}
 use Rattle.partial_rows.specs.Rows.{countBelow, lowest}
 use Rattle.partial_rows.proofs.BelowLaws.{count-same, count-none, count-either, count-one}
 
 -- ---- rising pieces
-pub rising-from : (lo m : ℕ) (f : ℕ → Partial) → ((k : ℕ) → k < m → lowest lo (λ j. f j .piece) k ≤ f k .piece) → partialsFrom lo (tab m f) ≡ true
+pub rising-from : (lo m : ℕ) (f : ℕ → DownloadingPiece) → ((k : ℕ) → k < m → lowest lo (λ j. f j .piece) k ≤ f k .piece) → partialsFrom lo (tab m f) ≡ true
 unfolding partialsFrom tab lowest
 rising-from lo zero f h = refl
 rising-from lo (suc m) f h =
@@ -28,7 +28,7 @@ rising-from lo (suc m) f h =
     later zero l = h (suc zero) (omega arith)
     later (suc k) l = h (suc (suc k)) (omega arith)
 
-pub from-rising : (lo m : ℕ) (f : ℕ → Partial) → partialsFrom lo (tab m f) ≡ true → (k : ℕ) → k < m → lowest lo (λ j. f j .piece) k ≤ f k .piece
+pub from-rising : (lo m : ℕ) (f : ℕ → DownloadingPiece) → partialsFrom lo (tab m f) ≡ true → (k : ℕ) → k < m → lowest lo (λ j. f j .piece) k ≤ f k .piece
 unfolding tab lowest
 from-rising lo zero f h k l = absurd (omega arith)
 from-rising lo (suc m) f h zero l = from-head lo (f zero) (tab m (λ j. f (suc j))) h
@@ -38,7 +38,7 @@ from-rising lo (suc m) f h (suc (suc k)) l =
     from-rising (suc (f zero .piece)) m (λ j. f (suc j)) (from-tail lo (f zero) (tab m (λ j. f (suc j))) h) (suc k) (omega arith)
 
 -- none is below the bound
-pub rising-low : (lo m : ℕ) (f : ℕ → Partial) → partialsFrom lo (tab m f) ≡ true → (k : ℕ) → k < m → lo ≤ f k .piece
+pub rising-low : (lo m : ℕ) (f : ℕ → DownloadingPiece) → partialsFrom lo (tab m f) ≡ true → (k : ℕ) → k < m → lo ≤ f k .piece
 unfolding tab
 rising-low lo zero f h k l = absurd (omega arith)
 rising-low lo (suc m) f h zero l = from-head lo (f zero) (tab m (λ j. f (suc j))) h
@@ -49,61 +49,61 @@ rising-low lo (suc m) f h (suc k) l =
 
 -- ---- finding
 -- each is found by its piece
-pub found-each : (lo m : ℕ) (f : ℕ → Partial) → partialsFrom lo (tab m f) ≡ true → (k : ℕ) → k < m → findIn (f k .piece) (tab m f) ≡ some (f k)
+pub found-each : (lo m : ℕ) (f : ℕ → DownloadingPiece) → partialsFrom lo (tab m f) ≡ true → (k : ℕ) → k < m → findDlPiece (f k .piece) (tab m f) ≡ some (f k)
 unfolding tab
 found-each lo zero f h k l = absurd (omega arith)
-found-each lo (suc m) f h zero l = findIn-here (f zero .piece) (f zero) (tab m (λ j. f (suc j))) refl
+found-each lo (suc m) f h zero l = findDlPiece-here (f zero .piece) (f zero) (tab m (λ j. f (suc j))) refl
 found-each lo (suc m) f h (suc k) l =
     let r = from-tail lo (f zero) (tab m (λ j. f (suc j))) h in
     let d = rising-low (suc (f zero .piece)) m (λ j. f (suc j)) r k (omega arith) in
-    findIn-there (f (suc k) .piece) (f zero) (tab m (λ j. f (suc j))) (λ e. absurd (omega (arith, d, e)))
+    findDlPiece-there (f (suc k) .piece) (f zero) (tab m (λ j. f (suc j))) (λ e. absurd (omega (arith, d, e)))
     ∙ found-each (suc (f zero .piece)) m (λ j. f (suc j)) r k (omega arith)
 
 -- what each has, what is found has
-pub found-has : (Q : ℕ → Partial → Type 0) (m : ℕ) (f : ℕ → Partial) → ((k : ℕ) → k < m → Q (f k .piece) (f k))
-    → (i : ℕ) (d : Partial) → findIn i (tab m f) ≡ some d → Q i d
-unfolding tab findIn
+pub found-has : (Q : ℕ → DownloadingPiece → Type 0) (m : ℕ) (f : ℕ → DownloadingPiece) → ((k : ℕ) → k < m → Q (f k .piece) (f k))
+    → (i : ℕ) (d : DownloadingPiece) → findDlPiece i (tab m f) ≡ some d → Q i d
+unfolding tab findDlPiece
 found-has Q zero f h i d e = absurd (Option·none-ne-some d e)
 found-has Q (suc m) f h i d e = elim (ℕ-discrete (f zero .piece) i) [
   | yes q ↦ (
-      let s = Option·some-injective (f zero) d (sym (findIn-here i (f zero) (tab m (λ j. f (suc j))) q) ∙ e) in
+      let s = Option·some-injective (f zero) d (sym (findDlPiece-here i (f zero) (tab m (λ j. f (suc j))) q) ∙ e) in
       rw (← q, ← s) (h zero (omega arith))
       )
   | no q ↦
-      found-has Q m (λ j. f (suc j)) (λ k l. h (suc k) (omega arith)) i d (sym (findIn-there i (f zero) (tab m (λ j. f (suc j))) q) ∙ e)
+      found-has Q m (λ j. f (suc j)) (λ k l. h (suc k) (omega arith)) i d (sym (findDlPiece-there i (f zero) (tab m (λ j. f (suc j))) q) ∙ e)
 ]
 
 -- ---- for how many pieces one stands
-abbrev pub isHeld : Option Partial → Bool
+abbrev pub isHeld : Option DownloadingPiece → Bool
 isHeld none = false
 isHeld (some d) = true
 
-unfoldable pub held : List Partial → ℕ → Bool
-held ds i = isHeld (findIn i ds)
+unfoldable pub held : List DownloadingPiece → ℕ → Bool
+held ds i = isHeld (findDlPiece i ds)
 
-pub held-none : (ds : List Partial) (i : ℕ) → findIn i ds ≡ none → held ds i ≡ false
+pub held-none : (ds : List DownloadingPiece) (i : ℕ) → findDlPiece i ds ≡ none → held ds i ≡ false
 unfolding held
 held-none ds i e = ap isHeld e
 
-pub held-some : (ds : List Partial) (i : ℕ) (d : Partial) → findIn i ds ≡ some d → held ds i ≡ true
+pub held-some : (ds : List DownloadingPiece) (i : ℕ) (d : DownloadingPiece) → findDlPiece i ds ≡ some d → held ds i ≡ true
 unfolding held
 held-some ds i d e = ap isHeld e
 
-held-cons : (d : Partial) (ds : List Partial) (i : ℕ) → held (d ∷ ds) i ≡ (eqb (d .piece) i || held ds i)
+held-cons : (d : DownloadingPiece) (ds : List DownloadingPiece) (i : ℕ) → held (d ∷ ds) i ≡ (eqb (d .piece) i || held ds i)
 unfolding held
 held-cons d ds i = elim (ℕ-discrete (d .piece) i) [
-  | yes e ↦ rw (findIn-here i d ds e, eq-eqb (d .piece) i e)
-  | no n ↦ rw (findIn-there i d ds n, ne-eqb (d .piece) i n)
+  | yes e ↦ rw (findDlPiece-here i d ds e, eq-eqb (d .piece) i e)
+  | no n ↦ rw (findDlPiece-there i d ds n, ne-eqb (d .piece) i n)
 ]
 
-pub count-held : (lo n : ℕ) (ds : List Partial) → partialsFrom lo ds ≡ true → ((i : ℕ) → held ds i ≡ true → i < n) → countBelow (held ds) n ≡ size ds
-unfolding size findIn held
+pub count-held : (lo n : ℕ) (ds : List DownloadingPiece) → partialsFrom lo ds ≡ true → ((i : ℕ) → held ds i ≡ true → i < n) → countBelow (held ds) n ≡ len ds
+unfolding len findDlPiece held
 count-held lo n [] h b = count-none (held []) n (λ k l. refl)
 count-held lo n (d ∷ ds) h b =
     let r = from-tail lo d ds h in
-    let here = b (d .piece) (held-some (d ∷ ds) (d .piece) d (findIn-here (d .piece) d ds refl)) in
+    let here = b (d .piece) (held-some (d ∷ ds) (d .piece) d (findDlPiece-here (d .piece) d ds refl)) in
     let apart : (k : ℕ) → k < n → eqb (d .piece) k ≡ true → held ds k ≡ false =
-    λ k l e. let q = eqb-true (d .piece) k e in held-none ds k (findIn-below (suc (d .piece)) k ds r (omega (arith, q))) in
+    λ k l e. let q = eqb-true (d .piece) k e in held-none ds k (findDlPiece-below (suc (d .piece)) k ds r (omega (arith, q))) in
     let tail : (i : ℕ) → held ds i ≡ true → i < n = λ i e. b i (held-cons d ds i ∙ rw (e, or-true)) in
     count-same (held (d ∷ ds)) (λ i. eqb (d .piece) i || held ds i) n (λ k l. held-cons d ds k)
     ∙ count-either (eqb (d .piece)) (held ds) n apart

@@ -8,7 +8,7 @@ use native.Mathlib.Omega.{arith}
 use lib.Dec.{eqb, ltb}
 use lib.Bits.{bitAnd, bitOr, and-le-l, and-le-r, and-mask, and-zero-r, or-add-and, or-lt}
 use borrow.Author.Tests.{ne-eqb, lt-ltb, le-ltb}
-use Rattle.model.proofs.Tallies.{and-false}
+use Rattle.model.proofs.base.Counts.{and-false}
 use Rattle.partial_rows.specs.declared.blocks.Joined.{Joined}
 use Rattle.partial_rows.specs.Rows.{rowOk, joinedOk}
 use Rattle.partial_rows.proofs.RowLaws.{row-state, row-many, row-peer, row-neither, row-none}
@@ -28,7 +28,7 @@ or-below k a b =
       ]
     ]
 
--- ---- the number of requesters, beside itself plus 23
+-- ---- the number of peers, beside itself plus 23
 module _ (r t : ℕ) (lr : r < 2 ^ 64) (et : t ≡ (r + 23) % 2 ^ 64) where
   few : r ≤ 1000 → ltb (bitOr r t) 1024 ≡ true
   few l = lt-ltb (bitOr r t) 1024 (or-lt 10 r t (omega arith) (omega arith))

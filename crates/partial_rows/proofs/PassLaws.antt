@@ -6,8 +6,8 @@ use Prim.Native.Nat.{ℕ, _+_, _≤_, _<_}
 use native.Mathlib.Numerals.{add-one}
 use lib.Dec.{eqb, ltb, leb}
 use borrow.Author.Tests.{ltb-true, lt-leb, le-leb, not-true}
-use Rattle.model.proofs.Truths.{both-true}
-use Rattle.model.proofs.Tallies.{and-false}
+use Rattle.model.proofs.base.Truths.{both-true}
+use Rattle.model.proofs.base.Counts.{and-false}
 use Rattle.layout.specs.Layout.{pieceWord, partialWord}
 use Rattle.partial_rows.specs.Rows.{allBelow, blocksGood, partialGood, lowest, partialNext}
 use Rattle.partial_rows.proofs.BelowLaws.{all-next, all-false}

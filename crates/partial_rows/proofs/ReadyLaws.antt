@@ -8,11 +8,12 @@ use lib.ListN.{length}
 use borrow.Author.Tests.{leb-true, ltb-true}
 use Rattle.model.specs.Lists.{every, from}
 use Rattle.model.specs.State.{validGeometry}
-use Rattle.model.specs.WellFormed.{headOk}
-use Rattle.model.proofs.Truths.{both-true, and-left}
+use Rattle.model.specs.image.WellFormed.{headOk}
+use Rattle.model.proofs.base.Truths.{both-true, and-left}
 use Rattle.layout.specs.declared.spots.Shape.{Shape}
 use Rattle.layout.specs.Layout.{headWord, pieceWord, partialWord, placesFor, piecesOn, blocksOn, decode, ShapeOf, Spans}
-use Rattle.piece_rows.specs.Memory.{headRaw, pieceRaw, piecesRaw, placeRaw, partialsRaw, roomy, goodHead, goodPieces, goodPlaces, goodPartials}
+use Rattle.piece_rows.specs.Memory.{headRaw, pieceRaw, piecesRaw, placeRaw, partialsRaw, roomy, goodHead, goodPieces, goodPlaces}
+use Rattle.piece_rows.specs.Memory.{goodPartials}
 use Rattle.partial_rows.specs.Rows.{allBelow, partialNext, atWork, Ready}
 use Rattle.partial_rows.proofs.BelowLaws.{every-at}
 use Rattle.partial_rows.proofs.WholeLaws.{pass-is}

@@ -4,8 +4,8 @@ use mathlib.Core.Bool.{Bool, true, false, _&&_}
 use Prim.Native.Nat.{ℕ, _≤_, _<_, _^_}
 use lib.Dec.{eqb}
 use borrow.Author.Tests.{eq-eqb, ne-eqb, lt-ltb, lt-leb, le-leb}
-use Rattle.model.specs.WellFormed.{blockOk, peerOk}
-use Rattle.model.proofs.Tallies.{and-false}
+use Rattle.model.specs.image.WellFormed.{blockOk, peerOk}
+use Rattle.model.proofs.base.Counts.{and-false}
 use Rattle.layout.specs.Layout.{blockFrom, peerFrom, yes?}
 use Rattle.partial_rows.specs.Rows.{rowOk}
 

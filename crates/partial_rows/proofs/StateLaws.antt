@@ -7,10 +7,10 @@ use native.Mathlib.Omega.{arith}
 use native.Mathlib.Decide.{ℕ-discrete}
 use lib.Dec.{eqb, ltb}
 use borrow.Author.Tests.{eq-eqb, ne-eqb, lt-ltb, le-ltb}
-use Rattle.types.specs.Queue.{queueNumber, plainOf}
+use Rattle.types.specs.Queue.{queueNumber, unreverse}
 use Rattle.model.specs.Lists.{bit}
 use Rattle.model.specs.State.{sameQueue}
-use Rattle.model.proofs.Tallies.{and-false}
+use Rattle.model.proofs.base.Counts.{and-false}
 use Rattle.layout.specs.Layout.{queueFrom}
 use Rattle.partial_rows.specs.Rows.{dueBy, stateBy}
 
@@ -23,9 +23,9 @@ working b false k = elim (ℕ-discrete b 0) [
 ]
 
 module _ (w r b m : ℕ) (h : Bool) where
-  pub due-unwished : w ≡ 0 → 3 ≡ queueNumber (dueBy w r b m h)
+  pub due-filtered : w ≡ 0 → 3 ≡ queueNumber (dueBy w r b m h)
   unfolding dueBy
-  due-unwished e = simp (eq-eqb w 0 e)
+  due-filtered e = simp (eq-eqb w 0 e)
 
   module _ (n : w ≡ 0 → ⊥) where
     pub due-left : b ≡ 0 → h ≡ false → 4 ≡ queueNumber (dueBy w r b m h)
@@ -54,6 +54,6 @@ module _ (s w r b m : ℕ) (h : Bool) where
   neither : ((b ≡ 0 → ⊥) ⊎ (w ≤ 0)) → (ltb 0 w && eqb b 0) ≡ false
   neither = ⊎-elim (λ n. rw (ne-eqb b 0 n, and-false (ltb 0 w))) (λ l. rw (le-ltb 0 w l))
 
-  pub state-due : (p d : ℕ) → ((b ≡ 0 → ⊥) ⊎ (w ≤ 0)) → p ≡ queueNumber (plainOf (queueFrom s)) → d ≡ queueNumber (dueBy w r b m h) → eqb p d ≡ stateBy s w r b m h
+  pub state-due : (p d : ℕ) → ((b ≡ 0 → ⊥) ⊎ (w ≤ 0)) → p ≡ queueNumber (unreverse (queueFrom s)) → d ≡ queueNumber (dueBy w r b m h) → eqb p d ≡ stateBy s w r b m h
   unfolding stateBy sameQueue
   state-due p d n e f = rw (neither n, e, f)

@@ -9,17 +9,18 @@ use native.Mathlib.Decide.{decLe}
 use native.Mathlib.Omega.{arith}
 use lib.Dec.{eqb, ltb, leb}
 use borrow.Author.Tests.{eq-eqb, eqb-true, lt-ltb, le-leb, leb-true}
-use Rattle.model.specs.Lists.{every, from, size}
-use Rattle.model.specs.Bep3.{blocksInPiece}
-use Rattle.model.specs.State.{Piece, Partial, mostPartials, noPiece, sameQueue, isOpen, pieceAt, piecesIn, blocksAt}
-use Rattle.model.specs.Partials.{findIn}
-use Rattle.model.specs.Sound.{partialsFrom, PartialSound}
-use Rattle.model.specs.WellFormed.{blockOk, partialOk, partialsOk}
-use Rattle.model.proofs.Truths.{both-true, true-both, true-or-false, not-both}
-use Rattle.model.proofs.PieceLaws.{pieceAt-beyond}
-use Rattle.model.proofs.PartialLaws.{found-or-none}
-use Rattle.model.proofs.SoundPartials.{Standing, partials-ok-standing, standing-partials-ok}
-use Rattle.layout.specs.Layout.{headWord, pieceWord, partialWord, placesFor, pieceHeld, blockHeld, blocksHeld, partialFrom, partialHeld, piecesHeld, partialsHeld, decodeAt}
+use Rattle.model.specs.Lists.{every, from, len}
+use Rattle.model.specs.Bep3.{pieceBlocks}
+use Rattle.model.specs.State.{Piece, DownloadingPiece, maxPartials, noPiece, sameQueue, isOpen, pieceAt, piecesIn, blocksInPiece}
+use Rattle.model.specs.change.Partials.{findDlPiece}
+use Rattle.model.specs.image.Sound.{partialsFrom, PartialSound}
+use Rattle.model.specs.image.WellFormed.{blockOk, partialOk, partialsOk}
+use Rattle.model.proofs.base.Truths.{both-true, true-both, true-or-false, not-both}
+use Rattle.model.proofs.sound.PieceLaws.{pieceAt-beyond}
+use Rattle.model.proofs.sound.PartialLaws.{found-or-none}
+use Rattle.model.proofs.sound.SoundPartials.{Standing, partials-ok-standing, standing-partials-ok}
+use Rattle.layout.specs.Layout.{headWord, pieceWord, partialWord, placesFor, pieceHeld, blockHeld, blocksHeld, partialFrom, partialHeld}
+use Rattle.layout.specs.Layout.{piecesHeld, partialsHeld, decodeAt}
 use Rattle.layout.proofs.TabLaws.{size-tab}
 use Rattle.layout.proofs.SpotLaws.{places-min}
 use Rattle.layout.proofs.Readers.{piece-at, partials-size}
@@ -39,12 +40,12 @@ same-test false false f g = refl
 module _ (xs : List ℕ) (n b : ℕ) where
   -- ---- one partial
   good-sound : (k : ℕ) → partialGood xs n b k ≡ true → PartialSound (decodeAt n b xs) (partialWord xs n 0 k) (partialHeld xs n b k)
-  unfolding blocksGood partialHeld partialFrom blocksHeld blocksAt
+  unfolding blocksGood partialHeld partialFrom blocksHeld blocksInPiece
   good-sound k h =
       let g = good-parts xs n b k h in
       let i = partialWord xs n 0 k in
       let p = partialWord xs n 2 k in
-      let m = blocksInPiece (headWord xs 0) (headWord xs 1) i in
+      let m = pieceBlocks (headWord xs 0) (headWord xs 1) i in
       let d = both-true (rowsOk xs n b p m) _ (g .3) in
       let raw = rows-raw xs n b p m (d .0) in
       record {
@@ -55,19 +56,19 @@ module _ (xs : List ℕ) (n b : ℕ) where
       }
 
   sound-good : (k : ℕ) → partialWord xs n 0 k < n → eqb (pieceWord xs n 1 (partialWord xs n 0 k)) 4 ≡ false → leb (partialWord xs n 1 k) 7 ≡ true
-      → every (blockRaw xs n b (partialWord xs n 2 k)) (from 0 (blocksInPiece (headWord xs 0) (headWord xs 1) (partialWord xs n 0 k))) ≡ true
+      → every (blockRaw xs n b (partialWord xs n 2 k)) (from 0 (pieceBlocks (headWord xs 0) (headWord xs 1) (partialWord xs n 0 k))) ≡ true
       → PartialSound (decodeAt n b xs) (partialWord xs n 0 k) (partialHeld xs n b k) → partialGood xs n b k ≡ true
   unfolding partialGood blocksGood partialHeld partialFrom blocksHeld
   sound-good k l w f raw g =
       let i = partialWord xs n 0 k in
       let p = partialWord xs n 2 k in
-      let m = blocksInPiece (headWord xs 0) (headWord xs 1) i in
+      let m = pieceBlocks (headWord xs 0) (headWord xs 1) i in
       let rows = rows-both xs n b p m raw (g .each) in
       let st = sym (state-words xs n b k m refl f raw i) ∙ rw (piece-at n b xs i l) at (g .state) in
       rw (lt-ltb i n l, w, f, rows) st
 
   raw-parts : (k : ℕ) → partialRaw xs n b k ≡ true → (leb (partialWord xs n 1 k) 7 ≡ true)
-      × (every (blockRaw xs n b (partialWord xs n 2 k)) (from 0 (blocksInPiece (headWord xs 0) (headWord xs 1) (partialWord xs n 0 k))) ≡ true)
+      × (every (blockRaw xs n b (partialWord xs n 2 k)) (from 0 (pieceBlocks (headWord xs 0) (headWord xs 1) (partialWord xs n 0 k))) ≡ true)
   unfolding partialRaw
   raw-parts k h = both-true (leb (partialWord xs n 1 k) 7) _ h
 
@@ -75,7 +76,7 @@ module _ (xs : List ℕ) (n b : ℕ) where
   unfolding partialRaw blocksGood
   good-raw k h =
       let g = good-parts xs n b k h in
-      let m = blocksInPiece (headWord xs 0) (headWord xs 1) (partialWord xs n 0 k) in
+      let m = pieceBlocks (headWord xs 0) (headWord xs 1) (partialWord xs n 0 k) in
       let d = both-true (rowsOk xs n b (partialWord xs n 2 k) m) _ (g .3) in
       rw (g .2) (rows-raw xs n b (partialWord xs n 2 k) m (d .0))
 
@@ -86,7 +87,7 @@ module _ (xs : List ℕ) (n b : ℕ) where
       (leb-true (lowest 0 (partialWord xs n 0) k) (partialWord xs n 0 k) (a .0), a .1)
 
   -- of a piece that is there and at work: the test of partial k is that of its words and of what they mean
-  pub good-is : (k : ℕ) → partialWord xs n 0 k < n → eqb (pieceWord xs n 1 (partialWord xs n 0 k)) 4 ≡ false → k < mostPartials
+  pub good-is : (k : ℕ) → partialWord xs n 0 k < n → eqb (pieceWord xs n 1 (partialWord xs n 0 k)) 4 ≡ false → k < maxPartials
       → partialGood xs n b k
       ≡ (partialRaw xs n b k && partialOk (decodeAt n b xs) (partialWord xs n 0 k) k (pieceAt (decodeAt n b xs) (partialWord xs n 0 k)) (partialHeld xs n b k))
   unfolding partialOk
@@ -97,19 +98,19 @@ module _ (xs : List ℕ) (n b : ℕ) where
       let g = good-sound k e in
       true-both _ _ (good-raw k e) (rw (
         eq-eqb (d .piece) i (g .piece),
-        lt-ltb k mostPartials m,
-        eq-eqb (size (d .blocks)) (blocksAt (decodeAt n b xs) i) (g .blocks),
+        lt-ltb k maxPartials m,
+        eq-eqb (len (d .blocks)) (blocksInPiece (decodeAt n b xs) i) (g .blocks),
         g .each,
       ) (g .state))) (λ e.
       let a = both-true (partialRaw xs n b k) _ e in
       let r = raw-parts k (a .0) in
       let f = both-true (eqb (d .piece) i) _ (a .1) in
-      let g = both-true (ltb k mostPartials) _ (f .1) in
-      let h = both-true (eqb (size (d .blocks)) (blocksAt (decodeAt n b xs) i)) _ (g .1) in
+      let g = both-true (ltb k maxPartials) _ (f .1) in
+      let h = both-true (eqb (len (d .blocks)) (blocksInPiece (decodeAt n b xs) i)) _ (g .1) in
       let o = both-true (every blockOk (d .blocks)) _ (h .1) in
       sound-good k l w (r .0) (r .1) (record {
         piece = eqb-true (d .piece) i (f .0);
-        blocks = eqb-true (size (d .blocks)) (blocksAt (decodeAt n b xs) i) (h .0);
+        blocks = eqb-true (len (d .blocks)) (blocksInPiece (decodeAt n b xs) i) (h .0);
         each = o .0;
         state = o .1;
       }))
@@ -128,7 +129,7 @@ module _ (xs : List ℕ) (n b : ℕ) where
     unfolding pieceHeld
     open-at i l = ap (λ (p : Piece). isOpen (p .state)) (piece-at n b xs i l) ∙ open-is (pieceWord xs n 1 i) (states i l)
 
-    few-partials : size (partialsHeld xs n b) ≤ 512
+    few-partials : len (partialsHeld xs n b) ≤ 512
     few-partials = omega (arith, partials-size n b xs, few, places-min n)
 
     -- ---- from the pass to the picker
@@ -147,13 +148,13 @@ module _ (xs : List ℕ) (n b : ℕ) where
           rising-from 0 (headWord xs 7) (partialHeld xs n b) (λ k l.
           next-parts k (all-at (partialNext xs n b) (headWord xs 7) h k l) .0)
 
-      found-shut : (i : ℕ) (d : Partial) → findIn i (partialsHeld xs n b) ≡ some d → (i < n) × (isOpen (pieceAt (decodeAt n b xs) i .state) ≡ false)
+      found-shut : (i : ℕ) (d : DownloadingPiece) → findDlPiece i (partialsHeld xs n b) ≡ some d → (i < n) × (isOpen (pieceAt (decodeAt n b xs) i .state) ≡ false)
       unfolding partialsHeld partialHeld partialFrom
       found-shut i d e =
           found-has (λ j x. (j < n) × (isOpen (pieceAt (decodeAt n b xs) j .state) ≡ false)) (headWord xs 7) (partialHeld xs n b) (λ k l.
           let g = good-parts xs n b k (good-at k l) in (g .0, open-at (partialWord xs n 0 k) (g .0) ∙ g .1)) i d e
 
-      found-sound : (i : ℕ) (d : Partial) → findIn i (partialsHeld xs n b) ≡ some d → PartialSound (decodeAt n b xs) i d
+      found-sound : (i : ℕ) (d : DownloadingPiece) → findDlPiece i (partialsHeld xs n b) ≡ some d → PartialSound (decodeAt n b xs) i d
       unfolding partialsHeld partialHeld partialFrom
       found-sound i d e =
           found-has (PartialSound (decodeAt n b xs)) (headWord xs 7) (partialHeld xs n b) (λ k l. good-sound k (good-at k l)) i d e
@@ -174,7 +175,7 @@ module _ (xs : List ℕ) (n b : ℕ) where
           count-tight (held (partialsHeld xs n b)) (λ j. not (eqb (pieceWord xs n 1 j) 4)) n (λ j m q.
           ap not (sym (open-at j m) ∙ held-shut j q .1)) held-count i l (ap not (sym (open-at i l) ∙ e))
 
-      vacant-open : (i : ℕ) → findIn i (partialsHeld xs n b) ≡ none → isOpen (pieceAt (decodeAt n b xs) i .state) ≡ true
+      vacant-open : (i : ℕ) → findDlPiece i (partialsHeld xs n b) ≡ none → isOpen (pieceAt (decodeAt n b xs) i .state) ≡ true
       vacant-open i e = elim (decLe n i) [
         | yes l ↦ beyond-open i l
         | no l ↦ elim (true-or-false (isOpen (pieceAt (decodeAt n b xs) i .state))) [
@@ -183,7 +184,7 @@ module _ (xs : List ℕ) (n b : ℕ) where
         ]
       ]
 
-      open-vacant : (i : ℕ) → isOpen (pieceAt (decodeAt n b xs) i .state) ≡ true → findIn i (partialsHeld xs n b) ≡ none
+      open-vacant : (i : ℕ) → isOpen (pieceAt (decodeAt n b xs) i .state) ≡ true → findDlPiece i (partialsHeld xs n b) ≡ none
       open-vacant i o = elim (found-or-none i (partialsHeld xs n b)) [
         | inl q ↦ q
         | inr q ↦ absurd (not-both (isOpen (pieceAt (decodeAt n b xs) i .state)) o (found-shut i (q .0) (q .1) .1))
@@ -205,17 +206,17 @@ module _ (xs : List ℕ) (n b : ℕ) where
       stands : Standing (decodeAt n b xs) 0 (partialsHeld xs n b)
       stands = partials-ok-standing (decodeAt n b xs) ok .1
 
-      here : (k : ℕ) → k < headWord xs 7 → findIn (partialWord xs n 0 k) (partialsHeld xs n b) ≡ some (partialHeld xs n b k)
+      here : (k : ℕ) → k < headWord xs 7 → findDlPiece (partialWord xs n 0 k) (partialsHeld xs n b) ≡ some (partialHeld xs n b k)
       unfolding partialsHeld partialHeld partialFrom
       here k l = found-each 0 (headWord xs 7) (partialHeld xs n b) (stands .rising) k l
 
-      found-not-open : (i : ℕ) (d : Partial) → findIn i (partialsHeld xs n b) ≡ some d → isOpen (pieceAt (decodeAt n b xs) i .state) ≡ false
+      found-not-open : (i : ℕ) (d : DownloadingPiece) → findDlPiece i (partialsHeld xs n b) ≡ some d → isOpen (pieceAt (decodeAt n b xs) i .state) ≡ false
       found-not-open i d e = elim (true-or-false (isOpen (pieceAt (decodeAt n b xs) i .state))) [
         | inl o ↦ absurd (Option·none-ne-some d (sym (stands .vacant i (omega arith) o) ∙ e))
         | inr o ↦ o
       ]
 
-      found-below : (i : ℕ) (d : Partial) → findIn i (partialsHeld xs n b) ≡ some d → i < n
+      found-below : (i : ℕ) (d : DownloadingPiece) → findDlPiece i (partialsHeld xs n b) ≡ some d → i < n
       found-below i d e = elim (decLe n i) [
         | yes l ↦ absurd (not-both (isOpen (pieceAt (decodeAt n b xs) i .state)) (beyond-open i l) (found-not-open i d e))
         | no l ↦ omega arith

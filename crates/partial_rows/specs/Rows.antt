@@ -7,11 +7,11 @@ use lib.ListN.{getD}
 use lib.Dec.{eqb, ltb, leb}
 use Rattle.types.specs.declared.queue.DownloadQueue.{DownloadQueue}
 use Rattle.types.specs.declared.queue.DownloadQueue.the-variants.{Downloading, Full, Finished, ZeroPrio, Open}
-use Rattle.types.specs.Queue.{plainOf}
+use Rattle.types.specs.Queue.{unreverse}
 use Rattle.model.specs.Lists.{bit}
-use Rattle.model.specs.Bep3.{blocksInPiece}
+use Rattle.model.specs.Bep3.{pieceBlocks}
 use Rattle.model.specs.State.{sameQueue, validGeometry}
-use Rattle.model.specs.WellFormed.{blockOk}
+use Rattle.model.specs.image.WellFormed.{blockOk}
 use Rattle.layout.specs.declared.spots.Shape.{Shape}
 use Rattle.partial_rows.specs.declared.blocks.Joined.{Joined}
 use Rattle.layout.specs.Layout.{headWord, pieceWord, partialWord, blockWord, piecesOn, blocksOn, queueFrom, blockFrom, Spans}
@@ -29,20 +29,20 @@ countBelow t (suc n) = countBelow t n + bit (t n)
 
 -- ---- the state of a piece, by the numbers of its partial's blocks: requested, not free, all
 unfoldable pub dueBy : ℕ → ℕ → ℕ → ℕ → Bool → DownloadQueue
-dueBy wish requested busy blocks hashing =
-    cond (eqb wish 0) ZeroPrio
+dueBy priority requested busy blocks hashing =
+    cond (eqb priority 0) ZeroPrio
     (cond (eqb (busy + bit hashing) 0) Open
     (cond (ltb busy blocks) Downloading (cond (ltb 0 requested) Full Finished)))
 
 unfoldable pub stateBy : ℕ → ℕ → ℕ → ℕ → ℕ → Bool → Bool
-stateBy state wish requested busy blocks hashing =
-    (ltb 0 wish && eqb busy 0) || sameQueue (plainOf (queueFrom state)) (dueBy wish requested busy blocks hashing)
+stateBy state priority requested busy blocks hashing =
+    (ltb 0 priority && eqb busy 0) || sameQueue (unreverse (queueFrom state)) (dueBy priority requested busy blocks hashing)
 
 -- ---- blocks
 -- the words of a block: an image's, and in range
 unfoldable pub rowOk : ℕ → ℕ → ℕ → ℕ → Bool
-rowOk state requesters has peer =
-    (leb state 3 && (eqb has 1 || (eqb has 0 && eqb peer 0))) && blockOk (blockFrom state requesters has peer)
+rowOk state numPeers has peer =
+    (leb state 3 && (eqb has 1 || (eqb has 0 && eqb peer 0))) && blockOk (blockFrom state numPeers has peer)
 
 -- the words of blocks, joined by `|` field by field: no bit is in them that is in no good block's
 unfoldable pub joinedOk : Joined → Bool
@@ -50,7 +50,7 @@ joinedOk j = ((ltb (j .states) 4 && ltb (j .asked) 1024) && ltb (j .flags) 2) &&
 
 -- block j, where the words of blocks stand in a list for each field
 unfoldable pub rowIn : List ℕ → List ℕ → List ℕ → List ℕ → ℕ → Bool
-rowIn states requesters has peers j = rowOk (getD states j 0) (getD requesters j 0) (getD has j 0) (getD peers j 0)
+rowIn states numPeers has peers j = rowOk (getD states j 0) (getD numPeers j 0) (getD has j 0) (getD peers j 0)
 
 -- of the first blocks, by the list of their states: how many are requested; how many are not free
 unfoldable pub requestedOf : List ℕ → ℕ → ℕ
@@ -77,11 +77,11 @@ busyIn xs n b p many = countBelow (λ j. not (eqb (blockWord xs n b 0 p j) 0)) m
 -- the blocks of piece i at place p are good, and its state is theirs
 unfoldable pub blocksGood : List ℕ → ℕ → ℕ → ℕ → ℕ → Bool → Bool
 blocksGood xs n b i p hashing =
-    rowsOk xs n b p (blocksInPiece (headWord xs 0) (headWord xs 1) i)
+    rowsOk xs n b p (pieceBlocks (headWord xs 0) (headWord xs 1) i)
     && stateBy (pieceWord xs n 1 i) (pieceWord xs n 2 i)
-    (requestedIn xs n b p (blocksInPiece (headWord xs 0) (headWord xs 1) i))
-    (busyIn xs n b p (blocksInPiece (headWord xs 0) (headWord xs 1) i))
-    (blocksInPiece (headWord xs 0) (headWord xs 1) i) hashing
+    (requestedIn xs n b p (pieceBlocks (headWord xs 0) (headWord xs 1) i))
+    (busyIn xs n b p (pieceBlocks (headWord xs 0) (headWord xs 1) i))
+    (pieceBlocks (headWord xs 0) (headWord xs 1) i) hashing
 
 -- partial k on its own: a piece that is there and not Open, flags, the blocks
 unfoldable pub partialGood : List ℕ → ℕ → ℕ → ℕ → Bool

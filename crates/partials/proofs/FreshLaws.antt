@@ -7,13 +7,14 @@ use native.Mathlib.Nat.{le-of-suc-le-suc}
 use native.Mathlib.Omega.{arith}
 use native.Mathlib.Decide.{ℕ-discrete}
 use borrow.Author.Tests.{lt-ltb, le-ltb}
-use Rattle.model.specs.Lists.{at, size, each, from}
-use Rattle.model.specs.Bep3.{blocksInPiece, bitOf}
-use Rattle.model.specs.State.{Block, Partial, Picker, withPartials, blocksAt, payloadAt}
-use Rattle.model.specs.Partials.{freshBlock, freshPartial, insertIn, addPartial}
+use Rattle.model.specs.Lists.{nth, len, each, from}
+use Rattle.model.specs.Bep3.{pieceBlocks, bitOf}
+use Rattle.model.specs.State.{Block, DownloadingPiece, Picker, withPartials, blocksInPiece, payloadBlocksInPiece}
+use Rattle.model.specs.change.Partials.{freshBlock, freshPartial, insertIn, addPartial}
 use Rattle.layout.specs.declared.spots.Shape.{Shape}
 use Rattle.layout.specs.Tables.{tab}
-use Rattle.layout.specs.Layout.{headWord, partialWord, blockHeld, blocksHeld, partialFrom, partialHeld, partialsHeld, decode, noPartial, partialIn, Room, Kept, Became}
+use Rattle.layout.specs.Layout.{headWord, partialWord, blockHeld, blocksHeld, partialFrom, partialHeld, partialsHeld, decode, noPartial}
+use Rattle.layout.specs.Layout.{partialIn, Room, Kept, Became}
 use Rattle.layout.proofs.TabLaws.{tab-ext}
 use Rattle.layout.proofs.Readers.{partial-same}
 use Rattle.layout.proofs.RoomLaws.{decode-at, blocks-within, partial-room, place-room, kept-again}
@@ -84,19 +85,19 @@ tab-each g k (suc n) =
 tab-fresh : {A : Type 0} (g : ℕ → A) (n : ℕ) → tab n g ≡ each g (from 0 n)
 tab-fresh g n = tab-ext n g (λ j. g (0 + j)) (λ j h. ap g (omega arith)) ∙ tab-each g 0 n
 
-module _ (s : Shape) (xs ys : List ℕ) (r : Room s xs) (p i : ℕ) (c : Filled s xs ys p (blocksAt (decode xs) i) (payloadAt (decode xs) i)) (w : headWord xs 7 < s .places)
+module _ (s : Shape) (xs ys : List ℕ) (r : Room s xs) (p i : ℕ) (c : Filled s xs ys p (blocksInPiece (decode xs) i) (payloadBlocksInPiece (decode xs) i)) (w : headWord xs 7 < s .places)
     (e : p ≡ partialWord xs (s .pieces) 2 (headWord xs 7)) where
   same-place : partialWord ys (s .pieces) 2 (headWord ys 7) ≡ p
   same-place =
       ap (partialWord ys (s .pieces) 2) (c .around .head 7 (omega arith))
       ∙ c .around .partials 2 (headWord xs 7) (omega arith) (omega (arith, r .spans .sizes .places)) ∙ sym e
 
-  fresh-blocks : blocksHeld ys (s .pieces) (s .blocks) i p ≡ each (freshBlock (payloadAt (decode xs) i)) (from 0 (blocksAt (decode xs) i))
-  unfolding blocksHeld blocksAt
+  fresh-blocks : blocksHeld ys (s .pieces) (s .blocks) i p ≡ each (freshBlock (payloadBlocksInPiece (decode xs) i)) (from 0 (blocksInPiece (decode xs) i))
+  unfolding blocksHeld blocksInPiece
   fresh-blocks =
-      ap₂ (λ (t z : ℕ). tab (blocksInPiece t z i) (blockHeld ys (s .pieces) (s .blocks) p)) (c .around .head 0 (omega arith)) (c .around .head 1 (omega arith))
-      ∙ tab-ext (blocksInPiece (headWord xs 0) (headWord xs 1) i) (blockHeld ys (s .pieces) (s .blocks) p) (freshBlock (payloadAt (decode xs) i)) (λ j h. c .is j h)
-      ∙ tab-fresh (freshBlock (payloadAt (decode xs) i)) (blocksInPiece (headWord xs 0) (headWord xs 1) i)
+      ap₂ (λ (t z : ℕ). tab (pieceBlocks t z i) (blockHeld ys (s .pieces) (s .blocks) p)) (c .around .head 0 (omega arith)) (c .around .head 1 (omega arith))
+      ∙ tab-ext (pieceBlocks (headWord xs 0) (headWord xs 1) i) (blockHeld ys (s .pieces) (s .blocks) p) (freshBlock (payloadBlocksInPiece (decode xs) i)) (λ j h. c .is j h)
+      ∙ tab-fresh (freshBlock (payloadBlocksInPiece (decode xs) i)) (pieceBlocks (headWord xs 0) (headWord xs 1) i)
 
   pub opened-fresh : openedWith s ys i ≡ freshPartial (decode xs) i
   unfolding openedWith freshPartial partialFrom bitOf
@@ -104,36 +105,36 @@ module _ (s : Shape) (xs ys : List ℕ) (r : Room s xs) (p i : ℕ) (c : Filled 
       ap (λ (bs : List Block). partialFrom i 0 bs) (ap (blocksHeld ys (s .pieces) (s .blocks) i) same-place ∙ fresh-blocks)
 
 -- ---- the place is the model's
-insert-first : (d x : Partial) (xs : List Partial) → d .piece < x .piece → insertIn d (x ∷ xs) ≡ d ∷ x ∷ xs
+insert-first : (d x : DownloadingPiece) (xs : List DownloadingPiece) → d .piece < x .piece → insertIn d (x ∷ xs) ≡ d ∷ x ∷ xs
 unfolding insertIn
 insert-first d x xs h = rw (lt-ltb (d .piece) (x .piece) h)
 
-insert-later : (d x : Partial) (xs : List Partial) → x .piece ≤ d .piece → insertIn d (x ∷ xs) ≡ x ∷ insertIn d xs
+insert-later : (d x : DownloadingPiece) (xs : List DownloadingPiece) → x .piece ≤ d .piece → insertIn d (x ∷ xs) ≡ x ∷ insertIn d xs
 unfolding insertIn
 insert-later d x xs h = rw (le-ltb (d .piece) (x .piece) h)
 
-insert-at : (d : Partial) (ds : List Partial) (k : ℕ) → k ≤ size ds → ((j : ℕ) → j < k → at noPartial ds j .piece ≤ d .piece)
-    → (k < size ds → d .piece < at noPartial ds k .piece) → insertAt k d ds ≡ insertIn d ds
-unfolding at size insertAt insertIn
+insert-at : (d : DownloadingPiece) (ds : List DownloadingPiece) (k : ℕ) → k ≤ len ds → ((j : ℕ) → j < k → nth noPartial ds j .piece ≤ d .piece)
+    → (k < len ds → d .piece < nth noPartial ds k .piece) → insertAt k d ds ≡ insertIn d ds
+unfolding nth len insertAt insertIn
 insert-at d [] zero h low high = refl
 insert-at d [] (suc k) h low high = refl
 insert-at d (x ∷ xs) zero h low high = sym (insert-first d x xs (high (omega arith)))
 insert-at d (x ∷ xs) (suc k) h low high =
-    ap (λ (l : List Partial). x ∷ l) (insert-at d xs k (le-of-suc-le-suc h) (λ j l. low (suc j) (omega arith)) (λ l. high (omega arith)))
+    ap (λ (l : List DownloadingPiece). x ∷ l) (insert-at d xs k (le-of-suc-le-suc h) (λ j l. low (suc j) (omega arith)) (λ l. high (omega arith)))
     ∙ sym (insert-later d x xs (low zero (omega arith)))
 
 -- ---- all of it
-pub opened-added : (s : Shape) (xs ys zs : List ℕ) → Room s xs → (p i q : ℕ) → Filled s xs ys p (blocksAt (decode xs) i) (payloadAt (decode xs) i) → headWord xs 7 < s .places
+pub opened-added : (s : Shape) (xs ys zs : List ℕ) → Room s xs → (p i q : ℕ) → Filled s xs ys p (blocksInPiece (decode xs) i) (payloadBlocksInPiece (decode xs) i) → headWord xs 7 < s .places
     → p ≡ partialWord xs (s .pieces) 2 (headWord xs 7) → Position (decode ys) i q
     → Became s ys zs (withPartials (insertAt q (openedWith s ys i) (decode ys .partials)) (decode ys)) → Became s xs zs (addPartial i (decode xs))
 unfolding addPartial partialIn freshPartial
-opened-added s xs ys zs r p i q c w e at b =
-    let f = filled-decode s xs ys r p (blocksAt (decode xs) i) (payloadAt (decode xs) i) c w e in
-    let g : Position (decode xs) i q = rw f at at in
+opened-added s xs ys zs r p i q c w e nth b =
+    let f = filled-decode s xs ys r p (blocksInPiece (decode xs) i) (payloadBlocksInPiece (decode xs) i) c w e in
+    let g : Position (decode xs) i q = rw f at nth in
     record {
-      is = b .is ∙ ap₂ (λ (d : Picker) (x : Partial). withPartials (insertAt q x (d .partials)) d) f (opened-fresh s xs ys r p i c w e)
-          ∙ ap (λ (ds : List Partial). withPartials ds (decode xs)) (insert-at (freshPartial (decode xs) i) (decode xs .partials) q (g .within) (g .before) (g .after));
-      kept = kept-again s xs ys zs (filled-kept s xs ys r p (blocksAt (decode xs) i) (payloadAt (decode xs) i) c w e) (b .kept);
+      is = b .is ∙ ap₂ (λ (d : Picker) (x : DownloadingPiece). withPartials (insertAt q x (d .partials)) d) f (opened-fresh s xs ys r p i c w e)
+          ∙ ap (λ (ds : List DownloadingPiece). withPartials ds (decode xs)) (insert-at (freshPartial (decode xs) i) (decode xs .partials) q (g .within) (g .before) (g .after));
+      kept = kept-again s xs ys zs (filled-kept s xs ys r p (blocksInPiece (decode xs) i) (payloadBlocksInPiece (decode xs) i) c w e) (b .kept);
     }
 
 -- the blocks up to j are all that are wanted
@@ -141,22 +142,22 @@ pub filled-end : (s : Shape) (xs ys : List ℕ) (p j count payload : ℕ) → Fi
 filled-end s xs ys p j count payload c h l = let e : count ≡ j = omega arith in rw e c
 
 -- ---- the same, at the numbers that the code has
-pub blocks-at-most : (s : Shape) (xs : List ℕ) → Room s xs → (i : ℕ) → blocksAt (decode xs) i ≤ s .blocks
-unfolding blocksAt
+pub blocks-at-most : (s : Shape) (xs : List ℕ) → Room s xs → (i : ℕ) → blocksInPiece (decode xs) i ≤ s .blocks
+unfolding blocksInPiece
 blocks-at-most s xs r i = blocks-within s xs r i
 
 -- the partials that stand may be opened among
-pub filled-ready : (s : Shape) (xs ys : List ℕ) → Room s xs → (p count payload i q : ℕ) → Filled s xs ys p count payload → size (decode xs .partials) < s .places → Position (decode ys) i q
+pub filled-ready : (s : Shape) (xs ys : List ℕ) → Room s xs → (p count payload i q : ℕ) → Filled s xs ys p count payload → len (decode xs .partials) < s .places → Position (decode ys) i q
     → Room s ys × ((q ≤ headWord ys 7) × (headWord ys 7 < s .places))
-filled-ready s xs ys r p count payload i q c w at =
-    (c .room, (omega (arith, at .within, partials-number s ys (c .room)), omega (arith, c .around .head 7 (omega arith), partials-number s xs r)))
+filled-ready s xs ys r p count payload i q c w nth =
+    (c .room, (omega (arith, nth .within, partials-number s ys (c .room)), omega (arith, c .around .head 7 (omega arith), partials-number s xs r)))
 
 -- m is the piece's number as a word
-pub inserted : (s : Shape) (xs ys zs : List ℕ) → Room s xs → (n v p i m q count payload : ℕ) → n ≡ size (decode xs .partials) → size (decode xs .partials) < s .places
-    → v ≡ partialWord xs (s .pieces) 2 n → p ≡ v → m ≡ i → count ≡ blocksAt (decode xs) i → payload ≡ payloadAt (decode xs) i → Filled s xs ys p count payload → Position (decode ys) i q
+pub inserted : (s : Shape) (xs ys zs : List ℕ) → Room s xs → (n v p i m q count payload : ℕ) → n ≡ len (decode xs .partials) → len (decode xs .partials) < s .places
+    → v ≡ partialWord xs (s .pieces) 2 n → p ≡ v → m ≡ i → count ≡ blocksInPiece (decode xs) i → payload ≡ payloadBlocksInPiece (decode xs) i → Filled s xs ys p count payload → Position (decode ys) i q
     → Became s ys zs (withPartials (insertAt q (openedWith s ys m) (decode ys .partials)) (decode ys)) → Became s xs zs (addPartial i (decode xs))
-inserted s xs ys zs r n v p i m q count payload en w ev ep em ec ed c at b =
-    let e7 : headWord xs 7 ≡ size (decode xs .partials) = partials-number s xs r in
-    let f : Filled s xs ys p (blocksAt (decode xs) i) (payloadAt (decode xs) i) = rw (ec, ed) at c in
+inserted s xs ys zs r n v p i m q count payload en w ev ep em ec ed c nth b =
+    let e7 : headWord xs 7 ≡ len (decode xs .partials) = partials-number s xs r in
+    let f : Filled s xs ys p (blocksInPiece (decode xs) i) (payloadBlocksInPiece (decode xs) i) = rw (ec, ed) at c in
     let o : Became s ys zs (withPartials (insertAt q (openedWith s ys i) (decode ys .partials)) (decode ys)) = rw em at b in
-    opened-added s xs ys zs r p i q f (omega arith) (ep ∙ ev ∙ ap (partialWord xs (s .pieces) 2) (en ∙ sym e7)) at o
+    opened-added s xs ys zs r p i q f (omega arith) (ep ∙ ev ∙ ap (partialWord xs (s .pieces) 2) (en ∙ sym e7)) nth o

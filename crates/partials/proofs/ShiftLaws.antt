@@ -9,11 +9,12 @@ use native.Mathlib.Decide.{ℕ-discrete, decLe}
 use lib.ListN.{length, set}
 use lib.Dec.{eqb, ltb, leb}
 use borrow.Author.Tests.{lt-ltb, le-ltb, le-leb, lt-leb, eq-eqb, ne-eqb}
-use Rattle.model.specs.Lists.{without}
-use Rattle.model.specs.State.{Partial, Picker, withPartials}
+use Rattle.model.specs.Lists.{removeNth}
+use Rattle.model.specs.State.{DownloadingPiece, Picker, withPartials}
 use Rattle.layout.specs.declared.spots.Shape.{Shape}
 use Rattle.layout.specs.Tables.{tab, choose}
-use Rattle.layout.specs.Layout.{placesFor, headWord, partialWord, blocksHeld, partialFrom, partialHeld, partialsHeld, decode, Spans, Room, Kept, Became}
+use Rattle.layout.specs.Layout.{placesFor, headWord, partialWord, blocksHeld, partialFrom, partialHeld, partialsHeld, decode, Spans, Room}
+use Rattle.layout.specs.Layout.{Kept, Became}
 use Rattle.layout.proofs.TabLaws.{tab-ext, tab-without}
 use Rattle.layout.proofs.Same.{head-stored, partials-below}
 use Rattle.layout.proofs.Readers.{blocks-same, block-same}
@@ -219,7 +220,7 @@ module _ (s : Shape) (xs : List ℕ) (r : Room s xs) (q w k : ℕ) (ys zs : List
       ∙ tab-insert w (partialHeld xs (s .pieces) (s .blocks)) (partialHeld opened (s .pieces) (s .blocks)) q q-w
       (λ j l. beside-partial s xs opened r beside j j (omega (arith, q-w)) (λ f o. below f j o l))
       (λ j l o. beside-partial s xs opened r beside (suc j) j (omega arith) (λ f u. above f j u l o))
-      ∙ ap₂ (λ (d : Partial) (n : ℕ). insertAt q d (tab n (partialHeld xs (s .pieces) (s .blocks)))) held e7
+      ∙ ap₂ (λ (d : DownloadingPiece) (n : ℕ). insertAt q d (tab n (partialHeld xs (s .pieces) (s .blocks)))) held e7
 
   pub opened-became : Became s xs opened (withPartials (insertAt q (openedWith s xs i) (decode xs .partials)) (decode xs))
   opened-became =
@@ -355,16 +356,16 @@ module _ (s : Shape) (xs : List ℕ) (r : Room s xs) (q w k : ℕ) (ys zs : List
   shut-kept : Kept s xs shut
   shut-kept = kept-turned s xs shut r aside room-left (goesDown q w) origin
 
-  removed : partialsHeld shut (s .pieces) (s .blocks) ≡ without q (partialsHeld xs (s .pieces) (s .blocks))
+  removed : partialsHeld shut (s .pieces) (s .blocks) ≡ removeNth q (partialsHeld xs (s .pieces) (s .blocks))
   unfolding partialsHeld
   removed =
       ap (λ (n : ℕ). tab n (partialHeld shut (s .pieces) (s .blocks))) fewer
       ∙ tab-without w (partialHeld xs (s .pieces) (s .blocks)) (partialHeld shut (s .pieces) (s .blocks)) q ordered
       (λ j l. beside-partial s xs shut r aside j j (omega (arith, ordered)) (λ f o. under f j o l))
       (λ j l o. beside-partial s xs shut r aside j (suc j) (omega arith) (λ f u. within f j u l o))
-      ∙ ap (λ (n : ℕ). without q (tab n (partialHeld xs (s .pieces) (s .blocks)))) e7
+      ∙ ap (λ (n : ℕ). removeNth q (tab n (partialHeld xs (s .pieces) (s .blocks)))) e7
 
-  pub shut-became : Became s xs shut (withPartials (without q (decode xs .partials)) (decode xs))
+  pub shut-became : Became s xs shut (withPartials (removeNth q (decode xs .partials)) (decode xs))
   shut-became =
-      beside-became s xs shut r aside (without q (decode xs .partials)) shut-kept
-      (removed ∙ ap (λ (d : Picker). without q (d .partials)) (sym (decode-at s xs r)))
+      beside-became s xs shut r aside (removeNth q (decode xs .partials)) shut-kept
+      (removed ∙ ap (λ (d : Picker). removeNth q (d .partials)) (sym (decode-at s xs r)))

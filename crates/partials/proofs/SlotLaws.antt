@@ -5,7 +5,7 @@ use Prim.Native.Nat.{ℕ, zero, suc, _+_, _≤_, _<_}
 use native.Mathlib.Omega.{arith}
 use native.Mathlib.Decide.{ℕ-discrete}
 use lib.ListN.{length, set, length-set}
-use Rattle.model.specs.Lists.{size}
+use Rattle.model.specs.Lists.{len}
 use Rattle.model.specs.State.{Picker}
 use Rattle.layout.specs.declared.spots.Shape.{Shape}
 use Rattle.layout.specs.Tables.{choose}
@@ -82,10 +82,10 @@ module _ (s : Shape) (xs : List ℕ) (v : Spans s xs) (k : ℕ) (h : k < s .plac
 -- ---- the search for a place
 -- none of the first k has a higher piece
 pub record Passing (d : Picker) (i k : ℕ) : Type 0 where
-  pub within : k ≤ size (d .partials)
+  pub within : k ≤ len (d .partials)
   pub before : (j : ℕ) → j < k → partialIn d j .piece ≤ i
 
-pub passing-next : (d : Picker) (i k : ℕ) → Passing d i k → k < size (d .partials) → partialIn d k .piece ≤ i → Passing d i (k + 1)
+pub passing-next : (d : Picker) (i k : ℕ) → Passing d i k → k < len (d .partials) → partialIn d k .piece ≤ i → Passing d i (k + 1)
 passing-next d i k p h l =
     record {
       within = omega arith;
@@ -96,7 +96,7 @@ passing-next d i k p h l =
     }
 
 -- the next one, where there is one, has a higher piece; w is the piece's number as a word
-pub passing-end : (d : Picker) (w i k : ℕ) → w ≡ i → Passing d w k → (k < size (d .partials) → w < partialIn d k .piece) → Position d i k
+pub passing-end : (d : Picker) (w i k : ℕ) → w ≡ i → Passing d w k → (k < len (d .partials) → w < partialIn d k .piece) → Position d i k
 passing-end d w i k e p a =
     record {
       within = p .within;

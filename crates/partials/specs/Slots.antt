@@ -3,9 +3,9 @@ use mathlib.Core.Path.{_≡_}
 use mathlib.Core.Logic.{_≢_}
 use mathlib.Core.List.{List, [], _∷_}
 use Prim.Native.Nat.{ℕ, zero, suc, _≤_, _<_}
-use Rattle.model.specs.Lists.{size}
-use Rattle.model.specs.State.{Partial, Picker}
-use Rattle.model.specs.Partials.{freshBlock}
+use Rattle.model.specs.Lists.{len}
+use Rattle.model.specs.State.{DownloadingPiece, Picker}
+use Rattle.model.specs.change.Partials.{freshBlock}
 use Rattle.layout.specs.declared.spots.Shape.{Shape}
 use Rattle.layout.specs.Tables.{choose}
 use Rattle.layout.specs.Layout.{placesFor, headWord, partialWord, blockHeld, blocksHeld, partialFrom, partialIn, Room}
@@ -30,9 +30,9 @@ pub record RecordPut (s : Shape) (xs ys : List ℕ) (k : ℕ) (r : Record) : Typ
 
 -- where a partial of a piece is to stand: behind all of lower pieces before the first of a higher one
 pub record Position (d : Picker) (i k : ℕ) : Type 0 where
-  pub within : k ≤ size (d .partials)
+  pub within : k ≤ len (d .partials)
   pub before : (j : ℕ) → j < k → partialIn d j .piece ≤ i
-  pub after : k < size (d .partials) → i < partialIn d k .piece
+  pub after : k < len (d .partials) → i < partialIn d k .piece
 
 -- x at place k of a list, those from there on moved up
 unfoldable pub insertAt : {A : Type 0} → ℕ → A → List A → List A
@@ -41,7 +41,7 @@ insertAt (suc k) x [] = x ∷ []
 insertAt (suc k) x (y ∷ ys) = y ∷ insertAt k x ys
 
 -- the partial of piece i with the blocks of the first free place
-unfoldable pub openedWith : Shape → List ℕ → ℕ → Partial
+unfoldable pub openedWith : Shape → List ℕ → ℕ → DownloadingPiece
 openedWith s xs i = partialFrom i 0 (blocksHeld xs (s .pieces) (s .blocks) i (partialWord xs (s .pieces) 2 (headWord xs 7)))
 
 -- the first `count` blocks of place p are those of a piece just opened, and no other place has changed

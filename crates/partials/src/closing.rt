@@ -2,8 +2,8 @@
 ghost use mathlib.Core.Path.{_≡_};
 ghost use mathlib.Core.Bool.{true};
 ghost use Rattle.types.specs.Piece.{indexOf};
-ghost use Rattle.model.specs.Partials.{dropPartial};
-ghost use Rattle.model.specs.Sound.{partialsFrom};
+ghost use Rattle.model.specs.change.Partials.{dropPartial};
+ghost use Rattle.model.specs.image.Sound.{partialsFrom};
 ghost use Rattle.layout.specs.Layout.{decode, Room, Became};
 use crate::shifts::close_at;
 use records::Found;

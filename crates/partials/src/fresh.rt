@@ -1,7 +1,7 @@
 // The blocks of a place as a piece just opened has them.
 ghost use mathlib.Core.Path.{_≡_};
 ghost use Prim.Native.Nat.{_<_, _≤_};
-ghost use Rattle.model.specs.Partials.{freshBlock};
+ghost use Rattle.model.specs.change.Partials.{freshBlock};
 ghost use Rattle.layout.specs.Layout.{Room};
 ghost use Rattle.records.specs.Rows.{blockOfRow};
 ghost use Rattle.partials.specs.Slots.{Filled};

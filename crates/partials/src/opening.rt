@@ -6,16 +6,16 @@ use types::PieceIndex;
 ghost use mathlib.Core.Path.{_≡_};
 ghost use Prim.Native.Nat.{_<_};
 ghost use Rattle.types.specs.Piece.{indexOf};
-ghost use Rattle.model.specs.Lists.{size};
-ghost use Rattle.model.specs.State.{blocksAt, payloadAt};
-ghost use Rattle.model.specs.Partials.{addPartial};
+ghost use Rattle.model.specs.Lists.{len};
+ghost use Rattle.model.specs.State.{blocksInPiece, payloadBlocksInPiece};
+ghost use Rattle.model.specs.change.Partials.{addPartial};
 ghost use Rattle.layout.specs.Layout.{decode, Room, Became};
 
 // `count` are the blocks of the piece, `payload` those that hold more than pad bytes.
 pub fn insert(mem: &mut [u64], s: layout::Shape, piece: PieceIndex, count: usize, payload: usize)
     requires { ⌜ Room s (now mem) ⌝ }
-    requires { ⌜ size (decode (now mem) .partials) < s .places ⌝ }
-    requires { ⌜ (count ≡ blocksAt (decode (now mem)) (indexOf (piece .0))) × (payload ≡ payloadAt (decode (now mem)) (indexOf (piece .0))) ⌝ }
+    requires { ⌜ len (decode (now mem) .partials) < s .places ⌝ }
+    requires { ⌜ (count ≡ blocksInPiece (decode (now mem)) (indexOf (piece .0))) × (payload ≡ payloadBlocksInPiece (decode (now mem)) (indexOf (piece .0))) ⌝ }
     ensures { λ _. ⌜ Became s (now (mem .entry)) (now (mem .exit)) (addPartial (indexOf (piece .0)) (decode (now (mem .entry)))) ⌝ }
 {
     let n = records::partial_count(mem, s);

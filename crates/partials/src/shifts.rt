@@ -1,6 +1,6 @@
 // A partial opened at a place among the partials, and one closed.
 ghost use Prim.Native.Nat.{_<_, _≤_};
-ghost use Rattle.model.specs.Lists.{without};
+ghost use Rattle.model.specs.Lists.{removeNth};
 ghost use Rattle.model.specs.State.{withPartials};
 ghost use Rattle.layout.specs.Layout.{decode, headWord, Room, Became};
 ghost use Rattle.partials.specs.Slots.{insertAt, openedWith};
@@ -36,7 +36,7 @@ pub fn open_at(mem: &mut [u64], s: layout::Shape, q: usize, piece: u64)
 pub fn close_at(mem: &mut [u64], s: layout::Shape, q: usize)
     requires { ⌜ Room s (now mem) ⌝ }
     requires { ⌜ q < headWord (now mem) 7 ⌝ }
-    ensures { λ _. ⌜ Became s (now (mem .entry)) (now (mem .exit)) (withPartials (without q (decode (now (mem .entry)) .partials)) (decode (now (mem .entry)))) ⌝ }
+    ensures { λ _. ⌜ Became s (now (mem .entry)) (now (mem .exit)) (withPartials (removeNth q (decode (now (mem .entry)) .partials)) (decode (now (mem .entry)))) ⌝ }
 {
     let n = layout::idx(layout::head_word(mem, 7));
     let last = n - 1;

@@ -6,9 +6,9 @@ use Prim.Native.Nat.{ℕ, _+_, _≤_, _<_}
 use native.Mathlib.Omega.{arith}
 use lib.Dec.{eqb, ltb}
 use borrow.Author.Tests.{eq-eqb, ne-eqb, lt-ltb, le-ltb}
-use Rattle.model.specs.Lists.{size, some?, member}
-use Rattle.model.specs.State.{piecesIn, blocksPer, extentsOf}
-use Rattle.model.specs.WellFormed.{extentOk, extentsOk}
+use Rattle.model.specs.Lists.{len, any, member}
+use Rattle.model.specs.State.{piecesIn, blocksPerPiece, numExtents}
+use Rattle.model.specs.image.WellFormed.{extentOk, extentsOk}
 use Rattle.layout.specs.Tables.{tab}
 use Rattle.layout.proofs.TabLaws.{size-tab}
 use Rattle.layout.specs.declared.spots.Shape.{Shape}
@@ -33,8 +33,8 @@ sought-start xs k e = record { within = omega arith; left = ap (member e) (tail-
 
 module _ (xs : List ℕ) (k e j : ℕ) (p : Sought xs k e j) where
   seek : j < k → member e (tail (extentAt xs) j k) ≡ (eqb e (extentAt xs j) || member e (tail (extentAt xs) (j + 1) k))
-  unfolding member some?
-  seek h = ap (some? (eqb e)) (tail-next (extentAt xs) j k h)
+  unfolding member any
+  seek h = ap (any (eqb e)) (tail-next (extentAt xs) j k h)
 
   module _ (h : j < k) (w : ℕ) (ew : w ≡ headWord xs (9 + j)) where
     pub sought-found : e ≡ w → true ≡ member e (extentsBefore xs k)
@@ -47,8 +47,8 @@ module _ (xs : List ℕ) (k e j : ℕ) (p : Sought xs k e j) where
         record { within = omega arith; left = sym (seek h ∙ rw (ne-eqb e (headWord xs (9 + j)) (λ m. q (m ∙ sym ew)))) ∙ p .left }
 
   pub sought-end : k ≤ j → false ≡ member e (extentsBefore xs k)
-  unfolding member some?
-  sought-end h = sym (ap (some? (eqb e)) (tail-end (extentAt xs) j k h)) ∙ p .left
+  unfolding member any
+  sought-end h = sym (ap (any (eqb e)) (tail-end (extentAt xs) j k h)) ∙ p .left
 
 -- ---- all extents
 pub record Extending (xs : List ℕ) (k : ℕ) : Type 0 where
@@ -73,15 +73,15 @@ module _ (s : Shape) (xs : List ℕ) (r : Housed s xs) (most : headWord xs 8 ≤
       ∙ ap (λ (l : List ℕ). extentOk (decode xs) (tab k (extentAt xs)) (extentAt xs k) && extentsOk (decode xs) l (tail (extentAt xs) (k + 1) (headWord xs 8))) (sym (front-next (extentAt xs) k))
 
   -- by the words that were read
-  module _ (h : k < headWord xs 8) (limit n b e : ℕ) (el : limit ≡ extentsOf n b) (en : n ≡ s .pieces) (eb : b ≡ s .blocks) (ee : e ≡ headWord xs (9 + k)) where
-    limit-is : extentsOf (piecesIn (decode xs)) (blocksPer (decode xs)) ≡ limit
-    unfolding blocksPer blocksOn
-    limit-is = ap₂ extentsOf (pieces-in xs ∙ sym (en ∙ r .pieces)) (sym (eb ∙ r .blocks)) ∙ sym el
+  module _ (h : k < headWord xs 8) (limit n b e : ℕ) (el : limit ≡ numExtents n b) (en : n ≡ s .pieces) (eb : b ≡ s .blocks) (ee : e ≡ headWord xs (9 + k)) where
+    limit-is : numExtents (piecesIn (decode xs)) (blocksPerPiece (decode xs)) ≡ limit
+    unfolding blocksPerPiece blocksOn
+    limit-is = ap₂ numExtents (pieces-in xs ∙ sym (en ∙ r .pieces)) (sym (eb ∙ r .blocks)) ∙ sym el
 
     test-is : extentOk (decode xs) (extentsBefore xs k) (extentAt xs k) ≡ (ltb e limit && not (member e (extentsBefore xs k)))
     unfolding extentOk extentAt
     test-is =
-        let z : ltb (size (extentsBefore xs k)) 5 ≡ true = unfold extentsBefore in (rw (size-tab k (λ j. headWord xs (9 + j))) (lt-ltb k 5 (omega arith))) in
+        let z : ltb (len (extentsBefore xs k)) 5 ≡ true = unfold extentsBefore in (rw (size-tab k (λ j. headWord xs (9 + j))) (lt-ltb k 5 (omega arith))) in
         rw (z, limit-is, ← ee)
 
     pub far-extent : limit ≤ e → false ≡ goodExtents xs

@@ -8,8 +8,8 @@ use native.Mathlib.Omega.{arith}
 use lib.Dec.{eqb, leb}
 use borrow.Author.Tests.{eq-eqb, ne-eqb, le-leb, lt-leb, leb-true}
 use Rattle.model.specs.State.{validGeometry}
-use Rattle.model.specs.WellFormed.{headOk}
-use Rattle.model.proofs.Truths.{both-true}
+use Rattle.model.specs.image.WellFormed.{headOk}
+use Rattle.model.proofs.base.Truths.{both-true}
 use Rattle.layout.specs.declared.spots.Shape.{Shape}
 use Rattle.layout.specs.Layout.{placesFor, headWord, piecesOn, ShapeOf, decode}
 use Rattle.piece_rows.specs.Memory.{headRaw, goodHead}
@@ -17,13 +17,13 @@ use Rattle.piece_rows.specs.Rows.{lengthsOk, rangesOk}
 
 -- ---- flags and numbers
 module _ (n places stale list partials extents : ℕ) where
-  pub many-stale : 1 < stale → false ≡ lengthsOk n places stale list partials extents
+  pub many-dirty : 1 < stale → false ≡ lengthsOk n places stale list partials extents
   unfolding lengthsOk
-  many-stale h = rw (lt-leb stale 1 h)
+  many-dirty h = rw (lt-leb stale 1 h)
 
-  pub stale-listed : stale ≡ 1 → 0 < list → false ≡ lengthsOk n places stale list partials extents
+  pub dirty-listed : stale ≡ 1 → 0 < list → false ≡ lengthsOk n places stale list partials extents
   unfolding lengthsOk
-  stale-listed e h = rw (le-leb stale 1 (omega arith), eq-eqb stale 1 e, lt-leb list 0 h)
+  dirty-listed e h = rw (le-leb stale 1 (omega arith), eq-eqb stale 1 e, lt-leb list 0 h)
 
   module _ (s : stale ≤ 1) where
     room : (stale ≡ 1 → list ≤ 0) → list ≤ n → leb list (cond (eqb stale 1) 0 n) ≡ true
@@ -96,10 +96,10 @@ pub record Headed (xs : List ℕ) : Type 0 where
   pub idle : headWord xs 5 ≡ 1 → headWord xs 6 ≡ 0
   pub list : headWord xs 6 ≤ piecesOn xs
   pub partials : headWord xs 7 ≤ placesFor (piecesOn xs)
-  pub extents : headWord xs 8 ≤ 5
+  pub recentExtents : headWord xs 8 ≤ 5
   pub seeds : headWord xs 2 ≤ 1000
 
--- a bound that is 0 for a stale list
+-- a bound that is 0 for a dirty list
 list-bound : (n stale list : ℕ) → leb list (cond (eqb stale 1) 0 n) ≡ true → (stale ≡ 1 → list ≡ 0) × (list ≤ n)
 list-bound n stale list h = elim (ℕ-discrete stale 1) [
   | yes e ↦ let l : list ≤ 0 = leb-true list 0 (rw (eq-eqb stale 1 e) at h) in ((λ q. omega arith), omega arith)
@@ -122,6 +122,6 @@ headed xs h =
       idle = f .0;
       list = f .1;
       partials = leb-true (headWord xs 7) (placesFor n) (e .0);
-      extents = leb-true (headWord xs 8) 5 (e .1);
+      recentExtents = leb-true (headWord xs 8) 5 (e .1);
       seeds = leb-true (headWord xs 2) 1000 (s .0);
     }

@@ -9,18 +9,18 @@ use lib.Dec.{eqb, ltb, leb}
 use lib.ListN.{length, getD, set, length-set}
 use lib.Seq.{getD-set-same, getD-set-other}
 use borrow.Author.Tests.{eq-eqb, ne-eqb, lt-ltb, le-ltb, le-leb, lt-leb}
-use Rattle.model.specs.Lists.{bit, tally, from, size, member, some?, lastOf}
+use Rattle.model.specs.Lists.{bit, count, from, len, member, any, lastOr}
 use Rattle.model.specs.State.{Picker, piecesIn}
-use Rattle.model.specs.Order.{rank, withBucket}
-use Rattle.model.specs.WellFormed.{placeOk, orderOk, listingOk}
-use Rattle.model.proofs.Tallies.{lt-bit, ge-bit, length-filter}
+use Rattle.model.specs.list.Order.{rank, withBucket}
+use Rattle.model.specs.image.WellFormed.{placeOk, orderOk, listingOk}
+use Rattle.model.proofs.base.Counts.{lt-bit, ge-bit, length-filter}
 use Rattle.layout.specs.Tables.{tab}
 use Rattle.layout.specs.declared.spots.Shape.{Shape}
 use Rattle.layout.specs.Layout.{headWord, pieceWord, piecesOn, blocksOn, yes?, listHeld, listingHeld, decode}
 use Rattle.layout.proofs.Readers.{order-size}
 use Rattle.piece_rows.specs.Memory.{goodList}
 use Rattle.piece_rows.specs.Rows.{Keyed, rankedIn}
-use Rattle.piece_rows.proofs.Tails.{tail, tail-all, tail-next, tail-end, front-next, member-behind, last-behind, tally-below}
+use Rattle.piece_rows.proofs.Tails.{tail, tail-all, tail-next, tail-end, front-next, member-behind, last-behind, count-below}
 use Rattle.piece_rows.proofs.ExtentTests.{pieces-in}
 
 -- ---- how many keys are not 0
@@ -28,7 +28,7 @@ use Rattle.piece_rows.proofs.ExtentTests.{pieces-in}
 pub record Counting (keys : List ℕ) (n many i : ℕ) : Type 0 where
   pub within : i ≤ n
   pub few : many ≤ i
-  pub left : many + tally (λ j. ltb 0 (getD keys j 0)) (from i (n - i)) ≡ rankedIn keys n
+  pub left : many + count (λ j. ltb 0 (getD keys j 0)) (from i (n - i)) ≡ rankedIn keys n
 
 pub counting-start : (keys : List ℕ) (n : ℕ) → Counting keys n 0 0
 unfolding rankedIn
@@ -37,13 +37,13 @@ counting-start keys n =
     record { within = omega arith; few = omega arith; left = rw e (omega arith) }
 
 module _ (keys : List ℕ) (n many i : ℕ) (p : Counting keys n many i) where
-  count-step : i < n → tally (λ j. ltb 0 (getD keys j 0)) (from i (n - i)) ≡ bit (ltb 0 (getD keys i 0)) + tally (λ j. ltb 0 (getD keys j 0)) (from (i + 1) (n - (i + 1)))
-  unfolding tally from
+  count-step : i < n → count (λ j. ltb 0 (getD keys j 0)) (from i (n - i)) ≡ bit (ltb 0 (getD keys i 0)) + count (λ j. ltb 0 (getD keys j 0)) (from (i + 1) (n - (i + 1)))
+  unfolding count from
   count-step h =
       let e : n - i ≡ suc (n - (i + 1)) = omega arith in
       let f : suc i ≡ i + 1 = omega arith in
-      ap (λ (k : ℕ). tally (λ j. ltb 0 (getD keys j 0)) (from i k)) e
-      ∙ ap (λ (k : ℕ). bit (ltb 0 (getD keys i 0)) + tally (λ j. ltb 0 (getD keys j 0)) (from k (n - (i + 1)))) f
+      ap (λ (k : ℕ). count (λ j. ltb 0 (getD keys j 0)) (from i k)) e
+      ∙ ap (λ (k : ℕ). bit (ltb 0 (getD keys i 0)) + count (λ j. ltb 0 (getD keys j 0)) (from k (n - (i + 1)))) f
 
   pub count-one : i < n → 0 < getD keys i 0 → (now : ℕ) → now ≡ many + 1 → Counting keys n now (i + 1)
   count-one h g now e =
@@ -54,10 +54,10 @@ module _ (keys : List ℕ) (n many i : ℕ) (p : Counting keys n many i) where
       record { within = omega arith; few = omega (arith, p .few); left = omega (arith, p .left, count-step h, ge-bit 0 (getD keys i 0) g) }
 
   pub count-end : n ≤ i → many ≡ rankedIn keys n
-  unfolding tally from
+  unfolding count from
   count-end h =
       let e : n - i ≡ 0 = omega arith in
-      let f : tally (λ j. ltb 0 (getD keys j 0)) (from i (n - i)) ≡ 0 = ap (λ (k : ℕ). tally (λ j. ltb 0 (getD keys j 0)) (from i k)) e in
+      let f : count (λ j. ltb 0 (getD keys j 0)) (from i (n - i)) ≡ 0 = ap (λ (k : ℕ). count (λ j. ltb 0 (getD keys j 0)) (from i k)) e in
       omega (arith, p .left)
 
 -- ---- the places
@@ -76,12 +76,12 @@ pub record Ordering (n w : ℕ) (xs keys : List ℕ) (last k : ℕ) : Type 0 whe
   pub least : 1 ≤ last
   pub key : (j : ℕ) → j < n → getD keys j 0 ≡ leftOf (decode xs) (tab k (placeAt xs)) j
   pub lasts : (x : ℕ) → 0 < rank (decode xs) x
-      → leb (rank (decode xs) (lastOf x (tab k (placeAt xs)))) (rank (decode xs) x) ≡ leb last (rank (decode xs) x)
+      → leb (rank (decode xs) (lastOr x (tab k (placeAt xs)))) (rank (decode xs) x) ≡ leb last (rank (decode xs) x)
   pub long : n ≤ w
   pub wide : length keys ≡ w
 
 pub ordering-start : (s : Shape) (keys xs : List ℕ) → Keyed s keys xs → Ordering (s .pieces) (length keys) xs keys 1 0
-unfolding listHeld placeAt tab member some? lastOf leftOf
+unfolding listHeld placeAt tab member any lastOr leftOf
 ordering-start s keys xs r = record {
   within = omega arith;
   left = ap (orderOk (decode xs) []) (tail-all (placeAt xs) (headWord xs 6));
@@ -169,21 +169,21 @@ module _ (s : Shape) (keys₀ xs : List ℕ) (r : Keyed s keys₀ xs) (w : ℕ) 
 
 -- ---- the list
 module _ (s : Shape) (keys xs : List ℕ) (r : Keyed s keys xs) (flag : ℕ) (ef : flag ≡ headWord xs 5) where
-  pub stale-list : flag ≡ 1 → true ≡ goodList xs
+  pub dirty-list : flag ≡ 1 → true ≡ goodList xs
   unfolding goodList listingHeld yes? listingOk
-  stale-list e = rw (eq-eqb (headWord xs 5) 1 (sym ef ∙ e))
+  dirty-list e = rw (eq-eqb (headWord xs 5) 1 (sym ef ∙ e))
 
   module _ (fresh-list : flag ≡ 1 → ⊥) where
-    list-parts : goodList xs ≡ (eqb (size (listHeld xs (piecesOn xs))) (size (withBucket (decode xs))) && orderOk (decode xs) [] (listHeld xs (piecesOn xs)))
+    list-parts : goodList xs ≡ (eqb (len (listHeld xs (piecesOn xs))) (len (withBucket (decode xs))) && orderOk (decode xs) [] (listHeld xs (piecesOn xs)))
     unfolding goodList listingHeld yes? listingOk
     list-parts = rw (ne-eqb (headWord xs 5) 1 (λ e. fresh-list (ef ∙ e)))
 
-    ranked-is : size (withBucket (decode xs)) ≡ rankedIn keys (s .pieces)
-    unfolding withBucket rankedIn size
+    ranked-is : len (withBucket (decode xs)) ≡ rankedIn keys (s .pieces)
+    unfolding withBucket rankedIn len
     ranked-is =
         length-filter (λ i. ltb 0 (rank (decode xs) i)) (from 0 (piecesIn (decode xs)))
-        ∙ ap (λ (n : ℕ). tally (λ i. ltb 0 (rank (decode xs) i)) (from 0 n)) (pieces-in xs ∙ sym (r .house .pieces))
-        ∙ tally-below (λ i. ltb 0 (rank (decode xs) i)) (λ i. ltb 0 (getD keys i 0)) 0 (s .pieces) (λ i l. ap (ltb 0) (sym (r .ranks i (omega arith))))
+        ∙ ap (λ (n : ℕ). count (λ i. ltb 0 (rank (decode xs) i)) (from 0 n)) (pieces-in xs ∙ sym (r .house .pieces))
+        ∙ count-below (λ i. ltb 0 (rank (decode xs) i)) (λ i. ltb 0 (getD keys i 0)) 0 (s .pieces) (λ i l. ap (ltb 0) (sym (r .ranks i (omega arith))))
 
     module _ (many w many₂ : ℕ) (ew : w ≡ headWord xs 6) (em : many ≡ w) (ec : many₂ ≡ rankedIn keys (s .pieces)) where
       pub other-many : (many₂ ≡ many → ⊥) → false ≡ goodList xs

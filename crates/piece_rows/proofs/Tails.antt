@@ -5,7 +5,7 @@ use mathlib.Core.List.{List, [], _∷_, _++_}
 use Prim.Native.Nat.{ℕ, zero, suc, _+_, _-_, _≤_, _<_}
 use native.Mathlib.Omega.{arith}
 use lib.Dec.{eqb}
-use Rattle.model.specs.Lists.{tally, from, some?, member, lastOf}
+use Rattle.model.specs.Lists.{count, from, any, member, lastOr}
 use Rattle.layout.specs.Tables.{tab}
 use Rattle.layout.proofs.TabLaws.{tab-ext, tab-more}
 
@@ -37,17 +37,17 @@ module _ {A : Type 0} where
 
 -- ---- elements
 pub member-behind : (j x : ℕ) (l : List ℕ) → member j (l ++ (x ∷ [])) ≡ (member j l || eqb j x)
-unfolding member some?
+unfolding member any
 member-behind j x [] = or-false (eqb j x)
-member-behind j x (y ∷ ys) = ap (λ (t : Bool). eqb j y || t) (member-behind j x ys) ∙ sym (or-assoc (eqb j y) (some? (eqb j) ys) (eqb j x))
+member-behind j x (y ∷ ys) = ap (λ (t : Bool). eqb j y || t) (member-behind j x ys) ∙ sym (or-assoc (eqb j y) (any (eqb j) ys) (eqb j x))
 
-pub last-behind : (d x : ℕ) (l : List ℕ) → lastOf d (l ++ (x ∷ [])) ≡ x
-unfolding lastOf
+pub last-behind : (d x : ℕ) (l : List ℕ) → lastOr d (l ++ (x ∷ [])) ≡ x
+unfolding lastOr
 last-behind d x [] = refl
 last-behind d x (y ∷ ys) = last-behind y x ys
 
 -- tests that agree below the end pass as often
-pub tally-below : (f g : ℕ → Bool) (k n : ℕ) → ((i : ℕ) → i < k + n → f i ≡ g i) → tally f (from k n) ≡ tally g (from k n)
-unfolding tally from
-tally-below f g k zero h = refl
-tally-below f g k (suc n) h = rw (h k (omega arith), tally-below f g (suc k) n (λ i l. h i (omega arith)))
+pub count-below : (f g : ℕ → Bool) (k n : ℕ) → ((i : ℕ) → i < k + n → f i ≡ g i) → count f (from k n) ≡ count g (from k n)
+unfolding count from
+count-below f g k zero h = refl
+count-below f g k (suc n) h = rw (h k (omega arith), count-below f g (suc k) n (λ i l. h i (omega arith)))

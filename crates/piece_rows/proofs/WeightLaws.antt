@@ -10,7 +10,7 @@ use lib.Dec.{eqb, leb}
 use lib.ListN.{getD}
 use borrow.Author.Tests.{eq-eqb, ne-eqb, eqb-true, leb-true}
 use Rattle.model.specs.Lists.{every, from}
-use Rattle.model.proofs.Truths.{both-true}
+use Rattle.model.proofs.base.Truths.{both-true}
 use Rattle.bucket.specs.Ranks.{off, unlistedBy}
 use Rattle.bucket.proofs.Ranking.{product, taken-off, rank-none, rank-some}
 use Rattle.piece_rows.specs.Rows.{rankFrom, Ranked, weightRows}
@@ -18,38 +18,38 @@ use Rattle.piece_rows.proofs.RowLaws.{numbers-of}
 use Rattle.piece_rows.proofs.PieceTests.{every-from}
 
 -- ---- the table
--- there is no rank, by state and wish alone
+-- there is no rank, by state and priority alone
 unfoldable pub none? : ℕ → ℕ → Bool
-none? state wish = eqb wish 0 || (eqb state 1 || eqb state 2)
+none? state priority = eqb priority 0 || (eqb state 1 || eqb state 2)
 
--- the weight of a state and a wish: 4 times the factor, and what is taken off
+-- the weight of a state and a priority: 4 times the factor, and what is taken off
 unfoldable pub weightOf : ℕ → ℕ → ℕ
-weightOf state wish = cond (none? state wish) 0 ((24 - 3 * wish) * 4 + (off state - 1))
+weightOf state priority = cond (none? state priority) 0 ((24 - 3 * priority) * 4 + (off state - 1))
 
 all-weights : every (λ s. every (λ w. eqb (getD (getD weightRows s []) w 0) (weightOf s w)) (from 0 8)) (from 0 7) ≡ true
 unfolding every from weightRows weightOf none? off
 all-weights = refl
 
-pub weight-at : (state wish : ℕ) → state ≤ 6 → wish ≤ 7 → getD (getD weightRows state []) wish 0 ≡ weightOf state wish
-weight-at state wish s w =
+pub weight-at : (state priority : ℕ) → state ≤ 6 → priority ≤ 7 → getD (getD weightRows state []) priority 0 ≡ weightOf state priority
+weight-at state priority s w =
     eqb-true _ _
     (every-from (λ v. eqb (getD (getD weightRows state []) v 0) (weightOf state v)) 0 8
     (every-from (λ t. every (λ v. eqb (getD (getD weightRows t []) v 0) (weightOf t v)) (from 0 8)) 0 7 all-weights state (omega arith) (omega arith))
-    wish (omega arith) (omega arith))
+    priority (omega arith) (omega arith))
 
 -- a weight is a small number
 small-weights : every (λ s. every (λ w. leb (getD (getD weightRows s []) w 0) 86) (from 0 8)) (from 0 7) ≡ true
 unfolding every from weightRows
 small-weights = refl
 
-pub weight-small : (state wish w : ℕ) → state ≤ 6 → wish ≤ 7 → w ≡ getD (getD weightRows state []) wish 0 → w ≤ 86
-weight-small state wish w s h e =
+pub weight-small : (state priority w : ℕ) → state ≤ 6 → priority ≤ 7 → w ≡ getD (getD weightRows state []) priority 0 → w ≤ 86
+weight-small state priority w s h e =
     omega (
       arith,
-      leb-true (getD (getD weightRows state []) wish 0) 86
+      leb-true (getD (getD weightRows state []) priority 0) 86
           (every-from (λ v. leb (getD (getD weightRows state []) v 0) 86) 0 8
           (every-from (λ t. every (λ v. leb (getD (getD weightRows t []) v 0) 86) (from 0 8)) 0 7 small-weights state (omega arith) (omega arith))
-          wish (omega arith) (omega arith)),
+          priority (omega arith) (omega arith)),
     )
 
 -- ---- the product with the count
@@ -58,11 +58,11 @@ none-left : (count w : ℕ) → w ≡ 0 → ((count + 1) * (w / 4) ≡ 0) × (w 
 none-left count w e = rw e (mul-zero (count + 1), refl)
 
 -- any other
-some-left : (count wish d w : ℕ) → wish ≤ 7 → 1 ≤ d → d ≤ 3 → w ≡ (24 - 3 * wish) * 4 + (d - 1)
-    → ((count + 1) * (w / 4) ≡ (count + 1) * (8 - wish) * 3) × (w % 4 ≡ d - 1)
-some-left count wish d w h l m e =
-    let a : w / 4 ≡ (8 - wish) * 3 = omega arith in
-    (ap (λ (x : ℕ). (count + 1) * x) a ∙ sym (mul-assoc (count + 1) (8 - wish) 3), omega arith)
+some-left : (count priority d w : ℕ) → priority ≤ 7 → 1 ≤ d → d ≤ 3 → w ≡ (24 - 3 * priority) * 4 + (d - 1)
+    → ((count + 1) * (w / 4) ≡ (count + 1) * (8 - priority) * 3) × (w % 4 ≡ d - 1)
+some-left count priority d w h l m e =
+    let a : w / 4 ≡ (8 - priority) * 3 = omega arith in
+    (ap (λ (x : ℕ). (count + 1) * x) a ∙ sym (mul-assoc (count + 1) (8 - priority) 3), omega arith)
 
 -- one test more or less
 still-none : (a z b p : Bool) → (a || z) ≡ true → (a || (b || (p || z))) ≡ true
@@ -81,49 +81,49 @@ pub record Weighed (count w rank : ℕ) : Type 0 where
   pub low : (count + 1) * (w / 4) ≤ 21021
   pub is : (count + 1) * (w / 4) - w % 4 ≡ rank
 
-module _ (seeds count state wish had : ℕ) (h : Ranked count state wish had) where
+module _ (seeds count state priority flushed : ℕ) (h : Ranked count state priority flushed) where
   -- a had piece has no rank
-  pub had-none : (had ≡ 0 → ⊥) → 0 ≡ rankFrom seeds count state wish had
+  pub flushed-none : (flushed ≡ 0 → ⊥) → 0 ≡ rankFrom seeds count state priority flushed
   unfolding rankFrom unlistedBy
-  had-none n = rank-none seeds count state wish (eqb had 1) (rw (eq-eqb had 1 (omega (arith, n, h .had-most)), or-true)) .is _ (numbers-of count state wish had h)
+  flushed-none n = rank-none seeds count state priority (eqb flushed 1) (rw (eq-eqb flushed 1 (omega (arith, n, h .flushed-most)), or-true)) .is _ (numbers-of count state priority flushed h)
 
   -- nor has one that no peer has
-  pub peers-none : (eqb count 0 && eqb seeds 0) ≡ true → 0 ≡ rankFrom seeds count state wish had
+  pub peers-none : (eqb count 0 && eqb seeds 0) ≡ true → 0 ≡ rankFrom seeds count state priority flushed
   unfolding rankFrom unlistedBy
   peers-none e =
       let f = both-true (eqb count 0) (eqb seeds 0) e in
       let a = eqb-true count 0 (f .0) in
       let b = eqb-true seeds 0 (f .1) in
-      rank-none seeds count state wish (eqb had 1) (rw (eq-eqb (count + seeds) 0 (omega arith), or-true (eqb had 1), or-true)) .is _ (numbers-of count state wish had h)
+      rank-none seeds count state priority (eqb flushed 1) (rw (eq-eqb (count + seeds) 0 (omega arith), or-true (eqb flushed 1), or-true)) .is _ (numbers-of count state priority flushed h)
 
-  module _ (n : had ≡ 0) (e : (eqb count 0 && eqb seeds 0) ≡ false) where
+  module _ (n : flushed ≡ 0) (e : (eqb count 0 && eqb seeds 0) ≡ false) where
     some-peer : eqb (count + seeds) 0 ≡ false
     some-peer = elim (ℕ-discrete (count + seeds) 0) [
       | yes q ↦ absurd (true≢false (sym (rw (eq-eqb count 0 (omega arith), eq-eqb seeds 0 (omega arith)) refl) ∙ e))
       | no q ↦ ne-eqb (count + seeds) 0 q
     ]
 
-    module _ (w : ℕ) (ew : w ≡ getD (getD weightRows state []) wish 0) where
-      weighed-none : none? state wish ≡ true → Weighed count w (rankFrom seeds count state wish had)
+    module _ (w : ℕ) (ew : w ≡ getD (getD weightRows state []) priority 0) where
+      weighed-none : none? state priority ≡ true → Weighed count w (rankFrom seeds count state priority flushed)
       unfolding rankFrom unlistedBy none? weightOf
       weighed-none q =
-          let z = none-left count w (ew ∙ weight-at state wish (h .state-most) (h .wish-most) ∙ rw q) in
-          let i = rank-none seeds count state wish (eqb had 1) (still-none (eqb wish 0) (eqb state 1 || eqb state 2) (eqb had 1) (eqb (count + seeds) 0) q) .is _ (numbers-of count state wish had h) in
+          let z = none-left count w (ew ∙ weight-at state priority (h .state-most) (h .priority-most) ∙ rw q) in
+          let i = rank-none seeds count state priority (eqb flushed 1) (still-none (eqb priority 0) (eqb state 1 || eqb state 2) (eqb flushed 1) (eqb (count + seeds) 0) q) .is _ (numbers-of count state priority flushed h) in
           record { enough = omega (arith, z .1); low = omega (arith, z .0); is = omega (arith, z .0, z .1, i) }
 
-      weighed-some : none? state wish ≡ false → Weighed count w (rankFrom seeds count state wish had)
+      weighed-some : none? state priority ≡ false → Weighed count w (rankFrom seeds count state priority flushed)
       unfolding rankFrom unlistedBy none? weightOf
       weighed-some q =
-          let u = still-some (eqb wish 0) (eqb state 1 || eqb state 2) (eqb had 1) (eqb (count + seeds) 0) q (ne-eqb had 1 (λ t. absurd (omega arith))) some-peer in
-          let d = taken-off seeds count state wish (eqb had 1) u (h .count-most) (h .wish-most) in
-          let p = product seeds count state wish (eqb had 1) u (h .count-most) (h .wish-most) in
-          let z = some-left count wish (off state) w (h .wish-most) (d .0) (d .1) (ew ∙ weight-at state wish (h .state-most) (h .wish-most) ∙ rw q) in
-          let i = rank-some seeds count state wish (eqb had 1) u (h .count-most) (h .wish-most) (off state) refl .is _ (numbers-of count state wish had h) in
+          let u = still-some (eqb priority 0) (eqb state 1 || eqb state 2) (eqb flushed 1) (eqb (count + seeds) 0) q (ne-eqb flushed 1 (λ t. absurd (omega arith))) some-peer in
+          let d = taken-off seeds count state priority (eqb flushed 1) u (h .count-most) (h .priority-most) in
+          let p = product seeds count state priority (eqb flushed 1) u (h .count-most) (h .priority-most) in
+          let z = some-left count priority (off state) w (h .priority-most) (d .0) (d .1) (ew ∙ weight-at state priority (h .state-most) (h .priority-most) ∙ rw q) in
+          let i = rank-some seeds count state priority (eqb flushed 1) u (h .count-most) (h .priority-most) (off state) refl .is _ (numbers-of count state priority flushed h) in
           record { enough = omega (arith, z .0, z .1, p .0, d .1); low = omega (arith, z .0, p .1); is = omega (arith, z .0, z .1, p .0, d .0, d .1, i) }
 
-      pub weighed : Weighed count w (rankFrom seeds count state wish had)
-      weighed = go (none? state wish) refl
+      pub weighed : Weighed count w (rankFrom seeds count state priority flushed)
+      weighed = go (none? state priority) refl
         where
-          go : (b : Bool) → none? state wish ≡ b → Weighed count w (rankFrom seeds count state wish had)
+          go : (b : Bool) → none? state priority ≡ b → Weighed count w (rankFrom seeds count state priority flushed)
           go true q = weighed-none q
           go false q = weighed-some q

@@ -7,16 +7,16 @@ use mathlib.Core.List.{List, []}
 use lib.ListN.{length, getD}
 use lib.Dec.{eqb, ltb, leb}
 use Rattle.model.specs.Lists.{every, from, member}
-use Rattle.model.specs.Bep3.{blocksInPiece}
+use Rattle.model.specs.Bep3.{pieceBlocks}
 use Rattle.model.specs.State.{validGeometry}
-use Rattle.model.specs.Order.{rank}
-use Rattle.model.specs.WellFormed.{headOk, piecesOk, partialsOk, extentsOk, listingOk}
+use Rattle.model.specs.list.Order.{rank}
+use Rattle.model.specs.image.WellFormed.{headOk, piecesOk, partialsOk, extentsOk, listingOk}
 use Rattle.model.specs.Calls.{wordsNeeded}
 use Rattle.layout.specs.Tables.{tab}
 use Rattle.layout.specs.Layout.{headWord, pieceWord, partialWord, blockWord, placesFor, piecesOn, blocksOn, decode}
 
 -- ---- words that an image could hold
--- flags are 0 or 1, and the numbers of list places, partials and extents have room; a stale list has no place
+-- flags are 0 or 1, and the numbers of list places, partials and extents have room; a dirty list has no place
 unfoldable pub headRaw : List ℕ → Bool
 headRaw xs =
     leb (headWord xs 5) 1
@@ -45,7 +45,7 @@ placeRaw xs n k =
 unfoldable pub partialRaw : List ℕ → ℕ → ℕ → ℕ → Bool
 partialRaw xs n b k =
     leb (partialWord xs n 1 k) 7
-    && every (blockRaw xs n b (partialWord xs n 2 k)) (from 0 (blocksInPiece (headWord xs 0) (headWord xs 1) (partialWord xs n 0 k)))
+    && every (blockRaw xs n b (partialWord xs n 2 k)) (from 0 (pieceBlocks (headWord xs 0) (headWord xs 1) (partialWord xs n 0 k)))
 
 unfoldable pub partialsRaw : List ℕ → Bool
 partialsRaw xs = every (partialRaw xs (piecesOn xs) (blocksOn xs)) (from 0 (headWord xs 7))
@@ -70,7 +70,7 @@ unfoldable pub goodPartials : List ℕ → Bool
 goodPartials xs = partialsRaw xs && partialsOk (decode xs) 0 0 (decode xs .pieces) (decode xs .partials)
 
 unfoldable pub goodExtents : List ℕ → Bool
-goodExtents xs = extentsOk (decode xs) [] (decode xs .extents)
+goodExtents xs = extentsOk (decode xs) [] (decode xs .recentExtents)
 
 unfoldable pub goodList : List ℕ → Bool
 goodList xs = listingOk (decode xs) (decode xs .listing)

@@ -6,9 +6,9 @@ use mathlib.Core.Bool.{Bool, true, cond, not, _&&_, _||_}
 use mathlib.Core.List.{List, [], _∷_}
 use lib.ListN.{length, getD}
 use lib.Dec.{eqb, ltb, leb}
-use Rattle.model.specs.Lists.{every, tally, from}
-use Rattle.model.specs.State.{Piece, mostPeers, isOpen, validGeometry}
-use Rattle.model.specs.Order.{bucket, rankOf}
+use Rattle.model.specs.Lists.{every, count, from}
+use Rattle.model.specs.State.{Piece, maxPeers, isOpen, validGeometry}
+use Rattle.model.specs.list.Order.{bucket, rankOf}
 use Rattle.layout.specs.Tables.{tab}
 use Rattle.layout.specs.declared.spots.Shape.{Shape}
 use Rattle.layout.specs.Layout.{headWord, piecesOn, blocksOn, queueFrom, yes?, Spans}
@@ -16,26 +16,26 @@ use Rattle.piece_rows.specs.Memory.{goodHead, goodPieces, Ranks}
 
 -- ---- one piece
 unfoldable pub pieceFrom : ℕ → ℕ → ℕ → ℕ → ℕ → Piece
-pieceFrom count state wish had pad = record { count = count; state = queueFrom state; wish = wish; had = yes? had; pad = pad }
+pieceFrom count state priority flushed pad = record { peerCount = count; state = queueFrom state; priority = priority; flushed = yes? flushed; padBytes = pad }
 
 -- pad bytes do not matter to it
 unfoldable pub rankFrom : ℕ → ℕ → ℕ → ℕ → ℕ → ℕ
-rankFrom seeds count state wish had = rankOf (bucket seeds (pieceFrom count state wish had 0))
+rankFrom seeds count state priority flushed = rankOf (bucket seeds (pieceFrom count state priority flushed 0))
 
 -- the words of a piece of `long` bytes: a state, had or not, and what a well-formed picker asks of the piece
 unfoldable pub rowOk : ℕ → ℕ → ℕ → ℕ → ℕ → ℕ → ℕ → Bool
-rowOk seeds long count state wish had pad =
-    (leb state 6 && leb had 1)
-    && (leb (count + seeds) mostPeers && (leb wish 7 && ((not (yes? had) || isOpen (queueFrom state)) && leb pad long)))
+rowOk seeds long count state priority flushed pad =
+    (leb state 6 && leb flushed 1)
+    && (leb (count + seeds) maxPeers && (leb priority 7 && ((not (yes? flushed) || isOpen (queueFrom state)) && leb pad long)))
 
 -- words that have a rank
-pub record Ranked (count state wish had : ℕ) : Type 0 where
+pub record Ranked (count state priority flushed : ℕ) : Type 0 where
   pub count-most : count ≤ 1000
   pub state-most : state ≤ 6
-  pub wish-most : wish ≤ 7
-  pub had-most : had ≤ 1
+  pub priority-most : priority ≤ 7
+  pub flushed-most : flushed ≤ 1
 
--- row by state and place by wish: 4 times the factor by which one more than the count is multiplied, and what is then taken off; 0 where
+-- row by state and place by priority: 4 times the factor by which one more than the count is multiplied, and what is then taken off; 0 where
 -- there is no rank
 unfoldable pub weightRows : List (List ℕ)
 weightRows =
@@ -57,14 +57,14 @@ pub record Housed (s : Shape) (xs : List ℕ) : Type 0 where
   pub blocks : s .blocks ≡ blocksOn xs
 
 -- ---- the head
--- for n pieces and so many places for partials: the stale flag, and the numbers of list places, partials and extents
+-- for n pieces and so many places for partials: the dirty flag, and the numbers of list places, partials and extents
 unfoldable pub lengthsOk : ℕ → ℕ → ℕ → ℕ → ℕ → ℕ → Bool
 lengthsOk n places stale list partials extents =
     leb stale 1 && (leb list (cond (eqb stale 1) 0 n) && (leb partials places && leb extents 5))
 
 -- seeds and cursors
 unfoldable pub rangesOk : ℕ → ℕ → ℕ → ℕ → Bool
-rangesOk n seeds cursor reverse = leb seeds mostPeers && (leb cursor n && leb reverse n)
+rangesOk n seeds cursor reverse = leb seeds maxPeers && (leb cursor n && leb reverse n)
 
 -- ---- all pieces
 -- columns of one length, as many as a picker has pieces at most
@@ -106,7 +106,7 @@ pub record Keyed (s : Shape) (keys xs : List ℕ) : Type 0 where
 
 -- how many of the first n keys are not 0
 unfoldable pub rankedIn : List ℕ → ℕ → ℕ
-rankedIn keys n = tally (λ i. ltb 0 (getD keys i 0)) (from 0 n)
+rankedIn keys n = count (λ i. ltb 0 (getD keys i 0)) (from 0 n)
 
 -- ---- extents
 -- the first k extents

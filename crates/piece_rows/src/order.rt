@@ -7,7 +7,7 @@ ghost use mathlib.Core.Path.{_≡_};
 ghost use mathlib.Core.List.{[]};
 ghost use Prim.Native.Nat.{_≤_};
 ghost use lib.ListN.{length};
-ghost use Rattle.model.specs.WellFormed.{orderOk};
+ghost use Rattle.model.specs.image.WellFormed.{orderOk};
 ghost use Rattle.layout.specs.Layout.{piecesOn, listHeld, decode};
 ghost use Rattle.piece_rows.specs.Memory.{goodList};
 ghost use Rattle.piece_rows.specs.Rows.{Keyed, rankedIn};

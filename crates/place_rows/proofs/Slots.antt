@@ -10,8 +10,8 @@ use lib.Dec.{eqb}
 use lib.ListN.{length, getD, set, replicate, length-replicate, getD-replicate, length-set}
 use lib.Seq.{getD-set-same, getD-set-other}
 use borrow.Author.Tests.{lt-ltb, le-ltb, eq-eqb, ne-eqb}
-use Rattle.model.specs.Lists.{member, some?, every, from}
-use Rattle.model.proofs.Tallies.{and-false}
+use Rattle.model.specs.Lists.{member, any, every, from}
+use Rattle.model.proofs.base.Counts.{and-false}
 use Rattle.layout.specs.Tables.{tab}
 use Rattle.layout.specs.declared.spots.Shape.{Shape}
 use Rattle.layout.specs.Layout.{partialWord, placesFor, ShapeOf}
@@ -22,11 +22,11 @@ use Rattle.partial_rows.proofs.BelowLaws.{all-next, all-false, all-at, all-from
 
 -- a list with one more
 member-more : (x y : ℕ) (l : List ℕ) → member x (l ++ (y ∷ [])) ≡ (member x l || eqb x y)
-unfolding member some?
+unfolding member any
 member-more x y [] = or-false (eqb x y)
 member-more x y (z ∷ zs) = go (eqb x z) (member-more x y zs)
   where
-    go : (t : Bool) → member x (zs ++ (y ∷ [])) ≡ (member x zs || eqb x y) → (t || some? (eqb x) (zs ++ (y ∷ []))) ≡ ((t || some? (eqb x) zs) || eqb x y)
+    go : (t : Bool) → member x (zs ++ (y ∷ [])) ≡ (member x zs || eqb x y) → (t || any (eqb x) (zs ++ (y ∷ []))) ≡ ((t || any (eqb x) zs) || eqb x y)
     go true e = refl
     go false e = e
 
@@ -37,7 +37,7 @@ pub record Slots (xs : List ℕ) (n : ℕ) (marks : List Bool) (k : ℕ) : Type 
   pub size : length marks ≡ 512
 
 pub slots-start : (xs : List ℕ) (n : ℕ) → Slots xs n (replicate 512 false) 0
-unfolding allBelow member some? tab
+unfolding allBelow member any tab
 slots-start xs n = record { good = refl; mark = λ j h. getD-replicate 512 j false false h; size = length-replicate 512 false }
 
 pub slots-end : (xs : List ℕ) (n : ℕ) (marks : List Bool) (k m : ℕ) → Slots xs n marks k → k ≡ m → true ≡ allBelow (placeRaw xs n) m

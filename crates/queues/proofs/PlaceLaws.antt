@@ -7,12 +7,12 @@ use native.Mathlib.Nat.{not-suc-le-zero, le-of-suc-le-suc}
 use native.Mathlib.Numerals.{add-one}
 use native.Mathlib.Omega.{arith}
 use Rattle.types.specs.declared.queue.DownloadQueue.{DownloadQueue}
-use Rattle.types.specs.Queue.{plainOf}
-use Rattle.model.specs.Lists.{at, each, filter, from, size}
-use Rattle.model.specs.State.{Partial, Picker, sameQueue, pieceAt}
-use Rattle.model.specs.Partials.{inQueue}
-use Rattle.model.proofs.Tallies.{length-from}
-use Rattle.model.proofs.PartialLaws.{size-filter-le}
+use Rattle.types.specs.Queue.{unreverse}
+use Rattle.model.specs.Lists.{nth, each, filter, from, len}
+use Rattle.model.specs.State.{DownloadingPiece, Picker, sameQueue, pieceAt}
+use Rattle.model.specs.change.Partials.{inQueue}
+use Rattle.model.proofs.base.Counts.{length-from}
+use Rattle.model.proofs.sound.PartialLaws.{size-filter-le}
 use Rattle.layout.specs.Layout.{noPartial, partialIn}
 use Rattle.queues.specs.Queues.{queueIn, placesBelow, placesIn}
 
@@ -55,8 +55,8 @@ module _ (q : DownloadQueue) (s : Picker) (n : ℕ) where
   pub below-out : sameQueue (queueIn s n) q ≡ false → placesBelow q s (n + 1) ≡ placesBelow q s n
   below-out e = below-more ∙ ap (λ (p : Bool). placesBelow q s n ++ cond p (n ∷ []) []) e ∙ append-nil (placesBelow q s n)
 
-  pub below-few : size (placesBelow q s n) ≤ n
-  unfolding placesBelow size
+  pub below-few : len (placesBelow q s n) ≤ n
+  unfolding placesBelow len
   below-few = omega (arith, size-filter-le (λ k. sameQueue (queueIn s k) q) (from 0 n), length-from 0 n)
 
 pub below-none : (q : DownloadQueue) (s : Picker) → placesBelow q s 0 ≡ []
@@ -80,39 +80,39 @@ unfolding each from
 each-shift f k zero = refl
 each-shift {A = A} f k (suc n) = ap (λ (l : List A). f (suc k) ∷ l) (each-shift f (suc k) n)
 
-each-at : {A : Type 0} (d : A) (l : List A) → each (at d l) (from 0 (size l)) ≡ l
-unfolding each from at size
+each-at : {A : Type 0} (d : A) (l : List A) → each (nth d l) (from 0 (len l)) ≡ l
+unfolding each from nth len
 each-at d [] = refl
-each-at {A = A} d (x ∷ xs) = ap (λ (l : List A). x ∷ l) (each-shift (at d (x ∷ xs)) 0 (size xs) ∙ each-at d xs)
+each-at {A = A} d (x ∷ xs) = ap (λ (l : List A). x ∷ l) (each-shift (nth d (x ∷ xs)) 0 (len xs) ∙ each-at d xs)
 
 -- the partials at a queue's places are the queue's
 pub places-queue : (q : DownloadQueue) (s : Picker) → each (partialIn s) (placesIn q s) ≡ inQueue q s
 unfolding placesIn placesBelow inQueue queueIn partialIn
 places-queue q s =
-    let t : Partial → Bool = λ d. sameQueue (plainOf (pieceAt s (d .piece) .state)) q in
-    each-filter (at noPartial (s .partials)) t (from 0 (size (s .partials))) ∙ ap (filter t) (each-at noPartial (s .partials))
+    let t : DownloadingPiece → Bool = λ d. sameQueue (unreverse (pieceAt s (d .piece) .state)) q in
+    each-filter (nth noPartial (s .partials)) t (from 0 (len (s .partials))) ∙ ap (filter t) (each-at noPartial (s .partials))
 
 -- ---- their order
 -- strictly rising, from lo up to and without hi
 pub record Rising (lo hi : ℕ) (l : List ℕ) : Type 0 where
-  pub above : (i : ℕ) → i < size l → lo ≤ at 0 l i
-  pub below : (i : ℕ) → i < size l → at 0 l i < hi
-  pub rises : (i j : ℕ) → i < j → j < size l → at 0 l i < at 0 l j
+  pub above : (i : ℕ) → i < len l → lo ≤ nth 0 l i
+  pub below : (i : ℕ) → i < len l → nth 0 l i < hi
+  pub rises : (i j : ℕ) → i < j → j < len l → nth 0 l i < nth 0 l j
 
 module _ (lo hi : ℕ) (l : List ℕ) (r : Rising (suc lo) hi l) where
   rising-cons : lo < hi → Rising lo hi (lo ∷ l)
-  unfolding size at
+  unfolding len nth
   rising-cons h = record { above = low; below = high; rises = up }
     where
-      low : (i : ℕ) → i < size (lo ∷ l) → lo ≤ at 0 (lo ∷ l) i
+      low : (i : ℕ) → i < len (lo ∷ l) → lo ≤ nth 0 (lo ∷ l) i
       low zero g = omega arith
       low (suc i) g = omega (arith, r .above i (le-of-suc-le-suc g))
 
-      high : (i : ℕ) → i < size (lo ∷ l) → at 0 (lo ∷ l) i < hi
+      high : (i : ℕ) → i < len (lo ∷ l) → nth 0 (lo ∷ l) i < hi
       high zero g = h
       high (suc i) g = r .below i (le-of-suc-le-suc g)
 
-      up : (i j : ℕ) → i < j → j < size (lo ∷ l) → at 0 (lo ∷ l) i < at 0 (lo ∷ l) j
+      up : (i j : ℕ) → i < j → j < len (lo ∷ l) → nth 0 (lo ∷ l) i < nth 0 (lo ∷ l) j
       up i zero e g = absurd (not-suc-le-zero e)
       up zero (suc j) e g = r .above j (le-of-suc-le-suc g)
       up (suc i) (suc j) e g = r .rises i j (le-of-suc-le-suc e) (le-of-suc-le-suc g)
@@ -121,7 +121,7 @@ module _ (lo hi : ℕ) (l : List ℕ) (r : Rising (suc lo) hi l) where
   rising-lower = record { above = λ i h. omega (arith, r .above i h); below = r .below; rises = r .rises }
 
 rising-filter : (t : ℕ → Bool) (k n hi : ℕ) → k + n ≤ hi → Rising k hi (filter t (from k n))
-unfolding filter from size
+unfolding filter from len
 rising-filter t k zero hi h =
     record {
       above = λ i g. absurd (not-suc-le-zero g);
@@ -135,6 +135,6 @@ rising-filter t k (suc n) hi h = go (t k) (rising-filter t (suc k) n hi (omega a
     go false r = rising-lower k hi _ r
 
 -- the places of a queue rise, and are places of partials
-pub places-rising : (q : DownloadQueue) (s : Picker) → Rising 0 (size (s .partials)) (placesIn q s)
+pub places-rising : (q : DownloadQueue) (s : Picker) → Rising 0 (len (s .partials)) (placesIn q s)
 unfolding placesIn placesBelow
-places-rising q s = rising-filter (λ k. sameQueue (queueIn s k) q) 0 (size (s .partials)) (size (s .partials)) (omega arith)
+places-rising q s = rising-filter (λ k. sameQueue (queueIn s k) q) 0 (len (s .partials)) (len (s .partials)) (omega arith)

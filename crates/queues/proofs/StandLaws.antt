@@ -8,17 +8,18 @@ use native.Mathlib.Nat.{not-suc-le-zero, le-of-suc-le-suc}
 use native.Mathlib.Decide.{ℕ-discrete, decLt}
 use native.Mathlib.Omega.{arith}
 use Rattle.types.specs.declared.queue.DownloadQueue.{DownloadQueue}
-use Rattle.types.specs.declared.queue.DownloadQueue.the-variants.{Downloading, Full, Finished, ZeroPrio, Open, DownloadingReverse, FullReverse}
-use Rattle.types.specs.Queue.{queueNumber, plainOf}
-use Rattle.model.specs.Lists.{at, size}
-use Rattle.model.specs.State.{Partial, Picker, noPiece, sameQueue, isOpen, pieceAt, piecesIn}
-use Rattle.model.specs.Partials.{findIn, partialOf}
-use Rattle.model.specs.WellFormed.{wellFormed}
-use Rattle.model.specs.Sound.{partialsFrom}
-use Rattle.model.proofs.Records.{queue-below}
-use Rattle.model.proofs.PieceLaws.{pieceAt-beyond}
-use Rattle.model.proofs.PartialLaws.{findIn-here, findIn-there, from-head, from-tail}
-use Rattle.model.proofs.SoundLaws.{wellFormed-sound}
+use Rattle.types.specs.declared.queue.DownloadQueue.the-variants.{Downloading, Full, Finished, ZeroPrio, Open, DownloadingReverse}
+use Rattle.types.specs.declared.queue.DownloadQueue.the-variants.{FullReverse}
+use Rattle.types.specs.Queue.{queueNumber, unreverse}
+use Rattle.model.specs.Lists.{nth, len}
+use Rattle.model.specs.State.{DownloadingPiece, Picker, noPiece, sameQueue, isOpen, pieceAt, piecesIn}
+use Rattle.model.specs.change.Partials.{findDlPiece, partialOf}
+use Rattle.model.specs.image.WellFormed.{wellFormed}
+use Rattle.model.specs.image.Sound.{partialsFrom}
+use Rattle.model.proofs.image.Records.{queue-below}
+use Rattle.model.proofs.sound.PieceLaws.{pieceAt-beyond}
+use Rattle.model.proofs.sound.PartialLaws.{findDlPiece-here, findDlPiece-there, from-head, from-tail}
+use Rattle.model.proofs.sound.SoundLaws.{wellFormed-sound}
 use Rattle.layout.specs.declared.spots.Shape.{Shape}
 use Rattle.layout.specs.Layout.{noPartial, partialIn, queueFrom, decode, Room}
 use Rattle.layout.proofs.Meanings.{number-queue, pieces-number}
@@ -26,17 +27,17 @@ use Rattle.queues.specs.Queues.{queueIn, placesIn}
 use Rattle.queues.proofs.PlaceLaws.{places-rising}
 
 -- the piece of a partial in a list has a partial there
-found-some : (ds : List Partial) (k : ℕ) → k < size ds → findIn (at noPartial ds k .piece) ds ≡ none → ⊥
-unfolding size at
+found-some : (ds : List DownloadingPiece) (k : ℕ) → k < len ds → findDlPiece (nth noPartial ds k .piece) ds ≡ none → ⊥
+unfolding len nth
 found-some [] k h e = absurd (not-suc-le-zero h)
-found-some (d ∷ ds) zero h e = Option·none-ne-some d (sym e ∙ findIn-here (d .piece) d ds refl)
-found-some (d ∷ ds) (suc k) h e = elim (ℕ-discrete (d .piece) (at noPartial ds k .piece)) [
-  | yes q ↦ Option·none-ne-some d (sym e ∙ findIn-here (at noPartial ds k .piece) d ds q)
-  | no n ↦ found-some ds k (le-of-suc-le-suc h) (sym (findIn-there (at noPartial ds k .piece) d ds n) ∙ e)
+found-some (d ∷ ds) zero h e = Option·none-ne-some d (sym e ∙ findDlPiece-here (d .piece) d ds refl)
+found-some (d ∷ ds) (suc k) h e = elim (ℕ-discrete (d .piece) (nth noPartial ds k .piece)) [
+  | yes q ↦ Option·none-ne-some d (sym e ∙ findDlPiece-here (nth noPartial ds k .piece) d ds q)
+  | no n ↦ found-some ds k (le-of-suc-le-suc h) (sym (findDlPiece-there (nth noPartial ds k .piece) d ds n) ∙ e)
 ]
 
 -- a state other than Open is in one of the four queues
-plain-few : (q : DownloadQueue) → (isOpen q ≡ true → ⊥) → queueNumber (plainOf q) < 4
+plain-few : (q : DownloadQueue) → (isOpen q ≡ true → ⊥) → queueNumber (unreverse q) < 4
 unfolding isOpen sameQueue
 plain-few Downloading n = omega arith
 plain-few Full n = omega arith
@@ -50,10 +51,10 @@ no-piece-open : isOpen (noPiece .state) ≡ true
 unfolding noPiece isOpen sameQueue
 no-piece-open = refl
 
-pub partials-few : (s : Picker) → wellFormed s ≡ true → size (s .partials) ≤ 512
+pub partials-few : (s : Picker) → wellFormed s ≡ true → len (s .partials) ≤ 512
 partials-few s w = wellFormed-sound s w .few
 
-module _ (s : Picker) (w : wellFormed s ≡ true) (k : ℕ) (h : k < size (s .partials)) where
+module _ (s : Picker) (w : wellFormed s ≡ true) (k : ℕ) (h : k < len (s .partials)) where
   not-open : isOpen (pieceAt s (partialIn s k .piece) .state) ≡ true → ⊥
   unfolding partialIn partialOf
   not-open e = found-some (s .partials) k h (wellFormed-sound s w .vacant (partialIn s k .piece) e)
@@ -71,31 +72,31 @@ module _ (s : Picker) (w : wellFormed s ≡ true) (k : ℕ) (h : k < size (s .pa
   queue-few = plain-few (pieceAt s (partialIn s k .piece) .state) not-open
 
 -- ---- the order of the pieces
-piece-above : (lo : ℕ) (ds : List Partial) (k : ℕ) → partialsFrom lo ds ≡ true → k < size ds → lo ≤ at noPartial ds k .piece
-unfolding size at
+piece-above : (lo : ℕ) (ds : List DownloadingPiece) (k : ℕ) → partialsFrom lo ds ≡ true → k < len ds → lo ≤ nth noPartial ds k .piece
+unfolding len nth
 piece-above lo [] k r h = absurd (not-suc-le-zero h)
 piece-above lo (d ∷ ds) zero r h = from-head lo d ds r
 piece-above lo (d ∷ ds) (suc k) r h =
     omega (arith, from-head lo d ds r, piece-above (suc (d .piece)) ds k (from-tail lo d ds r) (le-of-suc-le-suc h))
 
-pieces-rise : (lo : ℕ) (ds : List Partial) (k l : ℕ) → partialsFrom lo ds ≡ true → k < l → l < size ds → at noPartial ds k .piece < at noPartial ds l .piece
-unfolding size at
+pieces-rise : (lo : ℕ) (ds : List DownloadingPiece) (k l : ℕ) → partialsFrom lo ds ≡ true → k < l → l < len ds → nth noPartial ds k .piece < nth noPartial ds l .piece
+unfolding len nth
 pieces-rise lo [] k l r e h = absurd (not-suc-le-zero h)
 pieces-rise lo (d ∷ ds) k zero r e h = absurd (not-suc-le-zero e)
 pieces-rise lo (d ∷ ds) zero (suc l) r e h = piece-above (suc (d .piece)) ds l (from-tail lo d ds r) (le-of-suc-le-suc h)
 pieces-rise lo (d ∷ ds) (suc k) (suc l) r e h = pieces-rise (suc (d .piece)) ds k l (from-tail lo d ds r) (le-of-suc-le-suc e) (le-of-suc-le-suc h)
 
 -- a queue's places are by rising piece
-pub queue-sorted : (s : Picker) → wellFormed s ≡ true → (q : DownloadQueue) (i j : ℕ) → i < j → j < size (placesIn q s)
-    → partialIn s (at 0 (placesIn q s) i) .piece < partialIn s (at 0 (placesIn q s) j) .piece
+pub queue-sorted : (s : Picker) → wellFormed s ≡ true → (q : DownloadQueue) (i j : ℕ) → i < j → j < len (placesIn q s)
+    → partialIn s (nth 0 (placesIn q s) i) .piece < partialIn s (nth 0 (placesIn q s) j) .piece
 unfolding partialIn
 queue-sorted s w q i j e h =
     let r = places-rising q s in
-    pieces-rise 0 (s .partials) (at 0 (placesIn q s) i) (at 0 (placesIn q s) j) (wellFormed-sound s w .rising) (r .rises i j e h) (r .below j h)
+    pieces-rise 0 (s .partials) (nth 0 (placesIn q s) i) (nth 0 (placesIn q s) j) (wellFormed-sound s w .rising) (r .rises i j e h) (r .below j h)
 
 -- ---- in memory
 -- the piece of a partial is in range
-pub piece-within : (s : Shape) (xs : List ℕ) → Room s xs → wellFormed (decode xs) ≡ true → (k : ℕ) → k < size (decode xs .partials) → partialIn (decode xs) k .piece < s .pieces
+pub piece-within : (s : Shape) (xs : List ℕ) → Room s xs → wellFormed (decode xs) ≡ true → (k : ℕ) → k < len (decode xs .partials) → partialIn (decode xs) k .piece < s .pieces
 piece-within s xs r w k h = omega (arith, pieces-number s xs r, piece-there (decode xs) w k h)
 
 -- ---- the queue of partial k, from the number of its piece's state
@@ -103,9 +104,9 @@ module _ (s : Picker) (k piece state : ℕ) (e : piece ≡ partialIn s k .piece)
   pub state-range : state ≤ 6
   state-range = omega (arith, f, queue-below (pieceAt s piece .state))
 
-  pub queue-plain : queueNumber (plainOf (queueFrom state)) ≡ queueNumber (queueIn s k)
+  pub queue-plain : queueNumber (unreverse (queueFrom state)) ≡ queueNumber (queueIn s k)
   unfolding queueIn
   queue-plain =
-      ap (λ (w : ℕ). queueNumber (plainOf (queueFrom w))) f
-      ∙ ap (λ (q : DownloadQueue). queueNumber (plainOf q)) (number-queue (pieceAt s piece .state))
-      ∙ ap (λ (i : ℕ). queueNumber (plainOf (pieceAt s i .state))) e
+      ap (λ (w : ℕ). queueNumber (unreverse (queueFrom w))) f
+      ∙ ap (λ (q : DownloadQueue). queueNumber (unreverse q)) (number-queue (pieceAt s piece .state))
+      ∙ ap (λ (i : ℕ). queueNumber (unreverse (pieceAt s i .state))) e

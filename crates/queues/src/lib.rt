@@ -5,8 +5,8 @@ ghost use mathlib.Core.Bool.{true};
 ghost use mathlib.Core.List.{[]};
 ghost use Prim.Native.Nat.{_+_, _<_};
 ghost use Rattle.types.specs.Queue.{queueNumber};
-ghost use Rattle.model.specs.Lists.{at, put, size};
-ghost use Rattle.model.specs.WellFormed.{wellFormed};
+ghost use Rattle.model.specs.Lists.{nth, setNth, len};
+ghost use Rattle.model.specs.image.WellFormed.{wellFormed};
 ghost use Rattle.layout.specs.Layout.{decode, Room};
 ghost use Rattle.queues.specs.Queues.{queueIn, Shaped, Queued};
 
@@ -14,7 +14,7 @@ ghost use Rattle.queues.specs.Queues.{queueIn, Shaped, Queued};
 pub fn queue_of(mem: &[u64], s: layout::Shape, k: usize) -> usize
     requires { ⌜ Room s (now mem) ⌝ }
     requires { ⌜ wellFormed (decode (now mem)) ≡ true ⌝ }
-    requires { ⌜ k < size (decode (now mem) .partials) ⌝ }
+    requires { ⌜ k < len (decode (now mem) .partials) ⌝ }
     ensures { λ r. ⌜ r ≡ queueNumber (queueIn (decode (now (mem .entry))) k) ⌝ }
 {
     let piece = records::partial_piece(mem, s, k);
@@ -25,9 +25,9 @@ pub fn queue_of(mem: &[u64], s: layout::Shape, k: usize) -> usize
 // Place k behind those that row q has.
 fn enter(rows: &mut [[u32; 512]; 4], sizes: &mut [usize; 4], q: usize, k: usize)
     requires { ⌜ q < 4 ⌝ }
-    requires { ⌜ (at 0 (now sizes) q < 512) × (k < 512) ⌝ }
-    ensures { λ _. ⌜ now (rows .exit) ≡ put q (put (at 0 (now (sizes .entry)) q) k (at [] (now (rows .entry)) q)) (now (rows .entry)) ⌝ }
-    ensures { λ _. ⌜ now (sizes .exit) ≡ put q (at 0 (now (sizes .entry)) q + 1) (now (sizes .entry)) ⌝ }
+    requires { ⌜ (nth 0 (now sizes) q < 512) × (k < 512) ⌝ }
+    ensures { λ _. ⌜ now (rows .exit) ≡ setNth q (setNth (nth 0 (now (sizes .entry)) q) k (nth [] (now (rows .entry)) q)) (now (rows .entry)) ⌝ }
+    ensures { λ _. ⌜ now (sizes .exit) ≡ setNth q (nth 0 (now (sizes .entry)) q + 1) (now (sizes .entry)) ⌝ }
 {
     let n = sizes[q];
     rows[q][n] = k as u32;
@@ -65,7 +65,7 @@ fn index_of(x: u32) -> usize
 // Place j of row q.
 pub fn place_at(rows: &[[u32; 512]; 4], q: usize, j: usize) -> usize
     requires { ⌜ (q < 4) × (j < 512) ⌝ }
-    ensures { λ r. ⌜ r ≡ at 0 (at [] (now (rows .entry)) q) j ⌝ }
+    ensures { λ r. ⌜ r ≡ nth 0 (nth [] (now (rows .entry)) q) j ⌝ }
 {
     index_of(rows[q][j])
 }

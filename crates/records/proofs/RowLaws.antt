@@ -9,12 +9,13 @@ use lib.Dec.{eqb}
 use native.Mathlib.Omega.{arith}
 use lib.ListN.{set}
 use Rattle.types.specs.Block.{blockStateNumber}
-use Rattle.model.specs.Lists.{bit, size, put}
+use Rattle.model.specs.Lists.{bit, len, setNth}
 use Rattle.model.specs.Bep3.{bitOf}
-use Rattle.model.specs.State.{Block, Partial, blocksAt, withPartials}
-use Rattle.model.specs.Partials.{blockAt}
+use Rattle.model.specs.State.{Block, DownloadingPiece, blocksInPiece, withPartials}
+use Rattle.model.specs.change.Partials.{blockAt}
 use Rattle.layout.specs.declared.spots.Shape.{Shape}
-use Rattle.layout.specs.Layout.{placesFor, partialSpot, blockSpot, headWord, partialWord, blockWord, stateFrom, yes?, peerFrom, blockFrom, blockHeld, partialHeld, partialFrom, decode, partialIn, withPartial, withBlock, withBits, Room, Became}
+use Rattle.layout.specs.Layout.{placesFor, partialSpot, blockSpot, headWord, partialWord, blockWord, stateFrom, yes?, peerFrom, blockFrom}
+use Rattle.layout.specs.Layout.{blockHeld, partialHeld, partialFrom, decode, partialIn, withPartial, withBlock, withBits, Room, Became}
 use Rattle.layout.proofs.Meanings.{number-state}
 use Rattle.layout.proofs.BlockStores.{partials-number, partial-is, blocks-most, block-is, BlockPut, block-put, block-became}
 use Rattle.layout.proofs.PartialStores.{flags-became}
@@ -38,13 +39,13 @@ three-bits false true false = (refl, refl, refl)
 three-bits false false true = (refl, refl, refl)
 three-bits false false false = (refl, refl, refl)
 
-bits-flags : (f : PartialFlags) (d : Partial) → withBits (flagNumber f) d ≡ flagged f d
+bits-flags : (f : PartialFlags) (d : DownloadingPiece) → withBits (flagNumber f) d ≡ flagged f d
 unfolding withBits flagNumber flagged partialFrom
 bits-flags f d =
     let t = three-bits (f .passed) (f .locked) (f .hashing) in
     λ i. record { piece = d .piece; passed = t .0 i; locked = t .1 i; hashing = t .2 i; blocks = d .blocks }
 
-module _ (s : Shape) (xs : List ℕ) (r : Room s xs) (k : ℕ) (h : k < size (decode xs .partials)) where
+module _ (s : Shape) (xs : List ℕ) (r : Room s xs) (k : ℕ) (h : k < len (decode xs .partials)) where
   pub slot-held : k < headWord xs 7
   slot-held = omega (arith, partials-number s xs r)
 
@@ -60,9 +61,9 @@ module _ (s : Shape) (xs : List ℕ) (r : Room s xs) (k : ℕ) (h : k < size (de
   flags-read w f q a b c =
       let e = sym (partial-is s xs r k slot-held) in
       record {
-        passed = a ∙ ap (λ (v : ℕ). eqb (v % 2) 1) (sym (div-one w)) ∙ ap (λ (v : ℕ). bitOf v 0) q ∙ ap (λ (d : Partial). d .passed) e;
-        locked = b ∙ ap (λ (v : ℕ). bitOf v 1) q ∙ ap (λ (d : Partial). d .locked) e;
-        hashing = c ∙ ap (λ (v : ℕ). bitOf v 2) q ∙ ap (λ (d : Partial). d .hashing) e;
+        passed = a ∙ ap (λ (v : ℕ). eqb (v % 2) 1) (sym (div-one w)) ∙ ap (λ (v : ℕ). bitOf v 0) q ∙ ap (λ (d : DownloadingPiece). d .passed) e;
+        locked = b ∙ ap (λ (v : ℕ). bitOf v 1) q ∙ ap (λ (d : DownloadingPiece). d .locked) e;
+        hashing = c ∙ ap (λ (v : ℕ). bitOf v 2) q ∙ ap (λ (d : DownloadingPiece). d .hashing) e;
       }
 
   pub flags-put : (f : PartialFlags) (w : ℕ) (ys : List ℕ) → w ≡ flagNumber f → ys ≡ set xs (partialSpot (s .pieces) 1 k) w
@@ -71,12 +72,12 @@ module _ (s : Shape) (xs : List ℕ) (r : Room s xs) (k : ℕ) (h : k < size (de
   flags-put f w ys q o =
       let e = flags-became s xs r k w slot-held in
       rw o (record {
-        is = e .is ∙ ap (λ (v : ℕ). withPartials (put k (withBits v (partialIn (decode xs) k)) (decode xs .partials)) (decode xs)) q
-            ∙ ap (λ (d : Partial). withPartials (put k d (decode xs .partials)) (decode xs)) (bits-flags f (partialIn (decode xs) k));
+        is = e .is ∙ ap (λ (v : ℕ). withPartials (setNth k (withBits v (partialIn (decode xs) k)) (decode xs .partials)) (decode xs)) q
+            ∙ ap (λ (d : DownloadingPiece). withPartials (setNth k d (decode xs .partials)) (decode xs)) (bits-flags f (partialIn (decode xs) k));
         kept = e .kept;
       })
 
-  module _ (j : ℕ) (l : j < blocksAt (decode xs) (partialIn (decode xs) k .piece)) where
+  module _ (j : ℕ) (l : j < blocksInPiece (decode xs) (partialIn (decode xs) k .piece)) where
     pub block-room : j < s .blocks
     block-room = omega (arith, blocks-most s xs r k slot-held)
 

@@ -5,7 +5,7 @@ use mathlib.Core.Option.{none, some}
 use Prim.Native.Nat.{ℕ, _+_, _*_}
 use Rattle.types.specs.Block.{blockStateNumber}
 use Rattle.model.specs.Lists.{bit}
-use Rattle.model.specs.State.{Block, Partial}
+use Rattle.model.specs.State.{Block, DownloadingPiece}
 use Rattle.layout.specs.Layout.{stateFrom}
 use Rattle.records.specs.declared.blocks.BlockRow.{BlockRow}
 use Rattle.records.specs.declared.slots.PartialFlags.{PartialFlags}
@@ -19,7 +19,7 @@ pub record BlockRead (r : BlockRow) (x : Block) : Type 0 where
   pub state : r .state ≡ blockStateNumber (x .state)
 
 -- ---- flags
-pub record FlagsRead (f : PartialFlags) (d : Partial) : Type 0 where
+pub record FlagsRead (f : PartialFlags) (d : DownloadingPiece) : Type 0 where
   pub passed : f .passed ≡ d .passed
   pub locked : f .locked ≡ d .locked
   pub hashing : f .hashing ≡ d .hashing
@@ -28,5 +28,5 @@ pub record FlagsRead (f : PartialFlags) (d : Partial) : Type 0 where
 unfoldable pub flagNumber : PartialFlags → ℕ
 flagNumber f = bit (f .passed) + 2 * bit (f .locked) + 4 * bit (f .hashing)
 
-unfoldable pub flagged : PartialFlags → Partial → Partial
+unfoldable pub flagged : PartialFlags → DownloadingPiece → DownloadingPiece
 flagged f d = record { piece = d .piece; passed = f .passed; locked = f .locked; hashing = f .hashing; blocks = d .blocks }

@@ -2,9 +2,9 @@
 ghost use mathlib.Core.Path.{_≡_};
 ghost use Prim.Native.Nat.{_<_};
 ghost use Rattle.types.specs.Block.{blockStateNumber};
-ghost use Rattle.model.specs.Lists.{bit, size};
-ghost use Rattle.model.specs.State.{blocksAt};
-ghost use Rattle.model.specs.Partials.{blockAt};
+ghost use Rattle.model.specs.Lists.{bit, len};
+ghost use Rattle.model.specs.State.{blocksInPiece};
+ghost use Rattle.model.specs.change.Partials.{blockAt};
 ghost use Rattle.layout.specs.Layout.{decode, stateFrom, partialIn, withPartial, withBlock, Room, Became};
 ghost use Rattle.layout.proofs.BlockStores.{BlockPut};
 ghost use Rattle.records.specs.Rows.{blockOfRow, BlockRead};
@@ -36,8 +36,8 @@ pub fn bit_of(has: bool) -> u64
 // Block j of partial k.
 pub fn get_block(mem: &[u64], s: layout::Shape, k: usize, j: usize) -> BlockRow
     requires { ⌜ Room s (now mem) ⌝ }
-    requires { ⌜ k < size (decode (now mem) .partials) ⌝ }
-    requires { ⌜ j < blocksAt (decode (now mem)) (partialIn (decode (now mem)) k .piece) ⌝ }
+    requires { ⌜ k < len (decode (now mem) .partials) ⌝ }
+    requires { ⌜ j < blocksInPiece (decode (now mem)) (partialIn (decode (now mem)) k .piece) ⌝ }
     ensures { λ r. ⌜ BlockRead r (blockAt (partialIn (decode (now (mem .entry))) k) j) ⌝ }
 {
     let p = layout::idx(layout::partial_word(mem, s, 2, k));
@@ -69,8 +69,8 @@ pub fn put_row(mem: &mut [u64], s: layout::Shape, p: usize, j: usize, r: BlockRo
 // Block j of partial k.
 pub fn put_block(mem: &mut [u64], s: layout::Shape, k: usize, j: usize, r: BlockRow)
     requires { ⌜ Room s (now mem) ⌝ }
-    requires { ⌜ k < size (decode (now mem) .partials) ⌝ }
-    requires { ⌜ j < blocksAt (decode (now mem)) (partialIn (decode (now mem)) k .piece) ⌝ }
+    requires { ⌜ k < len (decode (now mem) .partials) ⌝ }
+    requires { ⌜ j < blocksInPiece (decode (now mem)) (partialIn (decode (now mem)) k .piece) ⌝ }
     ensures { λ _. ⌜ Became s (now (mem .entry)) (now (mem .exit)) (withPartial k (withBlock j (blockOfRow r)) (decode (now (mem .entry)))) ⌝ }
 {
     let p = layout::idx(layout::partial_word(mem, s, 2, k));

@@ -5,7 +5,7 @@ ghost use mathlib.Core.Path.{_≡_};
 ghost use Prim.Native.Nat.{_<_};
 ghost use lib.IntN.{pos};
 ghost use Rattle.types.specs.Piece.{indexOf};
-ghost use Rattle.model.specs.Lists.{size};
+ghost use Rattle.model.specs.Lists.{len};
 ghost use Rattle.layout.specs.Layout.{decode, partialIn, withPartial, Room, Became};
 ghost use Rattle.records.specs.Rows.{FlagsRead, flagNumber, flagged};
 ghost use Rattle.records.specs.Finding.{placeFrom};
@@ -23,7 +23,7 @@ pub struct PartialFlags {
 
 pub fn partial_count(mem: &[u64], s: layout::Shape) -> usize
     requires { ⌜ Room s (now mem) ⌝ }
-    ensures { λ r. ⌜ r ≡ size (decode (now (mem .entry)) .partials) ⌝ }
+    ensures { λ r. ⌜ r ≡ len (decode (now (mem .entry)) .partials) ⌝ }
 {
     layout::idx(layout::head_word(mem, 7))
 }
@@ -31,7 +31,7 @@ pub fn partial_count(mem: &[u64], s: layout::Shape) -> usize
 // The number of the piece of partial k, as the memory holds it.
 pub fn piece_number(mem: &[u64], s: layout::Shape, k: usize) -> u64
     requires { ⌜ Room s (now mem) ⌝ }
-    requires { ⌜ k < size (decode (now mem) .partials) ⌝ }
+    requires { ⌜ k < len (decode (now mem) .partials) ⌝ }
     ensures { λ r. ⌜ r ≡ partialIn (decode (now (mem .entry))) k .piece ⌝ }
 {
     layout::partial_word(mem, s, 0, k)
@@ -40,7 +40,7 @@ pub fn piece_number(mem: &[u64], s: layout::Shape, k: usize) -> u64
 // The piece of partial k, where its number is in range.
 pub fn partial_piece(mem: &[u64], s: layout::Shape, k: usize) -> PieceIndex
     requires { ⌜ Room s (now mem) ⌝ }
-    requires { ⌜ k < size (decode (now mem) .partials) ⌝ }
+    requires { ⌜ k < len (decode (now mem) .partials) ⌝ }
     requires { ⌜ partialIn (decode (now mem)) k .piece < s .pieces ⌝ }
     ensures { λ r. ⌜ r .0 ≡ pos (partialIn (decode (now (mem .entry))) k .piece) ⌝ }
     ensures { λ r. ⌜ indexOf (r .0) ≡ partialIn (decode (now (mem .entry))) k .piece ⌝ }
@@ -51,7 +51,7 @@ pub fn partial_piece(mem: &[u64], s: layout::Shape, k: usize) -> PieceIndex
 
 pub fn partial_flags(mem: &[u64], s: layout::Shape, k: usize) -> PartialFlags
     requires { ⌜ Room s (now mem) ⌝ }
-    requires { ⌜ k < size (decode (now mem) .partials) ⌝ }
+    requires { ⌜ k < len (decode (now mem) .partials) ⌝ }
     ensures { λ r. ⌜ FlagsRead r (partialIn (decode (now (mem .entry))) k) ⌝ }
 {
     let w = layout::partial_word(mem, s, 1, k);
@@ -77,7 +77,7 @@ fn flag_word(f: PartialFlags) -> u64
 
 pub fn set_partial_flags(mem: &mut [u64], s: layout::Shape, k: usize, f: PartialFlags)
     requires { ⌜ Room s (now mem) ⌝ }
-    requires { ⌜ k < size (decode (now mem) .partials) ⌝ }
+    requires { ⌜ k < len (decode (now mem) .partials) ⌝ }
     ensures { λ _. ⌜ Became s (now (mem .entry)) (now (mem .exit)) (withPartial k (flagged f) (decode (now (mem .entry)))) ⌝ }
 {
     let w = flag_word(f);

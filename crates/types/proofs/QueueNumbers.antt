@@ -5,7 +5,8 @@ use native.Mathlib.Omega.{arith}
 use Rattle.types.specs.Numbers.{caseWith}
 use Rattle.types.specs.Queue.{queueNumber, queues, queueWithNumber}
 use Rattle.types.specs.declared.queue.DownloadQueue.{DownloadQueue}
-use Rattle.types.specs.declared.queue.DownloadQueue.the-variants.{Downloading, Full, Finished, ZeroPrio, Open, DownloadingReverse, FullReverse}
+use Rattle.types.specs.declared.queue.DownloadQueue.the-variants.{Downloading, Full, Finished, ZeroPrio, Open, DownloadingReverse}
+use Rattle.types.specs.declared.queue.DownloadQueue.the-variants.{FullReverse}
 use Rattle.types.specs.declared.queue.QueueOf.the-variants.{Queue, Nothing}
 use Rattle.types.proofs.Numbers.{RoundTrip, round-trip}
 

@@ -6,7 +6,9 @@ use lib.ListN.{getD}
 use Rattle.types.specs.Numbers.{caseWith}
 use Rattle.types.specs.Refusal.{refusalNumber, refusalValues}
 use Rattle.types.specs.declared.refusal.Refusal.{Refusal}
-use Rattle.types.specs.declared.refusal.Refusal.the-variants.{Geometry, ShortMemory, IllFormedMemory, FewDraws, OutOfRange, TooManyPeers, NoPeerToTake, HavePiece, NotWriting, TooManyPartials, PickArguments, ShortOutput, IllFormedImage}
+use Rattle.types.specs.declared.refusal.Refusal.the-variants.{Geometry, ShortMemory, IllFormedMemory, FewDraws, OutOfRange}
+use Rattle.types.specs.declared.refusal.Refusal.the-variants.{TooManyPeers, NoPeerToTake, HavePiece, NotWriting, TooManyPartials}
+use Rattle.types.specs.declared.refusal.Refusal.the-variants.{PickArguments, ShortOutput, IllFormedImage}
 
 -- the refusal of a number and its values
 refusalWith : ℕ → List ℕ → Refusal

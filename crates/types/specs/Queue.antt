@@ -4,7 +4,8 @@ use mathlib.Core.Bool.{Bool, true, false}
 use mathlib.Core.List.{List, [], _∷_}
 use Rattle.types.specs.Numbers.{caseWith}
 use Rattle.types.specs.declared.queue.DownloadQueue.{DownloadQueue}
-use Rattle.types.specs.declared.queue.DownloadQueue.the-variants.{Downloading, Full, Finished, ZeroPrio, Open, DownloadingReverse, FullReverse}
+use Rattle.types.specs.declared.queue.DownloadQueue.the-variants.{Downloading, Full, Finished, ZeroPrio, Open, DownloadingReverse}
+use Rattle.types.specs.declared.queue.DownloadQueue.the-variants.{FullReverse}
 use Rattle.types.specs.declared.queue.QueueOf.{QueueOf}
 use Rattle.types.specs.declared.queue.QueueOf.the-variants.{Queue, Nothing}
 
@@ -23,24 +24,24 @@ abbrev pub queues : List DownloadQueue
 queues = Downloading ∷ Full ∷ Finished ∷ ZeroPrio ∷ Open ∷ DownloadingReverse ∷ FullReverse ∷ []
 
 -- the queue without its direction
-abbrev pub plainOf : DownloadQueue → DownloadQueue
-plainOf Downloading = Downloading
-plainOf Full = Full
-plainOf Finished = Finished
-plainOf ZeroPrio = ZeroPrio
-plainOf Open = Open
-plainOf DownloadingReverse = Downloading
-plainOf FullReverse = Full
+abbrev pub unreverse : DownloadQueue → DownloadQueue
+unreverse Downloading = Downloading
+unreverse Full = Full
+unreverse Finished = Finished
+unreverse ZeroPrio = ZeroPrio
+unreverse Open = Open
+unreverse DownloadingReverse = Downloading
+unreverse FullReverse = Full
 
 -- Downloading and Full become their reverse ones, and any other stays
-abbrev pub reverseOf : DownloadQueue → DownloadQueue
-reverseOf Downloading = DownloadingReverse
-reverseOf Full = FullReverse
-reverseOf Finished = Finished
-reverseOf ZeroPrio = ZeroPrio
-reverseOf Open = Open
-reverseOf DownloadingReverse = DownloadingReverse
-reverseOf FullReverse = FullReverse
+abbrev pub makeReverse : DownloadQueue → DownloadQueue
+makeReverse Downloading = DownloadingReverse
+makeReverse Full = FullReverse
+makeReverse Finished = Finished
+makeReverse ZeroPrio = ZeroPrio
+makeReverse Open = Open
+makeReverse DownloadingReverse = DownloadingReverse
+makeReverse FullReverse = FullReverse
 
 -- the two reverse ones
 abbrev pub isReverse : DownloadQueue → Bool

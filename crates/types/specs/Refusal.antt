@@ -2,7 +2,9 @@
 use Prim.Native.Nat.{ℕ}
 use mathlib.Core.List.{List, [], _∷_}
 use Rattle.types.specs.declared.refusal.Refusal.{Refusal}
-use Rattle.types.specs.declared.refusal.Refusal.the-variants.{Geometry, ShortMemory, IllFormedMemory, FewDraws, OutOfRange, TooManyPeers, NoPeerToTake, HavePiece, NotWriting, TooManyPartials, PickArguments, ShortOutput, IllFormedImage}
+use Rattle.types.specs.declared.refusal.Refusal.the-variants.{Geometry, ShortMemory, IllFormedMemory, FewDraws, OutOfRange}
+use Rattle.types.specs.declared.refusal.Refusal.the-variants.{TooManyPeers, NoPeerToTake, HavePiece, NotWriting, TooManyPartials}
+use Rattle.types.specs.declared.refusal.Refusal.the-variants.{PickArguments, ShortOutput, IllFormedImage}
 
 -- the number returned: the row of the table of refusals
 abbrev pub refusalNumber : Refusal → ℕ

@@ -1,13 +1,6 @@
 // The queue that a piece stands in.
 ghost use mathlib.Core.Path.{_≡_};
-ghost use Rattle.types.specs.Queue.{
-  queueNumber,
-  queueWithNumber,
-  plainOf,
-  reverseOf,
-  isReverse,
-  isDownloading,
-};
+ghost use Rattle.types.specs.Queue.{queueNumber, queueWithNumber, unreverse, makeReverse, isReverse, isDownloading};
 
 pub enum DownloadQueue {
     // Some blocks are outstanding.
@@ -35,7 +28,7 @@ pub enum QueueOf {
 impl DownloadQueue {
     // The queue without its direction.
     pub fn queue(self) -> DownloadQueue
-        ensures { λ r. ⌜ r ≡ plainOf self ⌝ }
+        ensures { λ r. ⌜ r ≡ unreverse self ⌝ }
     {
         match self {
             DownloadQueue::Downloading => DownloadQueue::Downloading,
@@ -63,13 +56,13 @@ impl DownloadQueue {
     }
 
     pub fn unreverse(self) -> DownloadQueue
-        ensures { λ r. ⌜ r ≡ plainOf self ⌝ }
+        ensures { λ r. ⌜ r ≡ unreverse self ⌝ }
     {
         self.queue()
     }
 
     pub fn make_reverse(self) -> DownloadQueue
-        ensures { λ r. ⌜ r ≡ reverseOf self ⌝ }
+        ensures { λ r. ⌜ r ≡ makeReverse self ⌝ }
     {
         match self {
             DownloadQueue::Downloading => DownloadQueue::DownloadingReverse,

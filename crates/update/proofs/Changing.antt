@@ -10,13 +10,13 @@ use lib.Dec.{eqb, ltb}
 use lib.ListN.{length, getD, set, take, drop, take-append-drop}
 use lib.Seq.{length-take-le}
 use borrow.Author.Tests.{eq-eqb, ne-eqb, lt-ltb, le-ltb}
-use Rattle.model.specs.Lists.{bit, tally, placeOf}
-use Rattle.model.specs.Order.{draw, earlier, later, swap, groupLast, groupDrawn, changed, changeDraws}
-use Rattle.model.proofs.Tallies.{lt-bit, eq-bit, ne-bit, stands, place-in, at-place}
-use Rattle.model.proofs.GroupTurns.{length-earlier, length-later}
-use Rattle.model.proofs.GroupRise.{Rising, rising-is}
-use Rattle.model.proofs.GroupMoves.{group-has, group-ends, group-starts}
-use Rattle.model.proofs.ListedMoves.{keys-same}
+use Rattle.model.specs.Lists.{bit, count, placeOf}
+use Rattle.model.specs.list.Order.{draw, earlier, later, swap, groupLast, groupDrawn, changed, changeDraws}
+use Rattle.model.proofs.base.Counts.{lt-bit, eq-bit, ne-bit, stands, place-in, at-place}
+use Rattle.model.proofs.list.GroupTurns.{length-earlier, length-later}
+use Rattle.model.proofs.list.GroupRise.{Rising, rising-is}
+use Rattle.model.proofs.list.GroupMoves.{group-has, group-ends, group-starts}
+use Rattle.model.proofs.list.ListedMoves.{keys-same}
 use Rattle.order.specs.Places.{IsGroup}
 use Rattle.update.specs.Relisting.{former, Ready}
 use Rattle.update.proofs.Moving.{earlier-front, later-front, swap-front, drawn-in}
@@ -34,13 +34,13 @@ module _ (b : ℕ → ℕ) (old x : ℕ) where
   former-other y n = rw (ne-eqb y x n)
 
   -- where x stands at one place only, they are the new ones but there
-  former-keys : (l : List ℕ) (i : ℕ) → i < length l → getD l i 0 ≡ x → tally (eqb x) l ≡ 1 → map (former b old x) l ≡ set (map b l) i old
-  unfolding tally
+  former-keys : (l : List ℕ) (i : ℕ) → i < length l → getD l i 0 ≡ x → count (eqb x) l ≡ 1 → map (former b old x) l ≡ set (map b l) i old
+  unfolding count
   former-keys [] i h q e = absurd (omega arith)
   former-keys (y ∷ ys) zero h q e =
       ap₂ (λ (v : ℕ) (vs : List ℕ). v ∷ vs) (ap (former b old x) q ∙ former-same)
       (keys-same b (former b old x) ys
-      (λ z g. former-other z (λ (p : z ≡ x). let k : 1 ≤ tally (eqb x) ys = rw p at g in absurd (omega (arith, eq-bit x y (sym q))))))
+      (λ z g. former-other z (λ (p : z ≡ x). let k : 1 ≤ count (eqb x) ys = rw p at g in absurd (omega (arith, eq-bit x y (sym q))))))
   former-keys (y ∷ ys) (suc i) h q e = elim (ℕ-discrete y x) [
     | yes p ↦ absurd (omega (arith, eq-bit x y (sym p), stands x 0 ys i (le-of-suc-le-suc h) q))
     | no p ↦ ap₂ (λ (v : ℕ) (vs : List ℕ). v ∷ vs) (former-other y p)
@@ -49,7 +49,7 @@ module _ (b : ℕ → ℕ) (old x : ℕ) where
 
 -- ---- x stands in the list, at its place
 module _ {b : ℕ → ℕ} {pieces old x : ℕ} (l : List ℕ) (r : Ready b pieces old x l) (k : 0 < old) where
-  once : tally (eqb x) l ≡ 1
+  once : count (eqb x) l ≡ 1
   once = r .once ∙ lt-bit 0 old k
 
   -- its place is within the list

@@ -1,4 +1,4 @@
--- What each arm of `relist` leaves is `relisted`; and a list that is listed under the ranks as they were is ready to be mended.
+-- What each arm of `relist` leaves is `updated`; and a list that is listed under the ranks as they were is ready to be mended.
 use mathlib.Core.Path.{_≡_, refl, sym, ap, _∙_}
 use mathlib.Core.Logic.{_≢_}
 use mathlib.Core.Bool.{false}
@@ -11,14 +11,14 @@ use lib.Dec.{eqb, ltb}
 use lib.ListN.{length, take, drop, take-append-drop}
 use lib.Seq.{getD-take, length-take-le}
 use borrow.Author.Tests.{eq-eqb, ne-eqb}
-use Rattle.model.specs.Lists.{bit, at, size, placeOf}
-use Rattle.model.specs.Order.{groupSize, added, addDraws, removed, changed, changeDraws, relisted, relistDraws}
-use Rattle.model.specs.Listed.{Listed}
-use Rattle.model.proofs.Tallies.{bit-le, eq-bit, ne-bit, permuted-length}
-use Rattle.model.proofs.GroupTurns.{length-placed, length-removed}
-use Rattle.model.proofs.GroupMoves.{changed-kept}
-use Rattle.model.proofs.ListedMoves.{listed-same, relisted-keeps}
-use Rattle.model.proofs.ListedLaws.{listed-at-lt, listed-length-le}
+use Rattle.model.specs.Lists.{bit, nth, len, placeOf}
+use Rattle.model.specs.list.Order.{groupSize, added, addDraws, removed, changed, changeDraws, updated, updateDraws}
+use Rattle.model.specs.list.Listed.{Listed}
+use Rattle.model.proofs.base.Counts.{bit-le, eq-bit, ne-bit, permuted-length}
+use Rattle.model.proofs.list.GroupTurns.{length-placed, length-removed}
+use Rattle.model.proofs.list.GroupMoves.{changed-kept}
+use Rattle.model.proofs.list.ListedMoves.{listed-same, updated-keeps}
+use Rattle.model.proofs.list.ListedLaws.{listed-at-lt, listed-length-le}
 use Rattle.order.specs.Places.{Pieces}
 use Rattle.update.specs.Relisting.{former, Ready, IsRelisted}
 use Rattle.update.proofs.Changing.{former-same, former-other, inside, there, rose}
@@ -58,7 +58,7 @@ module _ {b : ℕ → ℕ} (ds : List ℕ) (t : ℕ) {pieces old x n k : ℕ} (l
 
   -- the rank is the same
   pub mended-same : k ≡ old → IsRelisted b ds t old x (take n l) l l n t
-  unfolding relisted relistDraws size
+  unfolding updated updateDraws len
   mended-same e =
       let q = eq-eqb (b x) old (sym ek ∙ e) in
       record { list = rw q (sym (take-append-drop n l)); len-is = rw q (sym long); used-is = rw q (omega arith) }
@@ -70,7 +70,7 @@ module _ {b : ℕ → ℕ} (ds : List ℕ) (t : ℕ) {pieces old x n k : ℕ} (l
     -- x comes in
     pub mended-added : old ≡ 0 → (l′ : List ℕ) (d : ℕ) → l′ ≡ added b ds t x (take n l) ++ drop (suc n) l → d ≡ addDraws b x (take n l)
         → IsRelisted b ds t old x (take n l) l l′ (n + 1) (t + d)
-    unfolding relisted relistDraws size added
+    unfolding updated updateDraws len added
     mended-added z l′ d el ed =
         let q = differ in
         let w = eq-eqb old 0 z in
@@ -84,7 +84,7 @@ module _ {b : ℕ → ℕ} (ds : List ℕ) (t : ℕ) {pieces old x n k : ℕ} (l
       -- x leaves
       pub mended-removed : k ≡ 0 → (i : ℕ) → i ≡ placeOf x (take n l) → (l′ : List ℕ) → l′ ≡ removed b i (take n l) ++ drop (n - 1) l
           → IsRelisted b ds t old x (take n l) l l′ (n - 1) t
-      unfolding relisted relistDraws size
+      unfolding updated updateDraws len
       mended-removed z i ei l′ el =
           let q = differ in
           let w = ne-eqb old 0 nz in
@@ -95,7 +95,7 @@ module _ {b : ℕ → ℕ} (ds : List ℕ) (t : ℕ) {pieces old x n k : ℕ} (l
       -- x moves
       pub mended-changed : k ≢ 0 → (l′ : List ℕ) (d : ℕ) → l′ ≡ changed b ds t old x (take n l) ++ drop n l → d ≡ changeDraws b x (take n l)
           → IsRelisted b ds t old x (take n l) l l′ n (t + d)
-      unfolding relisted relistDraws size
+      unfolding updated updateDraws len
       mended-changed z l′ d el ed =
           let q = differ in
           let w = ne-eqb old 0 nz in
@@ -110,8 +110,8 @@ module _ {b : ℕ → ℕ} (ds : List ℕ) (t : ℕ) {pieces old x n k : ℕ} (l
           }
 
 -- ---- a list that is listed under the ranks as they were
-grown : (b : ℕ → ℕ) (x : ℕ) (l : List ℕ) → b x ≡ 0 → length (relisted (former b 1 x) [] 0 (b x) x l) ≡ suc (length l)
-unfolding relisted added
+grown : (b : ℕ → ℕ) (x : ℕ) (l : List ℕ) → b x ≡ 0 → length (updated (former b 1 x) [] 0 (b x) x l) ≡ suc (length l)
+unfolding updated added
 grown b x l e =
     let one = former-same b 1 x in
     let d = ne-eqb (former b 1 x x) (b x) (λ (q : former b 1 x x ≡ b x). absurd (omega arith)) in
@@ -121,8 +121,8 @@ grown b x l e =
 shorter : (b : ℕ → ℕ) (n x : ℕ) (l : List ℕ) → Listed b n l → x < n → b x ≡ 0 → suc (length l) ≤ n
 shorter b n x l g h e =
     let f = former b 1 x in
-    let m = relisted-keeps b f [] 0 (b x) x n l (λ y q. former-other b 1 x y q) refl g h in
-    omega (arith, listed-length-le f n (relisted f [] 0 (b x) x l) m, grown b x l e)
+    let m = updated-keeps b f [] 0 (b x) x n l (λ y q. former-other b 1 x y q) refl g h in
+    omega (arith, listed-length-le f n (updated f [] 0 (b x) x l) m, grown b x l e)
 
 module _ (b b′ : ℕ → ℕ) (n x : ℕ) (l : List ℕ) (g : Listed b n l) (h : x < n) (agree : (y : ℕ) → y < n → y ≢ x → b′ y ≡ b y) where
   were : (y : ℕ) → y < n → former b′ (b x) x y ≡ b y
@@ -130,7 +130,7 @@ module _ (b b′ : ℕ → ℕ) (n x : ℕ) (l : List ℕ) (g : Listed b n l) (h
 
   -- is ready to be mended
   pub listed-ready : (pieces : ℕ) → n ≤ pieces → Ready b′ pieces (b x) x l
-  unfolding at
+  unfolding nth
   listed-ready pieces le = record {
     within = λ k q. (let a = listed-at-lt b n l g k q in omega arith);
     order = listed-same b (former b′ (b x) x) n l were g .order;

@@ -5,16 +5,16 @@ use Prim.Native.Nat.{ℕ, suc, _+_, _-_, _≤_, _<_}
 use native.Mathlib.Omega.{arith}
 use lib.ListN.{length, getD, set, take, drop, length-append, length-set, List·getD-append}
 use lib.Seq.{slice, slice-empty, length-slice, length-take-le, take-append-le, drop-append-le, set-append-left, set-at, split-at, drop-cons}
-use Rattle.model.specs.Lists.{at, put}
-use Rattle.model.specs.Order.{draw, earlier, later, turnRight, swap}
-use Rattle.model.proofs.GroupTurns.{stirred-right, length-keys}
-use Rattle.model.proofs.GroupMoves.{draw-le}
+use Rattle.model.specs.Lists.{nth, setNth}
+use Rattle.model.specs.list.Order.{draw, earlier, later, turnRight, swap}
+use Rattle.model.proofs.list.GroupTurns.{stirred-right, length-keys}
+use Rattle.model.proofs.list.GroupMoves.{draw-le}
 use Rattle.order.specs.Places.{pushed, pulled}
 
 module _ (b : ℕ → ℕ) where
   -- what stands at i pushed in at p
   pub earlier-pushed : (p i : ℕ) (l : List ℕ) → pushed b p i (getD l i 0) l ≡ earlier b p i l
-  unfolding pushed earlier at
+  unfolding pushed earlier nth
   earlier-pushed p i l = refl
 
   length-right : (l : List ℕ) → length (turnRight b l) ≡ length l
@@ -22,7 +22,7 @@ module _ (b : ℕ → ℕ) where
 
   -- the groups between pulled over i, and what stood there stored at p
   pub later-pulled : (i p : ℕ) (l : List ℕ) → i < p → p < length l → set (pulled b i p l) p (getD l i 0) ≡ later b i p l
-  unfolding pulled later at
+  unfolding pulled later nth
   later-pulled i p l h le =
       let front = take i l ++ turnRight b (slice (suc i) (suc p) l) in
       let n : length front ≡ p =
@@ -41,7 +41,7 @@ module _ (b : ℕ → ℕ) where
 
   -- a move to its own place
   pub later-stays : (i p : ℕ) (l : List ℕ) → i ≤ p → p ≤ i → p < length l → l ≡ later b i p l
-  unfolding later turnRight at
+  unfolding later turnRight nth
   later-stays i p l h k le =
       let e : p ≡ i = omega arith in
       let li : i < length l = omega arith in
@@ -51,7 +51,7 @@ module _ (b : ℕ → ℕ) where
   module _ (m r : List ℕ) where
     -- forward
     pub earlier-front : (p i : ℕ) → p ≤ i → i < length m → earlier b p i (m ++ r) ≡ earlier b p i m ++ r
-    unfolding earlier at
+    unfolding earlier nth
     earlier-front p i h le =
         let a : p ≤ length m = omega arith in
         let c : i ≤ length m = omega arith in
@@ -59,7 +59,7 @@ module _ (b : ℕ → ℕ) where
 
     -- back
     pub later-front : (i p : ℕ) → i ≤ p → p < length m → later b i p (m ++ r) ≡ later b i p m ++ r
-    unfolding later at
+    unfolding later nth
     later-front i p h le =
         let a : i ≤ length m = omega arith in
         let c : i < length m = omega arith in
@@ -67,7 +67,7 @@ module _ (b : ℕ → ℕ) where
 
 -- an exchange leaves alone what stands behind it
 pub swap-front : (m r : List ℕ) (i j : ℕ) → i < length m → j < length m → swap (m ++ r) i j ≡ swap m i j ++ r
-unfolding swap at put
+unfolding swap nth setNth
 swap-front m r i j hi hj =
     let a : j < length (set m i (getD m j 0)) = omega (arith, length-set m i (getD m j 0)) in
     rw (

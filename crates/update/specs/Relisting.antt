@@ -5,9 +5,9 @@ use mathlib.Core.Bool.{true, cond}
 use mathlib.Core.List.{List, _++_}
 use lib.ListN.{length, drop}
 use lib.Dec.{eqb, ltb}
-use Rattle.model.specs.Lists.{bit, tally, size}
-use Rattle.model.specs.Listed.{rising}
-use Rattle.model.specs.Order.{relisted, relistDraws}
+use Rattle.model.specs.Lists.{bit, count, len}
+use Rattle.model.specs.list.Listed.{rising}
+use Rattle.model.specs.list.Order.{updated, updateDraws}
 use Rattle.order.specs.Places.{Pieces}
 
 -- the ranks as they were: x had rank `old`
@@ -18,10 +18,10 @@ former b old x y = cond (eqb y x) old (b y)
 pub record Ready (b : ℕ → ℕ) (pieces old x : ℕ) (l : List ℕ) : Type 0 where
   pub within : Pieces pieces (length l) l
   pub order : rising (former b old x) l ≡ true
-  pub once : tally (eqb x) l ≡ bit (ltb 0 old)
+  pub once : count (eqb x) l ≡ bit (ltb 0 old)
 
 -- of the lent words the first `len` are the mended list, and the others are as they were; the next draw is number `used`
 pub record IsRelisted (b : ℕ → ℕ) (ds : List ℕ) (t old x : ℕ) (l words words′ : List ℕ) (len used : ℕ) : Type 0 where
-  pub list : words′ ≡ relisted b ds t old x l ++ drop len words
-  pub len-is : len ≡ size (relisted b ds t old x l)
-  pub used-is : used ≡ t + relistDraws b old x l
+  pub list : words′ ≡ updated b ds t old x l ++ drop len words
+  pub len-is : len ≡ len (updated b ds t old x l)
+  pub used-is : used ≡ t + updateDraws b old x l

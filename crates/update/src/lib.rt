@@ -6,7 +6,7 @@ ghost use Prim.Native.Nat.{suc, _+_, _-_, _≤_, _<_};
 ghost use lib.Dec.{eqb};
 ghost use lib.ListN.{length, take, drop};
 ghost use Rattle.model.specs.Lists.{bit};
-ghost use Rattle.model.specs.Order.{draw, earlier, later, swap, changed, changeDraws};
+ghost use Rattle.model.specs.list.Order.{draw, earlier, later, swap, changed, changeDraws};
 ghost use Rattle.order.specs.Places.{rankIn, Pieces};
 ghost use Rattle.update.specs.Relisting.{Ready, IsRelisted};
 

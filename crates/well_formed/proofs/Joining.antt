@@ -6,7 +6,7 @@ use Prim.Native.Nat.{ℕ, _≤_, _<_}
 use lib.Dec.{leb}
 use lib.ListN.{length, getD}
 use borrow.Author.Tests.{le-leb, lt-leb}
-use Rattle.model.specs.Bep3.{numPieces, blocksPerPiece}
+use Rattle.model.specs.Bep3.{numPieces, wholePieceBlocks}
 use Rattle.model.specs.State.{validGeometry}
 use Rattle.model.specs.Calls.{wordsNeeded}
 use Rattle.layout.specs.Layout.{headWord, piecesOn, blocksOn}
@@ -33,7 +33,7 @@ module _ (xs : List ℕ) where
 
   -- room for the geometry, or none
   pub long-enough : 16 ≤ length xs → validGeometry (getD xs 0 0) (getD xs 1 0) ≡ true
-      → (n b w : ℕ) → n ≡ numPieces (getD xs 0 0) (getD xs 1 0) → b ≡ blocksPerPiece (getD xs 1 0) → w ≡ wordsNeeded n b
+      → (n b w : ℕ) → n ≡ numPieces (getD xs 0 0) (getD xs 1 0) → b ≡ wholePieceBlocks (getD xs 1 0) → w ≡ wordsNeeded n b
       → leb w (length xs) ≡ roomy xs
   unfolding roomy headWord piecesOn blocksOn
   long-enough h v n b w en eb ew =

@@ -7,15 +7,16 @@ use mathlib.Core.Bool.{true, or-true}
 use mathlib.Core.List.{List, []}
 use lib.Dec.{ltb}
 use borrow.Author.Tests.{eq-eqb, eqb-true, not-true}
-use Rattle.model.specs.Lists.{member, some?, every, from}
+use Rattle.model.specs.Lists.{member, any, every, from}
 use Rattle.model.specs.Bep3.{numPieces}
 use Rattle.model.specs.State.{piecesIn}
-use Rattle.model.specs.WellFormed.{headOk, piecesOk, partialsOk, extentsOk, wellFormed}
-use Rattle.model.proofs.Truths.{and-left, and-right, true-both, not-both}
+use Rattle.model.specs.image.WellFormed.{headOk, piecesOk, partialsOk, extentsOk, wellFormed}
+use Rattle.model.proofs.base.Truths.{and-left, and-right, true-both, not-both}
 use Rattle.layout.specs.Tables.{tab}
 use Rattle.layout.specs.declared.spots.Shape.{Shape}
 use Rattle.layout.specs.Layout.{headWord, partialWord, placesFor, piecesOn, yes?, decode, ShapeOf, Room}
-use Rattle.piece_rows.specs.Memory.{headRaw, piecesRaw, placeRaw, partialsRaw, roomy, goodHead, goodPieces, goodPlaces, goodPartials, goodExtents, goodList, goodMemory}
+use Rattle.piece_rows.specs.Memory.{headRaw, piecesRaw, placeRaw, partialsRaw, roomy, goodHead, goodPieces, goodPlaces, goodPartials}
+use Rattle.piece_rows.specs.Memory.{goodExtents, goodList, goodMemory}
 use Rattle.piece_rows.proofs.Bounds.{housed}
 use Rattle.piece_rows.proofs.ExtentTests.{pieces-in}
 use Rattle.piece_rows.proofs.HeadLaws.{headed}
@@ -25,7 +26,7 @@ use Rattle.partial_rows.proofs.ReadyLaws.{placed-of}
 -- ---- places
 -- an element of a table stands in it
 in-table : (f : ℕ → ℕ) (l k : ℕ) → k < l → member (f k) (tab l f) ≡ true
-unfolding member some? tab
+unfolding member any tab
 in-table f zero k h = absurd (omega arith)
 in-table f (suc l) zero h = rw (eq-eqb (f zero) (f zero) refl)
 in-table f (suc l) (suc k) h = rw (in-table (λ j. f (suc j)) l k (omega arith), or-true)
@@ -56,7 +57,7 @@ pub record Good (xs : List ℕ) : Type 0 where
   pub pieces : goodPieces xs ≡ true
   pub places : goodPlaces xs ≡ true
   pub partials : goodPartials xs ≡ true
-  pub extents : goodExtents xs ≡ true
+  pub recentExtents : goodExtents xs ≡ true
   pub list : goodList xs ≡ true
 
 pub good : (xs : List ℕ) → goodMemory xs ≡ true → Good xs
@@ -73,7 +74,7 @@ good xs h =
       pieces = and-left (goodPieces xs) _ b;
       places = and-left (goodPlaces xs) _ c;
       partials = and-left (goodPartials xs) _ d;
-      extents = and-left (goodExtents xs) _ e;
+      recentExtents = and-left (goodExtents xs) _ e;
       list = and-right (goodExtents xs) _ e;
     }
 
@@ -93,7 +94,7 @@ standing s xs h g =
       list = omega (arith, w .list, g .pieces);
       idle = λ e. w .idle (eqb-true (headWord xs 5) 1 e);
       partials = rw (g .sizes .places, g .pieces) (w .partials);
-      extents = w .extents;
+      recentExtents = w .recentExtents;
       placed = placed-of s xs g (v .places);
       apart = λ k l p q e. places-apart xs (s .pieces) n k l (rw (g .sizes .places) at p) (rw (g .sizes .places) at q) e;
     }
@@ -105,7 +106,7 @@ well-formed-picker xs h =
     let v = good xs h in
     let s = decode xs in
     let a = and-right (headRaw xs) (headOk s) (v .head) in
-    let b = eq-eqb (piecesIn s) (numPieces (s .total) (s .size)) (unfold piecesOn in pieces-in xs) in
+    let b = eq-eqb (piecesIn s) (numPieces (s .totalSize) (s .pieceSize)) (unfold piecesOn in pieces-in xs) in
     let c = and-right (piecesRaw xs) (piecesOk s 0 (s .pieces)) (v .pieces) in
     let d = and-right (partialsRaw xs) (partialsOk s 0 0 (s .pieces) (s .partials)) (v .partials) in
-    true-both (headOk s) _ a (true-both _ _ b (true-both (piecesOk s 0 (s .pieces)) _ c (true-both (partialsOk s 0 0 (s .pieces) (s .partials)) _ d (true-both (extentsOk s [] (s .extents)) _ (v .extents) (v .list)))))
+    true-both (headOk s) _ a (true-both _ _ b (true-both (piecesOk s 0 (s .pieces)) _ c (true-both (partialsOk s 0 0 (s .pieces) (s .partials)) _ d (true-both (extentsOk s [] (s .recentExtents)) _ (v .recentExtents) (v .list)))))

@@ -1,7 +1,7 @@
 -- `bit_at` meets its contract: past the end the bit is unset, and else the code computes what the definition says. Assumes nothing.
 use mathlib.Core.Path.{refl, sym}
 use Rattle.model.specs.Bep3.{bitOf, bitAt}
-use Rattle.model.proofs.Bep3Laws.{bitAt-past}
+use Rattle.model.proofs.base.Bep3Laws.{bitAt-past}
 use borrow.Author.Needs.{needs}
 use native.Mathlib.Omega.{arith}
 use Rattle.bitfield.proofs.bit_at.Statement.{statement}

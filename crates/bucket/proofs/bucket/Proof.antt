@@ -12,7 +12,7 @@ unlisted-requires c κs = search needs
 returns : tie.Need-returns
 returns c =
     let t = c .before .before in
-    rank-none (t .args .seeds) (t .args .count) (t .args .state) (t .args .wish) (t .args .had) (sym (c .before .unlisted .ensures)
+    rank-none (t .args .seeds) (t .args .peerCount) (t .args .state) (t .args .priority) (t .args .flushed) (sym (c .before .unlisted .ensures)
     ∙ c .if1 .taken)
 
 add-result : tie.Need-add-result
@@ -26,7 +26,7 @@ mul-result c =
     let t = c .before .before in
     omega (
       arith,
-      product (t .args .seeds) (t .args .count) (t .args .state) (t .args .wish) (t .args .had)
+      product (t .args .seeds) (t .args .peerCount) (t .args .state) (t .args .priority) (t .args .flushed)
           (sym (c .before .unlisted .ensures) ∙ c .if1 .left) (t .pre .0) (t .pre .1),
     )
 
@@ -35,7 +35,7 @@ mul-result-2 c =
     let t = c .before .before in
     omega (
       arith,
-      product (t .args .seeds) (t .args .count) (t .args .state) (t .args .wish) (t .args .had)
+      product (t .args .seeds) (t .args .peerCount) (t .args .state) (t .args .priority) (t .args .flushed)
           (sym (c .before .unlisted .ensures) ∙ c .if1 .left) (t .pre .0) (t .pre .1),
     )
 
@@ -47,10 +47,10 @@ sub-result-2 c =
     let t = c .before .before .before in
     omega (
       arith,
-      product (t .args .seeds) (t .args .count) (t .args .state) (t .args .wish) (t .args .had)
+      product (t .args .seeds) (t .args .peerCount) (t .args .state) (t .args .priority) (t .args .flushed)
           (sym (c .before .before .unlisted .ensures) ∙ c .before .if1 .left) (t .pre .0) (t .pre .1),
-      taken-off (t .args .seeds) (t .args .count)
-          (t .args .state) (t .args .wish) (t .args .had) (sym (c .before .before .unlisted .ensures) ∙ c .before .if1 .left) (t .pre .0)
+      taken-off (t .args .seeds) (t .args .peerCount)
+          (t .args .state) (t .args .priority) (t .args .flushed) (sym (c .before .before .unlisted .ensures) ∙ c .before .if1 .left) (t .pre .0)
           (t .pre .1),
       c .adjustment .ensures,
     )
@@ -60,10 +60,10 @@ add-result-2 c =
     let t = c .before .before .before in
     omega (
       arith,
-      product (t .args .seeds) (t .args .count) (t .args .state) (t .args .wish) (t .args .had)
+      product (t .args .seeds) (t .args .peerCount) (t .args .state) (t .args .priority) (t .args .flushed)
           (sym (c .before .before .unlisted .ensures) ∙ c .before .if1 .left) (t .pre .0) (t .pre .1),
-      taken-off (t .args .seeds) (t .args .count)
-          (t .args .state) (t .args .wish) (t .args .had) (sym (c .before .before .unlisted .ensures) ∙ c .before .if1 .left) (t .pre .0)
+      taken-off (t .args .seeds) (t .args .peerCount)
+          (t .args .state) (t .args .priority) (t .args .flushed) (sym (c .before .before .unlisted .ensures) ∙ c .before .if1 .left) (t .pre .0)
           (t .pre .1),
       c .adjustment .ensures,
     )
@@ -71,7 +71,7 @@ add-result-2 c =
 returns-2 : tie.Need-returns-2
 returns-2 c =
     let t = c .before .before .before in
-    rank-some (t .args .seeds) (t .args .count) (t .args .state) (t .args .wish) (t .args .had) (sym (c .before .before .unlisted .ensures)
+    rank-some (t .args .seeds) (t .args .peerCount) (t .args .state) (t .args .priority) (t .args .flushed) (sym (c .before .before .unlisted .ensures)
     ∙ c .before .if1 .left) (t .pre .0) (t .pre .1) (c .adjustment .result) (c .adjustment .ensures)
 
 pub bucket-spec : {M : Type 1} → statement M

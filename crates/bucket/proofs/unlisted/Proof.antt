@@ -4,7 +4,7 @@ use Rattle.bucket.proofs.unlisted.Statement.{statement}
 use Rattle.bucket.proofs.unlisted.Tie as tie
 
 returns : tie.Need-returns
-returns c = tests (c .args .seeds) (c .args .count) (c .args .state) (c .args .wish) (c .args .had)
+returns c = tests (c .args .seeds) (c .args .peerCount) (c .args .state) (c .args .priority) (c .args .flushed)
 
 pub unlisted-spec : {M : Type 1} → statement M
 unlisted-spec = tie.close (tie.spec returns)

@@ -1,6 +1,6 @@
 -- `fields::set_had` meets its contract.
 use native.Mathlib.Omega.{arith}
-use Rattle.model.specs.State.{withPiece, withHad}
+use Rattle.model.specs.State.{withPiece, withFlushed}
 use Rattle.layout.specs.Tables.{choose}
 use Rattle.layout.specs.Layout.{yes?, pieceWith}
 use borrow.Author.Needs.{needs}
@@ -14,7 +14,7 @@ same-length : tie.Need-same-length
 same-length c = search needs
 
 returns : tie.Need-returns
-unfolding withPiece withHad pieceWith choose yes?
+unfolding withPiece withFlushed pieceWith choose yes?
 returns c = c .before .before .set-field .ensures
 
 pub set-had-spec : {M : Type 1} → statement M

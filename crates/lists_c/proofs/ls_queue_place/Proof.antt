@@ -1,7 +1,7 @@
 -- `ls_queue_place` asks of its caller what the queues ask. Assumes nothing.
 use native.Mathlib.Omega.{arith}
 use borrow.Author.Needs.{needs}
-use Rattle.model.specs.Lists.{at}
+use Rattle.model.specs.Lists.{nth}
 use Rattle.queues.proofs.StandLaws.{partials-few}
 use Rattle.queues.proofs.EnterLaws.{shaped-fresh, size-few}
 use Rattle.lists_c.proofs.ls_queue_place.Statement.{statement}
@@ -25,7 +25,7 @@ returns : tie.Need-returns
 returns c = search needs
 
 place-at-requires : tie.Need-place-at-requires
-unfolding at
+unfolding nth
 place-at-requires c κs =
     let p = c .before .before .before .before .before .before .before .pre in
     let g = c .before .before .download-queues .ensures in

@@ -1,7 +1,7 @@
 -- `key` meets its contract: the word read is the rank. Assumes nothing.
 use borrow.Author.Needs.{needs}
 use mathlib.Core.Path.{_∙_}
-use Rattle.model.specs.Lists.{at}
+use Rattle.model.specs.Lists.{nth}
 use Rattle.order.specs.Places.{rankIn}
 use Rattle.order.proofs.key.Statement.{statement}
 use Rattle.order.proofs.key.Tie as tie
@@ -19,7 +19,7 @@ word-requires : tie.Need-word-requires
 word-requires c κs = search needs
 
 returns : tie.Need-returns
-unfolding rankIn at
+unfolding rankIn nth
 returns c = c .word .ensures ∙ rw (c .before .before .idx .ensures)
 
 pub key-spec : {M : Type 1} → statement M

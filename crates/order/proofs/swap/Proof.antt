@@ -1,8 +1,8 @@
 -- `swap` meets its contract: two stores. Assumes nothing.
 use borrow.Author.Needs.{needs}
 use mathlib.Core.Path.{refl}
-use Rattle.model.specs.Lists.{at, put}
-use Rattle.model.specs.Order.{swap}
+use Rattle.model.specs.Lists.{nth, setNth}
+use Rattle.model.specs.list.Order.{swap}
 use Rattle.order.proofs.swap.Statement.{statement}
 use Rattle.order.proofs.swap.Tie as tie
 
@@ -34,7 +34,7 @@ same-length : tie.Need-same-length
 same-length c = search needs
 
 returns : tie.Need-returns
-unfolding swap at put
+unfolding swap nth setNth
 returns c = refl
 
 pub swap-spec : {M : Type 1} → statement M

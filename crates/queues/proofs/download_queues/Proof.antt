@@ -4,7 +4,7 @@ use mathlib.Core.Path.{_≡_}
 use Prim.Native.Nat.{_≤_, _<_, _-_}
 use native.Mathlib.Omega.{arith}
 use Rattle.types.specs.Queue.{queueNumber}
-use Rattle.model.specs.Lists.{size}
+use Rattle.model.specs.Lists.{len}
 use Rattle.layout.specs.Layout.{decode}
 use Rattle.queues.specs.Queues.{queueIn, Entered}
 use Rattle.queues.proofs.EnterLaws.{entered-start, row-room, entered-next, entered-end}
@@ -35,7 +35,7 @@ enter-requires c κs =
     let p = c .before .before .before .before .before .before .before .before .pre in
     let l = c .before .before .before .before .loop in
     let d = decode (a .mem .now) in
-    let h : l .k < size (d .partials) = omega (arith, c .before .before .before .before .before .before .partial-count .ensures) in
+    let h : l .k < len (d .partials) = omega (arith, c .before .before .before .before .before .before .partial-count .ensures) in
     let f = queue-few d (p .1 .0) (l .k) h in
     let e : c .before .before .queue-of .result ≡ queueNumber (queueIn d (l .k)) = c .before .before .queue-of .ensures in
     let q : c .before .before .queue-of .result < 4 = omega (arith, e, f) in
@@ -54,7 +54,7 @@ loop-again c =
     let p = c .before .before .before .before .before .before .before .before .before .pre in
     let l = c .before .before .before .before .before .loop in
     let d = decode (a .mem .now) in
-    let h : l .k < size (d .partials) = omega (arith, c .before .before .before .before .before .before .before .partial-count .ensures) in
+    let h : l .k < len (d .partials) = omega (arith, c .before .before .before .before .before .before .before .partial-count .ensures) in
     let f = queue-few d (p .1 .0) (l .k) h in
     let e : c .before .before .before .queue-of .result ≡ queueNumber (queueIn d (l .k)) = c .before .before .before .queue-of .ensures in
     (omega arith, entered-next d (l .k) _ (l .rows) (l .sizes) (l .inv .1) e (omega (arith, e, f)) (omega (arith, h, partials-few d (p .1 .0))) _ _ (c .enter .ensures .0) (c .enter .ensures .1))

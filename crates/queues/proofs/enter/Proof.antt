@@ -1,7 +1,7 @@
 -- `queues::enter` meets its contract. Assumes nothing.
 use borrow.Author.Needs.{needs}
 use mathlib.Core.Path.{refl}
-use Rattle.model.specs.Lists.{at, put}
+use Rattle.model.specs.Lists.{nth, setNth}
 use Rattle.queues.proofs.enter.Statement.{statement}
 use Rattle.queues.proofs.enter.Tie as tie
 
@@ -18,18 +18,18 @@ mul-rows : tie.Need-mul-rows
 mul-rows c = search needs
 
 mul-rows-2 : tie.Need-mul-rows-2
-unfolding at
+unfolding nth
 mul-rows-2 c = search needs
 
 index-1-rows : tie.Need-index-1-rows
 index-1-rows c = search needs
 
 index-2-rows : tie.Need-index-2-rows
-unfolding at
+unfolding nth
 index-2-rows c = c .before .pre .1 .0
 
 add-sizes : tie.Need-add-sizes
-unfolding at
+unfolding nth
 add-sizes c = search needs
 
 mul-sizes : tie.Need-mul-sizes
@@ -39,7 +39,7 @@ element-write-sizes : tie.Need-element-write-sizes
 element-write-sizes c = search needs
 
 returns : tie.Need-returns
-unfolding at put
+unfolding nth setNth
 returns c = (refl, refl)
 
 pub enter-spec : {M : Type 1} → statement M

@@ -1,6 +1,6 @@
 -- `queues::place_at` meets its contract. Assumes nothing.
 use borrow.Author.Needs.{needs}
-use Rattle.model.specs.Lists.{at}
+use Rattle.model.specs.Lists.{nth}
 use Rattle.queues.proofs.place_at.Statement.{statement}
 use Rattle.queues.proofs.place_at.Tie as tie
 
@@ -20,7 +20,7 @@ index-of-requires : tie.Need-index-of-requires
 index-of-requires c κs = search needs
 
 returns : tie.Need-returns
-unfolding at
+unfolding nth
 returns c = c .index-of .ensures
 
 pub place-at-spec : {M : Type 1} → statement M

@@ -4,7 +4,7 @@ use mathlib.Core.Path.{ap, _∙_}
 use mathlib.Core.List.{List}
 use Prim.Native.Nat.{ℕ, suc, _+_, _-_}
 use native.Mathlib.Omega.{arith}
-use Rattle.model.specs.Order.{earlier, swap}
+use Rattle.model.specs.list.Order.{earlier, swap}
 use Rattle.order.specs.Places.{rankIn}
 use Rattle.update.proofs.Moving.{drawn-in}
 use Rattle.update.proofs.to_earlier.Statement.{statement}

@@ -5,7 +5,7 @@ use mathlib.Core.List.{List}
 use Prim.Native.Nat.{ℕ, _+_}
 use native.Mathlib.Omega.{arith}
 use lib.ListN.{length}
-use Rattle.model.specs.Order.{later, swap}
+use Rattle.model.specs.list.Order.{later, swap}
 use Rattle.order.specs.Places.{rankIn}
 use Rattle.update.proofs.Moving.{drawn-in}
 use Rattle.update.proofs.to_later.Statement.{statement}

@@ -1,5 +1,5 @@
 -- `block_length` meets its contract: a block is a part of its piece. Assumes nothing.
-use Rattle.model.specs.Bep3.{blocksInPiece, blocksIn, blockLengthAt}
+use Rattle.model.specs.Bep3.{pieceBlocks, blockCount, blockLengthAt}
 use borrow.Author.Needs.{needs}
 use Rattle.geometry.proofs.blocks.block_length.Statement.{statement}
 use Rattle.geometry.proofs.blocks.block_length.Tie as tie
@@ -11,7 +11,7 @@ block-size-requires : tie.Need-block-size-requires
 block-size-requires c κs = search needs
 
 part-length-requires : tie.Need-part-length-requires
-unfolding blocksInPiece blocksIn
+unfolding pieceBlocks blockCount
 part-length-requires c κs = rw (c .before .piece-size .ensures, c .block-size .ensures) (c .before .before .pre .1)
 
 returns : tie.Need-returns

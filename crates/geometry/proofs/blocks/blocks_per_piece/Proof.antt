@@ -1,5 +1,5 @@
 -- `blocks_per_piece` meets its contract: blocks are the parts of a piece. Assumes nothing.
-use Rattle.model.specs.Bep3.{blocksPerPiece}
+use Rattle.model.specs.Bep3.{wholePieceBlocks}
 use borrow.Author.Needs.{needs}
 use Rattle.geometry.proofs.blocks.blocks_per_piece.Statement.{statement}
 use Rattle.geometry.proofs.blocks.blocks_per_piece.Tie as tie
@@ -8,7 +8,7 @@ blocks-of-requires : tie.Need-blocks-of-requires
 blocks-of-requires c κs = search needs
 
 returns : tie.Need-returns
-unfolding blocksPerPiece
+unfolding wholePieceBlocks
 returns c = cc
 
 pub blocks-per-piece-spec : {M : Type 1} → statement M

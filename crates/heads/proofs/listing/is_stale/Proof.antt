@@ -3,7 +3,7 @@ use mathlib.Core.Path.{_∙_, ap}
 use Prim.Native.Nat.{ℕ}
 use lib.Dec.{eqb}
 use Rattle.layout.specs.Layout.{yes?}
-use Rattle.layout.proofs.Meanings.{stale-is}
+use Rattle.layout.proofs.Meanings.{dirty-is}
 use borrow.Author.Needs.{needs}
 use Rattle.heads.proofs.listing.is_stale.Statement.{statement}
 use Rattle.heads.proofs.listing.is_stale.Tie as tie
@@ -13,7 +13,7 @@ head-word-requires c κs = search needs
 
 returns : tie.Need-returns
 unfolding yes?
-returns c = ap (λ (w : ℕ). eqb w 1) (c .head-word .ensures) ∙ stale-is (c .before .before .args .s) (c .before .before .args .mem .now) (c .before .before .pre)
+returns c = ap (λ (w : ℕ). eqb w 1) (c .head-word .ensures) ∙ dirty-is (c .before .before .args .s) (c .before .before .args .mem .now) (c .before .before .pre)
 
 pub is-stale-spec : {M : Type 1} → statement M
 is-stale-spec = tie.close (tie.spec head-word-requires returns)

@@ -4,7 +4,7 @@ use mathlib.Core.List.{List}
 use Prim.Native.Nat.{ℕ}
 use lib.ListN.{set}
 use Rattle.layout.proofs.RoomLaws.{became-at}
-use Rattle.heads.proofs.HeadLaws.{stale-set}
+use Rattle.heads.proofs.HeadLaws.{dirty-set}
 use borrow.Author.Needs.{needs}
 use Rattle.heads.proofs.listing.set_stale.Statement.{statement}
 use Rattle.heads.proofs.listing.set_stale.Tie as tie
@@ -21,7 +21,7 @@ same-length c = search needs
 returns : tie.Need-returns
 returns c =
     became-at _ _ _ _ _ (c .before .before .set-head-word2 .ensures ∙ ap (λ (m : List ℕ). set m 5 1) (c .before .before .before .before .before .before .set-head-word .ensures))
-    (stale-set (c .before .before .before .before .before .before .before .before .before .args .s) (c .before .before .before .before .before .before .before .before .before .args .mem .now) (c .before .before .before .before .before .before .before .before .before .pre))
+    (dirty-set (c .before .before .before .before .before .before .before .before .before .args .s) (c .before .before .before .before .before .before .before .before .before .args .mem .now) (c .before .before .before .before .before .before .before .before .before .pre))
 
 pub set-stale-spec : {M : Type 1} → statement M
 set-stale-spec =

@@ -1,7 +1,7 @@
 -- `listing::refresh` meets its contract. Assumes nothing.
 use mathlib.Core.Path.{sym, _∙_}
 use borrow.Author.Needs.{needs}
-use Rattle.listing.proofs.Renewals.{refresh-stale, refresh-fresh}
+use Rattle.listing.proofs.Renewals.{updatePieces-dirty, updatePieces-fresh}
 use Rattle.listing.proofs.lists.refresh.Statement.{statement}
 use Rattle.listing.proofs.lists.refresh.Tie as tie
 
@@ -17,7 +17,7 @@ same-length c = search needs
 returns : tie.Need-returns
 returns c =
     let t = c .before .before .before .before .before .before .before .before .before in
-    refresh-stale (t .args .s) (t .args .mem .now) (t .args .draws .now) (t .args .t) (sym (c .before .before .before .before .before .is-stale .ensures) ∙ c .before .before .before .before .if1 .taken)
+    updatePieces-dirty (t .args .s) (t .args .mem .now) (t .args .draws .now) (t .args .t) (sym (c .before .before .before .before .before .is-stale .ensures) ∙ c .before .before .before .before .if1 .taken)
     (c .before .before .rebuild-list .last .0) (c .before .before .rebuild-list .result) (c .before .before .rebuild-list .ensures)
 
 same-length-2 : tie.Need-same-length-2
@@ -26,7 +26,7 @@ same-length-2 c = search needs
 returns-2 : tie.Need-returns-2
 returns-2 c =
     let t = c .before .before .before .before .before in
-    refresh-fresh (t .args .s) (t .args .mem .now) (t .args .draws .now) (t .args .t) (t .pre .0) (sym (c .before .is-stale .ensures) ∙ c .if1 .left)
+    updatePieces-fresh (t .args .s) (t .args .mem .now) (t .args .draws .now) (t .args .t) (t .pre .0) (sym (c .before .is-stale .ensures) ∙ c .if1 .left)
 
 pub refresh-spec : {M : Type 1} → statement M
 refresh-spec =

@@ -6,7 +6,7 @@ use borrow.Author.Needs.{needs}
 use Rattle.types.specs.Piece.{indexOf}
 use Rattle.layout.specs.Layout.{decode}
 use Rattle.listing.specs.Listings.{OrderBefore}
-use Rattle.listing.proofs.Mendings.{order-before, relist-stale, relist-same, relist-fresh}
+use Rattle.listing.proofs.Mendings.{order-before, update-dirty, update-same, update-fresh}
 use Rattle.listing.proofs.lists.relist.Statement.{statement}
 use Rattle.listing.proofs.lists.relist.Tie as tie
 
@@ -19,7 +19,7 @@ same-length c = search needs
 returns : tie.Need-returns
 returns c =
     let t = c .before .before .before .before .before in
-    relist-stale (t .args .s) (t .args .mem .now) (t .args .draws .now) (t .args .old) (indexOf (t .args .piece .0)) (t .args .t) (t .pre .0)
+    update-dirty (t .args .s) (t .args .mem .now) (t .args .draws .now) (t .args .old) (indexOf (t .args .piece .0)) (t .args .t) (t .pre .0)
     (sym (c .before .is-stale .ensures) ∙ c .if1 .taken)
 
 get-requires : tie.Need-get-requires
@@ -35,7 +35,7 @@ same-length-2 c = search needs
 returns-2 : tie.Need-returns-2
 returns-2 c =
     let t = c .before .before .before .before .before .before .before .before .before in
-    relist-same (t .args .s) (t .args .mem .now) (t .args .t) (t .pre .0) (t .args .draws .now) (t .args .old) (indexOf (t .args .piece .0))
+    update-same (t .args .s) (t .args .mem .now) (t .args .t) (t .pre .0) (t .args .draws .now) (t .args .old) (indexOf (t .args .piece .0))
     (c .before .before .before .get .result) (c .before .before .before .get .ensures) (c .before .rank-at .result) (c .before .rank-at .ensures .0) (c .if2 .taken)
 
 mend-list-requires : tie.Need-mend-list-requires
@@ -64,7 +64,7 @@ returns-3 c =
     let t = c .before .before .before .before .before .before .before .before .before .before .before .before .before in
     let d = c .before .before .before .before .before .before .before in
     let u = c .before .before .mend-list in
-    relist-fresh (t .args .s) (t .args .mem .now) (t .args .draws .now) (t .args .old) (indexOf (t .args .piece .0)) (t .args .t)
+    update-fresh (t .args .s) (t .args .mem .now) (t .args .draws .now) (t .args .old) (indexOf (t .args .piece .0)) (t .args .t)
     (sym (d .before .before .is-stale .ensures) ∙ d .before .if1 .left) (d .get .result) (d .get .ensures) (u .last .0) (u .result) (u .ensures)
 
 pub relist-spec : {M : Type 1} → statement M

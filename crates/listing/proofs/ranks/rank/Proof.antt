@@ -1,7 +1,7 @@
 -- `listing::rank` meets its contract. Assumes nothing.
 use mathlib.Core.Path.{ap, _∙_}
 use borrow.Author.Needs.{needs}
-use Rattle.model.specs.Order.{rank}
+use Rattle.model.specs.list.Order.{rank}
 use Rattle.layout.specs.Layout.{decode}
 use Rattle.listing.proofs.ranks.rank.Statement.{statement}
 use Rattle.listing.proofs.ranks.rank.Tie as tie

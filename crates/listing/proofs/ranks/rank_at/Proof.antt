@@ -1,6 +1,6 @@
 -- `listing::rank_at` meets its contract. Assumes nothing.
 use borrow.Author.Needs.{needs}
-use Rattle.listing.proofs.Ranking.{count-most, wish-most, rank-is}
+use Rattle.listing.proofs.Ranking.{count-most, priority-most, rank-is}
 use Rattle.listing.proofs.ranks.rank_at.Statement.{statement}
 use Rattle.listing.proofs.ranks.rank_at.Tie as tie
 
@@ -23,7 +23,7 @@ rank-by-requires : tie.Need-rank-by-requires
 rank-by-requires c κs =
     let t = c .before .before .before .before .before .before in (
       count-most (t .args .s) (t .args .mem .now) (t .pre .0) (t .pre .1 .0) (t .args .i) (t .pre .1 .1) _ (c .before .before .before .piece-word .ensures),
-      wish-most (t .args .s) (t .args .mem .now) (t .pre .0) (t .pre .1 .0) (t .args .i) (t .pre .1 .1) _ (c .before .piece-word3 .ensures),
+      priority-most (t .args .s) (t .args .mem .now) (t .pre .0) (t .pre .1 .0) (t .args .i) (t .pre .1 .1) _ (c .before .piece-word3 .ensures),
     )
 
 returns : tie.Need-returns

@@ -9,10 +9,10 @@ use Rattle.partial_rows.proofs.blocks.rows_pass.Statement.{statement}
 use Rattle.partial_rows.proofs.blocks.rows_pass.Tie as tie
 
 abbrev Inv-loop : tie.InvT-loop
-Inv-loop states requesters has peers many sum₀ requested₀ busy₀ j₀ sum requested busy j = (j ≤ many) × Counting states requesters has peers sum requested busy j
+Inv-loop states numPeers has peers many sum₀ requested₀ busy₀ j₀ sum requested busy j = (j ≤ many) × Counting states numPeers has peers sum requested busy j
 
 abbrev μ-loop : tie.MeasureT-loop
-μ-loop states requesters has peers many sum₀ requested₀ busy₀ j₀ sum requested busy j = many - j
+μ-loop states numPeers has peers many sum₀ requested₀ busy₀ j₀ sum requested busy j = many - j
 
 loop-holds : tie.Need-loop-holds Inv-loop μ-loop
 loop-holds c = (omega arith, counting-start _ _ _ _)

@@ -1,12 +1,12 @@
 -- `state_due` meets its contract: a law for each case. Assumes nothing.
 use mathlib.Core.Logic.{⊎-elim}
 use borrow.Author.Tests.{not-true, not-false}
-use Rattle.partial_rows.proofs.StateLaws.{due-unwished, due-left, due-some, due-full, due-all}
+use Rattle.partial_rows.proofs.StateLaws.{due-filtered, due-left, due-some, due-full, due-all}
 use Rattle.partial_rows.proofs.states.state_due.Statement.{statement}
 use Rattle.partial_rows.proofs.states.state_due.Tie as tie
 
 returns : tie.Need-returns
-returns c = due-unwished _ _ _ _ _ (c .if1 .taken)
+returns c = due-filtered _ _ _ _ _ (c .if1 .taken)
 
 returns-2 : tie.Need-returns-2
 returns-2 c = due-left _ _ _ _ _ (c .before .before .if1 .left) (c .before .if2 .taken) (not-true _ (c .if3 .taken))

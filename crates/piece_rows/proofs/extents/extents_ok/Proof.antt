@@ -33,39 +33,39 @@ loop-holds : tie.Need-loop-holds Inv-loop μ-loop
 loop-holds c = extending-start _
 
 add-head-word : tie.Need-add-head-word Inv-loop μ-loop
-add-head-word c = omega (arith, headed _ (c .before .before .before .before .before .before .before .before .pre .1) .extents)
+add-head-word c = omega (arith, headed _ (c .before .before .before .before .before .before .before .before .pre .1) .recentExtents)
 
 head-word-requires-2 : tie.Need-head-word-requires-2 Inv-loop μ-loop
-head-word-requires-2 c κs = (c .before .before .before .before .before .before .before .before .pre .0 .spans .head, omega (arith, headed _ (c .before .before .before .before .before .before .before .before .pre .1) .extents))
+head-word-requires-2 c κs = (c .before .before .before .before .before .before .before .before .pre .0 .spans .head, omega (arith, headed _ (c .before .before .before .before .before .before .before .before .pre .1) .recentExtents))
 
 returns : tie.Need-returns Inv-loop μ-loop
 returns c =
-    far-extent _ _ (c .before .before .before .before .before .before .before .before .before .before .pre .0) (headed _ (c .before .before .before .before .before .before .before .before .before .before .pre .1) .extents) (c .before .before .before .loop .k) (c .before .before .before .loop .inv) (omega arith) _ (c .before .before .before .before .before .before .before .before .word .result) (c .before .before .before .before .before .before .before .word2 .result) _
+    far-extent _ _ (c .before .before .before .before .before .before .before .before .before .before .pre .0) (headed _ (c .before .before .before .before .before .before .before .before .before .before .pre .1) .recentExtents) (c .before .before .before .loop .k) (c .before .before .before .loop .inv) (omega arith) _ (c .before .before .before .before .before .before .before .before .word .result) (c .before .before .before .before .before .before .before .word2 .result) _
     (c .before .before .before .before .before .before .num-extents .ensures) (c .before .before .before .before .before .before .before .before .word .ensures) (c .before .before .before .before .before .before .before .word2 .ensures) (c .before .head-word2 .ensures) (c .if1 .taken)
 
 among-requires : tie.Need-among-requires Inv-loop μ-loop
-among-requires c κs = (c .before .before .before .before .before .before .before .before .before .before .pre .0 .spans .head, omega (arith, headed _ (c .before .before .before .before .before .before .before .before .before .before .pre .1) .extents))
+among-requires c κs = (c .before .before .before .before .before .before .before .before .before .before .pre .0 .spans .head, omega (arith, headed _ (c .before .before .before .before .before .before .before .before .before .before .pre .1) .recentExtents))
 
 returns-2 : tie.Need-returns-2 Inv-loop μ-loop
 returns-2 c =
-    twice-extent _ _ (c .before .before .before .before .before .before .before .before .before .before .before .before .pre .0) (headed _ (c .before .before .before .before .before .before .before .before .before .before .before .before .pre .1) .extents) (c .before .before .before .before .before .loop .k) (c .before .before .before .before .before .loop .inv) (omega arith) _ (c .before .before .before .before .before .before .before .before .before .before .word .result) (c .before .before .before .before .before .before .before .before .before .word2 .result) _
+    twice-extent _ _ (c .before .before .before .before .before .before .before .before .before .before .before .before .pre .0) (headed _ (c .before .before .before .before .before .before .before .before .before .before .before .before .pre .1) .recentExtents) (c .before .before .before .before .before .loop .k) (c .before .before .before .before .before .loop .inv) (omega arith) _ (c .before .before .before .before .before .before .before .before .before .before .word .result) (c .before .before .before .before .before .before .before .before .before .word2 .result) _
     (c .before .before .before .before .before .before .before .before .num-extents .ensures) (c .before .before .before .before .before .before .before .before .before .before .word .ensures) (c .before .before .before .before .before .before .before .before .before .word2 .ensures) (c .before .before .before .head-word2 .ensures) (omega arith)
     (sym (c .before .among .ensures) ∙ c .if2 .taken)
 
 add-k : tie.Need-add-k Inv-loop μ-loop
-add-k c = omega (arith, headed _ (c .before .before .before .before .before .before .before .before .before .before .before .before .pre .1) .extents)
+add-k c = omega (arith, headed _ (c .before .before .before .before .before .before .before .before .before .before .before .before .pre .1) .recentExtents)
 
 loop-less : tie.Need-loop-less Inv-loop μ-loop
 loop-less c = search needs
 
 loop-again : tie.Need-loop-again Inv-loop μ-loop
 loop-again c =
-    next-extent _ _ (c .before .before .before .before .before .before .before .before .before .before .before .before .pre .0) (headed _ (c .before .before .before .before .before .before .before .before .before .before .before .before .pre .1) .extents) (c .before .before .before .before .before .loop .k) (c .before .before .before .before .before .loop .inv) (omega arith) _ (c .before .before .before .before .before .before .before .before .before .before .word .result) (c .before .before .before .before .before .before .before .before .before .word2 .result) _
+    next-extent _ _ (c .before .before .before .before .before .before .before .before .before .before .before .before .pre .0) (headed _ (c .before .before .before .before .before .before .before .before .before .before .before .before .pre .1) .recentExtents) (c .before .before .before .before .before .loop .k) (c .before .before .before .before .before .loop .inv) (omega arith) _ (c .before .before .before .before .before .before .before .before .before .before .word .result) (c .before .before .before .before .before .before .before .before .before .word2 .result) _
     (c .before .before .before .before .before .before .before .before .num-extents .ensures) (c .before .before .before .before .before .before .before .before .before .before .word .ensures) (c .before .before .before .before .before .before .before .before .before .word2 .ensures) (c .before .before .before .head-word2 .ensures) (omega arith)
     (sym (c .before .among .ensures) ∙ c .if2 .left)
 
 returns-3 : tie.Need-returns-3 Inv-loop μ-loop
-returns-3 c = extents-end _ _ (c .before .before .before .before .before .before .before .before .pre .0) (headed _ (c .before .before .before .before .before .before .before .before .pre .1) .extents) (c .before .loop .k) (c .before .loop .inv) (omega arith)
+returns-3 c = extents-end _ _ (c .before .before .before .before .before .before .before .before .pre .0) (headed _ (c .before .before .before .before .before .before .before .before .pre .1) .recentExtents) (c .before .loop .k) (c .before .loop .inv) (omega arith)
 
 pub extents-ok-spec : {M : Type 1} → statement M
 extents-ok-spec =

@@ -1,15 +1,15 @@
 -- `piece_rows::lengths_ok` meets its contract: each way out by one law.
 use native.Mathlib.Omega.{arith}
 use mathlib.Core.Logic.{⊎-elim}
-use Rattle.piece_rows.proofs.HeadLaws.{many-stale, stale-listed, long-list, many-partials, extents-test}
+use Rattle.piece_rows.proofs.HeadLaws.{many-dirty, dirty-listed, long-list, many-partials, extents-test}
 use Rattle.piece_rows.proofs.head.lengths_ok.Statement.{statement}
 use Rattle.piece_rows.proofs.head.lengths_ok.Tie as tie
 
 returns : tie.Need-returns
-returns c = many-stale _ _ _ _ _ _ (omega arith)
+returns c = many-dirty _ _ _ _ _ _ (omega arith)
 
 returns-2 : tie.Need-returns-2
-returns-2 c = stale-listed _ _ _ _ _ _ (omega arith) (omega arith)
+returns-2 c = dirty-listed _ _ _ _ _ _ (omega arith) (omega arith)
 
 returns-3 : tie.Need-returns-3
 returns-3 c = long-list _ _ _ _ _ _ (omega arith) (omega arith)

@@ -1,7 +1,7 @@
--- `piece_rows::order_ok` meets its contract: the stale flag, the count and the places are the parts of the definition.
+-- `piece_rows::order_ok` meets its contract: the dirty flag, the count and the places are the parts of the definition.
 use mathlib.Core.Path.{_∙_}
 use native.Mathlib.Omega.{arith}
-use Rattle.piece_rows.proofs.OrderTests.{stale-list, other-many, as-many}
+use Rattle.piece_rows.proofs.OrderTests.{dirty-list, other-many, as-many}
 use borrow.Author.Needs.{needs}
 use Rattle.piece_rows.proofs.order.order_ok.Statement.{statement}
 use Rattle.piece_rows.proofs.order.order_ok.Tie as tie
@@ -10,7 +10,7 @@ head-word-requires : tie.Need-head-word-requires
 head-word-requires c κs = search needs
 
 returns : tie.Need-returns
-returns c = stale-list _ _ _ (c .before .before .before .before .pre) (c .before .head-word .result) (c .before .head-word .ensures) (c .if1 .taken)
+returns c = dirty-list _ _ _ (c .before .before .before .before .pre) (c .before .head-word .result) (c .before .head-word .ensures) (c .if1 .taken)
 
 head-word-requires-2 : tie.Need-head-word-requires-2
 head-word-requires-2 c κs = search needs

@@ -3,13 +3,13 @@ use mathlib.Core.Path.{_∙_}
 use mathlib.Core.List.{[]}
 use native.Mathlib.Omega.{arith}
 use lib.ListN.{getD}
-use Rattle.piece_rows.proofs.WeightLaws.{weight-small, had-none, peers-none, weighed}
+use Rattle.piece_rows.proofs.WeightLaws.{weight-small, flushed-none, peers-none, weighed}
 use borrow.Author.Needs.{needs}
 use Rattle.piece_rows.proofs.weights.key_of.Statement.{statement}
 use Rattle.piece_rows.proofs.weights.key_of.Tie as tie
 
 returns : tie.Need-returns
-returns c = had-none _ _ _ _ _ (c .before .pre .0) (c .if1 .taken)
+returns c = flushed-none _ _ _ _ _ (c .before .pre .0) (c .if1 .taken)
 
 returns-2 : tie.Need-returns-2
 returns-2 c = peers-none _ _ _ _ _ (c .before .before .pre .0) (c .if2 .taken)
@@ -33,7 +33,7 @@ index-2-weight : tie.Need-index-2-weight
 index-2-weight c = search needs
 
 cast-weight : tie.Need-cast-weight
-cast-weight c = omega (arith, weight-small _ _ _ (c .before .before .before .before .before .pre .0 .state-most) (c .before .before .before .before .before .pre .0 .wish-most) (λ k. getD (getD (c .before .before .before .before .before .pre .1 k) (c .before .before .idx .ensures k) []) (c .before .idx2 .ensures k) 0))
+cast-weight c = omega (arith, weight-small _ _ _ (c .before .before .before .before .before .pre .0 .state-most) (c .before .before .before .before .before .pre .0 .priority-most) (λ k. getD (getD (c .before .before .before .before .before .pre .1 k) (c .before .before .idx .ensures k) []) (c .before .idx2 .ensures k) 0))
 
 add-short : tie.Need-add-short
 add-short c = search needs

@@ -1,0 +1,5 @@
+pub mod Bep3Laws
+pub mod Truths
+pub mod Phases
+pub mod Counts
+pub mod WalkLaws

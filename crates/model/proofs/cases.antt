@@ -1,0 +1,3 @@
+pub mod Everything
+pub mod Examples
+pub mod Bep3Cases

@@ -1,0 +1,9 @@
+pub mod Replies
+pub mod Bytes
+pub mod Codec
+pub mod Records
+pub mod Parts
+pub mod Same
+pub mod ImageLaws
+pub mod Steady
+pub mod Faults

@@ -1,0 +1,12 @@
+pub mod KeepCounts
+pub mod KeepCursors
+pub mod KeepExtents
+pub mod KeepState
+pub mod KeepBlocks
+pub mod KeepClose
+pub mod KeepOpen
+pub mod KeepDirection
+pub mod KeepMarks
+pub mod KeepPriority
+pub mod KeepCalls
+pub mod CallDraws

@@ -1,0 +1,9 @@
+pub mod BucketLaws
+pub mod GroupTurns
+pub mod GroupRise
+pub mod GroupMoves
+pub mod ListedMoves
+pub mod ListedRebuild
+pub mod ListedLaws
+pub mod RankLaws
+pub mod ListingLaws

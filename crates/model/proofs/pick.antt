@@ -1,0 +1,15 @@
+pub mod FrameLaws
+pub mod PhaseLaws
+pub mod CounterLaws
+pub mod PickerLaws
+pub mod SoundPick
+pub mod SpanLaws
+pub mod BoundLaws
+pub mod OutputLaws
+pub mod TraceLaws
+pub mod RoundLaws
+pub mod RingLaws
+pub mod RandLoops
+pub mod LoopFrame
+pub mod LoopCount
+pub mod LoopLaws

@@ -1,0 +1,9 @@
+pub mod PieceLaws
+pub mod PartialLaws
+pub mod SoundPieces
+pub mod SoundPartials
+pub mod SoundListing
+pub mod SoundLaws
+pub mod NewSound
+pub mod SoundBody
+pub mod SoundFields

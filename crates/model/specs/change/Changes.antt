@@ -1,0 +1,312 @@
+-- The changes of a standing picker, where they are not refused. Assumes nothing.
+use Prim.Native.Nat.{ℕ, zero, suc, _+_, _-_}
+use mathlib.Core.Bool.{Bool, true, false, cond, not, _&&_, _||_}
+use mathlib.Core.List.{List, [], _∷_, _++_}
+use mathlib.Core.Option.{Option, none, some}
+use lib.ListN.{drop}
+use lib.Dec.{eqb, ltb, leb}
+use Rattle.types.specs.declared.queue.DownloadQueue.{DownloadQueue}
+use Rattle.types.specs.declared.queue.DownloadQueue.the-variants.{Downloading, DownloadingReverse}
+use Rattle.types.specs.declared.block.BlockState.the-variants.{None, Requested, Writing, Finished}
+use Rattle.types.specs.Queue.{unreverse, makeReverse, isReverse}
+use Rattle.types.specs.Bits.{meets}
+use Rattle.model.specs.Lists.{bit, every, filter, each, len, member, range, unless, when}
+use Rattle.model.specs.State.{Piece, Block, DownloadingPiece, Picker, maxExtents, extentBlocks, isOpen, sameBlockState, samePeer}
+use Rattle.model.specs.State.{hasPeer, withPeerCount, withPriority, withFlushed, withState, withPeer, withFlags, withSeeds}
+use Rattle.model.specs.State.{withCursors, withPieces, withPiece, withRecentExtents, pieceAt, piecesIn, markDirty, blocksInPiece}
+use Rattle.model.specs.State.{blocksPerPiece, extentFor, extentStart, extentEnd}
+use Rattle.model.specs.list.Order.{Drawing, drawing, noDraw, rank, changeAndUpdate}
+use Rattle.model.specs.Options.{reverse, pieceExtentAffinity}
+use Rattle.model.specs.change.Partials.{partialOf, blockAt, blocksInState, progress, replacePartial, replaceBlock, setState}
+use Rattle.model.specs.change.Partials.{updatePieceState, addDownloadPiece, eraseDownloadPiece, eraseAndUpdate}
+
+-- ---- what a change answers
+-- nothing, or true or false; the picker after it, and the draws used
+pub record Change : Type 0 where
+  pub answer : Option Bool
+  pub after : Drawing
+
+-- a change that answers nothing
+unfoldable pub quietly : Drawing → Change
+quietly w = record { answer = none; after = w }
+
+-- a change that answers true or false
+unfoldable pub saying : Bool → Drawing → Change
+saying b w = record { answer = some b; after = w }
+
+-- ---- availability
+unfoldable pub incPeerCount : Piece → Piece
+incPeerCount p = withPeerCount (suc (p .peerCount)) p
+
+-- a peer less
+unfoldable pub decPeerCount : Piece → Piece
+decPeerCount p = withPeerCount (p .peerCount - 1) p
+
+-- every piece changed
+unfoldable pub allPieces : (Piece → Piece) → Picker → Picker
+allPieces f s = withPieces (each f (s .pieces)) s
+
+-- `inc_refcount`: a peer has piece i
+unfoldable pub incRefcount : List ℕ → ℕ → Drawing → Drawing
+incRefcount ds i w = changeAndUpdate ds i (withPiece i incPeerCount) w
+
+-- a seed turns out to lack a piece: it counts with each piece from now on
+unfoldable pub breakOneSeed : Picker → Picker
+breakOneSeed s = markDirty (allPieces incPeerCount (withSeeds (s .seeds - 1) s))
+
+-- `dec_refcount`: a peer has it no more; where only seeds had it, one of them is broken first
+unfoldable pub decRefcount : List ℕ → ℕ → Drawing → Drawing
+decRefcount ds i w = changeAndUpdate ds i (withPiece i decPeerCount) (when (eqb (pieceAt (w .picker) i .peerCount) 0) (noDraw breakOneSeed) w)
+
+-- a first seed, or no seed any more, changes which pieces have a bucket
+unfoldable pub incRefcountAll : Picker → Picker
+incRefcountAll s = when (eqb (s .seeds) 0) markDirty (withSeeds (suc (s .seeds)) s)
+
+-- `dec_refcount_all`: a seed goes, or, without one, a peer of each piece
+unfoldable pub decRefcountAll : Picker → Picker
+decRefcountAll s =
+    cond (eqb (s .seeds) 0) (markDirty (allPieces decPeerCount s)) (when (eqb (s .seeds) 1) markDirty (withSeeds (s .seeds - 1) s))
+
+-- ---- cursors
+-- nothing of the piece is wanted any more
+unfoldable pub flushedOrFiltered : Piece → Bool
+flushedOrFiltered p = p .flushed || eqb (p .priority) 0
+
+-- how many in front are settled
+unfoldable pub flushedOrFilteredRun : List Piece → ℕ
+flushedOrFilteredRun [] = 0
+flushedOrFilteredRun (p ∷ ps) = cond (flushedOrFiltered p) (suc (flushedOrFilteredRun ps)) 0
+
+-- the first piece from i on that is not settled
+unfoldable pub cursorFrom : Picker → ℕ → ℕ
+cursorFrom s i = i + flushedOrFilteredRun (drop i (s .pieces))
+
+-- one past the last piece below i that is not settled
+unfoldable pub reverseFrom : Picker → ℕ → ℕ
+reverseFrom s zero = 0
+reverseFrom s (suc i) = cond (flushedOrFiltered (pieceAt s i)) (reverseFrom s i) (suc i)
+
+-- the cursors past each other
+unfoldable pub emptyRange : Picker → Picker
+emptyRange s = withCursors (piecesIn s) 0 s
+
+-- piece i is settled now: a cursor that stands at it moves on
+unfoldable pub advanceCursors : ℕ → Picker → Picker
+advanceCursors i s =
+    cond (eqb (s .cursor) i && eqb (s .reverseCursor) (suc i)) (emptyRange s)
+    (cond (eqb (s .cursor) i) (withCursors (cursorFrom s (suc i)) (s .reverseCursor) s)
+    (cond (eqb (s .reverseCursor) (suc i)) (withCursors (s .cursor) (reverseFrom s i) s) s))
+
+-- ---- priorities
+-- the cursors where piece i, not had, begins to be left out, or ends to be
+unfoldable pub cursorsOnFilter : ℕ → ℕ → Picker → Picker
+cursorsOnFilter i priority s = cond (eqb priority 0) (advanceCursors i s) (when (eqb (s .cursor) (s .reverseCursor)) emptyRange s)
+
+-- the priority turns from or to 0
+unfoldable pub filterChanges : ℕ → Piece → Bool
+filterChanges priority p = not (eqb (bit (eqb priority 0)) (bit (eqb (p .priority) 0)))
+
+-- cursors, priority and list, then the state of a partial
+unfoldable pub prioritySet : List ℕ → ℕ → ℕ → Drawing → Drawing
+prioritySet ds i priority w =
+    let p = pieceAt (w .picker) i in
+    let turned = when (filterChanges priority p && not (p .flushed)) (noDraw (cursorsOnFilter i priority)) w in
+    let listed = changeAndUpdate ds i (withPiece i (withPriority priority)) turned in
+    unless (isOpen (p .state)) (updatePieceState ds i) listed
+
+-- `set_piece_priority`: answers whether the priority turned from or to 0
+unfoldable pub setPiecePriority : List ℕ → ℕ → ℕ → Drawing → Change
+setPiecePriority ds i priority w =
+    let p = pieceAt (w .picker) i in
+    saying (filterChanges priority p) (unless (eqb priority (p .priority)) (prioritySet ds i priority) w)
+
+-- ---- extents
+-- the other pieces of i's extent
+unfoldable pub neighbours : Picker → ℕ → List Piece
+neighbours s i =
+    each (pieceAt s) (filter (λ k. not (eqb k i)) (range (extentStart s (extentFor s i)) (extentEnd s (extentFor s i))))
+
+-- they have this one's priority, and not all are had
+unfoldable pub worthRecording : Picker → ℕ → Bool
+worthRecording s i =
+    every (λ p. eqb (p .priority) (pieceAt s i .priority)) (neighbours s i) && not (every (λ p. p .flushed) (neighbours s i))
+
+-- the extent is recorded: none at 256 blocks, none twice, no sixth
+unfoldable pub recordable : Picker → ℕ → Bool
+recordable s i =
+    ltb (blocksPerPiece s) extentBlocks
+    && (not (member (extentFor s i) (s .recentExtents)) && (ltb (len (s .recentExtents)) maxExtents && worthRecording s i))
+
+-- `record_downloading_piece`
+unfoldable pub recordDownloadingPiece : ℕ → Picker → Picker
+recordDownloadingPiece i s = when (recordable s i) (withRecentExtents (s .recentExtents ++ (extentFor s i ∷ []))) s
+
+-- ---- marks
+unfoldable pub reverseAsked : ℕ → Bool
+reverseAsked options = meets options reverse
+
+-- PIECE_EXTENT_AFFINITY is asked for
+unfoldable pub affinityAsked : ℕ → Bool
+affinityAsked options = meets options pieceExtentAffinity
+
+-- Open piece i becomes a partial, first in state `q`
+unfoldable pub opened : List ℕ → ℕ → DownloadQueue → Bool → Drawing → Drawing
+opened ds i q affinity w = addDownloadPiece ds i (when affinity (noDraw (recordDownloadingPiece i)) (setState ds i q w))
+
+-- block j of a standing partial replaced, and the piece's state after it
+unfoldable pub setBlock : List ℕ → ℕ → DownloadingPiece → ℕ → Block → Drawing → Drawing
+setBlock ds i d j b w = updatePieceState ds i (noDraw (replaceBlock d j b) w)
+
+-- the block marked in a piece just opened, unless its pad bytes finished it
+unfoldable pub markFirst : List ℕ → ℕ → Option DownloadingPiece → ℕ → Block → Drawing → Change
+markFirst ds i none j b w = saying false w
+markFirst ds i (some d) j b w =
+    cond (sameBlockState (blockAt d j .state) Finished) (saying false w) (saying true (setBlock ds i d j b w))
+
+-- a block of an Open piece marked
+unfoldable pub markOpening : List ℕ → ℕ → DownloadQueue → Bool → ℕ → Block → Drawing → Change
+markOpening ds i q affinity j b w =
+    let o = opened ds i q affinity w in
+    markFirst ds i (partialOf (o .picker) i) j b o
+
+-- the piece turned reverse or back. One that gets a bucket by it is not put into the list: the list is dirty
+unfoldable pub setDirection : List ℕ → ℕ → DownloadQueue → Drawing → Drawing
+setDirection ds i q w =
+    let s = withPiece i (withState q) (w .picker) in
+    cond (eqb (rank (w .picker) i) 0 && ltb 0 (rank s i)) (drawing (w .used) (markDirty s)) (setState ds i q w)
+
+-- under REVERSE a piece that nobody works on turns reverse
+unfoldable pub makePieceReverse : List ℕ → ℕ → Bool → DownloadingPiece → Drawing → Drawing
+makePieceReverse ds i back d w =
+    let q = pieceAt (w .picker) i .state in
+    when (back && (not (isReverse q) && eqb (blocksInState Requested d) 0)) (setDirection ds i (makeReverse q)) w
+
+-- without REVERSE a reverse piece turns back
+unfoldable pub unreversePiece : List ℕ → ℕ → Bool → Drawing → Drawing
+unreversePiece ds i back w =
+    let q = pieceAt (w .picker) i .state in
+    when (not back && isReverse q) (setDirection ds i (unreverse q)) w
+
+-- a block requested by n peers, last by this one
+unfoldable pub requestedBy : Option ℕ → ℕ → Block
+requestedBy peer n = record { state = Requested; numPeers = n; peer = peer }
+
+-- a block that this peer brought
+unfoldable pub writtenBy : Option ℕ → Block
+writtenBy peer = record { state = Writing; numPeers = 0; peer = peer }
+
+-- a block on disk
+unfoldable pub finishedBy : Option ℕ → ℕ → Block
+finishedBy peer n = record { state = Finished; numPeers = n; peer = peer }
+
+-- Writing or Finished
+unfoldable pub received : Block → Bool
+received b = sameBlockState (b .state) Writing || sameBlockState (b .state) Finished
+
+-- a block of a standing partial requested once more
+unfoldable pub request : List ℕ → ℕ → DownloadingPiece → ℕ → Option ℕ → Bool → Drawing → Drawing
+request ds i d j peer back w =
+    unreversePiece ds i back
+    (setBlock ds i d j (requestedBy peer (suc (blockAt d j .numPeers))) (makePieceReverse ds i back d w))
+
+-- by whether a partial stands
+unfoldable pub markDownloadingIn : List ℕ → ℕ → Option DownloadingPiece → ℕ → Option ℕ → ℕ → Drawing → Change
+markDownloadingIn ds i none j peer options w =
+    markOpening ds i (cond (reverseAsked options) DownloadingReverse Downloading) (affinityAsked options) j (requestedBy peer 1) w
+markDownloadingIn ds i (some d) j peer options w =
+    cond (received (blockAt d j)) (saying false w) (saying true (request ds i d j peer (reverseAsked options) w))
+
+-- `mark_as_downloading`
+unfoldable pub markAsDownloading : List ℕ → ℕ → ℕ → Option ℕ → ℕ → Drawing → Change
+markAsDownloading ds i j peer options w = markDownloadingIn ds i (partialOf (w .picker) i) j peer options w
+
+-- a block that was received before only changes its peer
+unfoldable pub markWritingIn : List ℕ → ℕ → Option DownloadingPiece → ℕ → Option ℕ → Drawing → Change
+markWritingIn ds i none j peer w =
+    cond (pieceAt (w .picker) i .flushed) (saying false w) (markOpening ds i Downloading false j (writtenBy peer) w)
+markWritingIn ds i (some d) j peer w =
+    cond (received (blockAt d j)) (saying false (noDraw (replaceBlock d j (withPeer peer (blockAt d j))) w))
+    (saying true (setBlock ds i d j (writtenBy peer) w))
+
+-- `mark_as_writing`
+unfoldable pub markAsWriting : List ℕ → ℕ → ℕ → Option ℕ → Drawing → Change
+markAsWriting ds i j peer w = markWritingIn ds i (partialOf (w .picker) i) j peer w
+
+-- the whole piece is on disk: had, its partial gone. It has no bucket before or after
+unfoldable pub pieceFlushed : ℕ → Picker → Picker
+pieceFlushed i s = advanceCursors i (withPiece i withFlushed (eraseDownloadPiece i s))
+
+-- every block is on disk
+unfoldable pub allFinished : Picker → DownloadingPiece → Bool
+allFinished s d = leb (blocksInPiece s (d .piece)) (blocksInState Finished d)
+
+-- a passed piece with all blocks finished goes, unless it is locked or being hashed
+unfoldable pub flushIf : ℕ → Option DownloadingPiece → Picker → Picker
+flushIf i none s = s
+flushIf i (some d) s =
+    when (allFinished s d && (d .passedHashCheck && (not (d .hashing) && not (d .locked)))) (pieceFlushed i) s
+
+-- where a partial stands
+unfoldable pub flushDone : ℕ → Picker → Picker
+flushDone i s = flushIf i (partialOf s i) s
+
+-- a Writing block keeps its peer where no peer brings the news
+unfoldable pub finishedPeer : Option ℕ → Block → Option ℕ
+finishedPeer peer b = cond (sameBlockState (b .state) Writing && not (hasPeer peer)) (b .peer) peer
+
+-- by whether a partial stands
+unfoldable pub markFinishedIn : List ℕ → ℕ → Option DownloadingPiece → ℕ → Option ℕ → Drawing → Drawing
+markFinishedIn ds i none j peer w =
+    cond (pieceAt (w .picker) i .flushed) w (markOpening ds i Downloading false j (finishedBy peer 0) w .after)
+markFinishedIn ds i (some d) j peer w =
+    let b = blockAt d j in
+    cond (sameBlockState (b .state) Finished) w (noDraw (flushDone i) (setBlock ds i d j (finishedBy (finishedPeer peer b) (b .numPeers)) w))
+
+-- `mark_as_finished`
+unfoldable pub markAsFinished : List ℕ → ℕ → ℕ → Option ℕ → Drawing → Drawing
+markAsFinished ds i j peer w = markFinishedIn ds i (partialOf (w .picker) i) j peer w
+
+-- a requester less; the named peer is forgotten
+unfoldable pub released : Option ℕ → Block → Block
+released peer b =
+    record { state = Requested; numPeers = b .numPeers - 1; peer = cond (samePeer (b .peer) peer) none (b .peer) }
+
+-- a free block
+unfoldable pub freed : Block
+freed = record { state = None; numPeers = 0; peer = none }
+
+-- a block without peers is free; a partial without blocks at work is closed
+unfoldable pub freeBlock : List ℕ → ℕ → DownloadingPiece → ℕ → Drawing → Drawing
+freeBlock ds i d j w =
+    cond (eqb (progress d) 1 && not (d .hashing)) (eraseAndUpdate ds i w) (setBlock ds i d j freed w)
+
+-- only a Requested block of a standing partial is given back
+unfoldable pub abortIn : List ℕ → ℕ → Option DownloadingPiece → ℕ → Option ℕ → Drawing → Drawing
+abortIn ds i none j peer w = w
+abortIn ds i (some d) j peer w =
+    let b = blockAt d j in
+    cond (not (sameBlockState (b .state) Requested)) w
+    (cond (ltb 1 (b .numPeers)) (noDraw (replaceBlock d j (released peer b)) w) (freeBlock ds i d j w))
+
+-- `abort_download`
+unfoldable pub abortDownload : List ℕ → ℕ → ℕ → Option ℕ → Drawing → Drawing
+abortDownload ds i j peer w = abortIn ds i (partialOf (w .picker) i) j peer w
+
+-- where a partial stands
+unfoldable pub lockIn : Option DownloadingPiece → Picker → Picker
+lockIn none s = s
+lockIn (some d) s = replacePartial (withFlags false true d) s
+
+-- `lock_piece`: no longer passed, and no block of it is picked
+unfoldable pub lockPiece : ℕ → Picker → Picker
+lockPiece i s = lockIn (partialOf s i) s
+
+-- where a partial stands that is not locked
+unfoldable pub passIn : ℕ → Option DownloadingPiece → Picker → Picker
+passIn i none s = s
+passIn i (some d) s =
+    unless (d .locked) (λ t. when (allFinished t d) (pieceFlushed i) (replacePartial (withFlags true false d) t)) s
+
+-- `piece_passed`: flushed at once if every block is on disk
+unfoldable pub piecePassed : ℕ → Picker → Picker
+piecePassed i s = passIn i (partialOf s i) s

@@ -1,0 +1,4 @@
+pub mod WellFormed
+pub mod Sound
+pub mod Image
+pub mod Program

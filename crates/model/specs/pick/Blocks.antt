@@ -1,0 +1,395 @@
+-- Blocks for a pick: which pieces may be picked, the run around a piece, and what a piece adds to the pick. Assumes nothing.
+use Prim.Native.Nat.{ℕ, zero, suc, _+_, _-_, _/_, _%_}
+use mathlib.Core.Bool.{Bool, true, false, cond, not, _&&_, _||_}
+use mathlib.Core.List.{List, [], _∷_, _++_}
+use mathlib.Core.Option.{Option, none, some}
+use lib.ListN.{take, drop, replicate}
+use lib.Dec.{eqb, ltb, leb}
+use Rattle.types.specs.declared.queue.DownloadQueue.the-variants.{Downloading}
+use Rattle.types.specs.declared.block.BlockState.the-variants.{None, Requested}
+use Rattle.types.specs.Queue.{unreverse}
+use Rattle.types.specs.Bits.{meets, union}
+use Rattle.model.specs.Lists.{least, from, range, filter, each, any, nth, setNth, len, unless, when, walk, walkUntil}
+use Rattle.model.specs.Bep3.{bitAt}
+use Rattle.model.specs.State.{Block, DownloadingPiece, Picker, maxPieces, sameQueue, isOpen, sameBlockState, samePeer, hasPeer}
+use Rattle.model.specs.State.{pieceAt, piecesIn, blocksPerPiece, payloadBlocksInPiece}
+use Rattle.model.specs.Options.{onParole, prioritizePartials, alignExpandedPieces}
+use Rattle.model.specs.change.Partials.{partialOf, blockAt}
+
+-- ---- what a pick is asked
+-- `run` is document 01's P, the blocks wanted in a row; `bits` and `bytes` are the peer's bitfield
+pub record PickRequest : Type 0 where
+  pub options : ℕ
+  pub wanted : ℕ
+  pub contiguous : ℕ
+  pub peers : ℕ
+  pub peer : Option ℕ
+  pub bits : ℕ
+  pub bytes : List ℕ
+  pub suggestions : List ℕ
+
+-- an option is asked for
+unfoldable pub option : ℕ → PickRequest → Bool
+option f a = meets (a .options) f
+
+-- the peer has piece i
+unfoldable pub hasBit : PickRequest → ℕ → Bool
+hasBit a i = ltb i (a .bits) && bitAt (a .bytes) i
+
+-- ---- what a pick has come to
+-- a run and the blocks that went towards it. The Rust keeps the difference, which may fall below 0
+pub record Contiguous : Type 0 where
+  pub asked : ℕ
+  pub given : ℕ
+
+-- a block that is picked
+pub record PieceBlock : Type 0 where
+  pub piece : ℕ
+  pub block : ℕ
+
+-- `left` are the blocks still wanted: of a difference below 0 the Rust only asks whether it is 0 or less.
+-- `ignored` has a mark for each of 4,096 pieces, `backup` the blocks set aside
+pub record PickState : Type 0 where
+  pub picker : Picker
+  pub used : ℕ
+  pub left : ℕ
+  pub contiguous : Contiguous
+  pub out : List PieceBlock
+  pub backup : List PieceBlock
+  pub ignored : List Bool
+  pub flags : ℕ
+  pub loops : List ℕ
+
+-- nothing picked yet
+unfoldable pub startState : Picker → PickRequest → PickState
+startState s a =
+    record {
+      picker = s;
+      used = 0;
+      left = a .wanted;
+      contiguous = record { asked = a .contiguous; given = 0 };
+      out = [];
+      backup = [];
+      ignored = replicate maxPieces false;
+      flags = 0;
+      loops = replicate 7 0;
+    }
+
+-- no block is wanted any more
+unfoldable pub spent : PickState → Bool
+spent w = eqb (w .left) 0
+
+-- ---- a field changed
+unfoldable pub withOut : ℕ → Contiguous → List PieceBlock → PickState → PickState
+withOut n r bs w =
+    record {
+      picker = w .picker;
+      used = w .used;
+      left = n;
+      contiguous = r;
+      out = bs;
+      backup = w .backup;
+      ignored = w .ignored;
+      flags = w .flags;
+      loops = w .loops;
+    }
+
+-- another run
+unfoldable pub withContiguous : Contiguous → PickState → PickState
+withContiguous r w = withOut (w .left) r (w .out) w
+
+-- other blocks set aside
+unfoldable pub withBackup : List PieceBlock → PickState → PickState
+withBackup bs w =
+    record {
+      picker = w .picker;
+      used = w .used;
+      left = w .left;
+      contiguous = w .contiguous;
+      out = w .out;
+      backup = bs;
+      ignored = w .ignored;
+      flags = w .flags;
+      loops = w .loops;
+    }
+
+-- another picker, with so many draws used
+unfoldable pub withPicker : Picker → ℕ → PickState → PickState
+withPicker s t w =
+    record {
+      picker = s;
+      used = t;
+      left = w .left;
+      contiguous = w .contiguous;
+      out = w .out;
+      backup = w .backup;
+      ignored = w .ignored;
+      flags = w .flags;
+      loops = w .loops;
+    }
+
+-- piece i is ignored from here on
+unfoldable pub ignore : ℕ → PickState → PickState
+ignore i w =
+    record {
+      picker = w .picker;
+      used = w .used;
+      left = w .left;
+      contiguous = w .contiguous;
+      out = w .out;
+      backup = w .backup;
+      ignored = setNth i true (w .ignored);
+      flags = w .flags;
+      loops = w .loops;
+    }
+
+-- a flag set
+unfoldable pub flagged : ℕ → PickState → PickState
+flagged f w =
+    record {
+      picker = w .picker;
+      used = w .used;
+      left = w .left;
+      contiguous = w .contiguous;
+      out = w .out;
+      backup = w .backup;
+      ignored = w .ignored;
+      flags = union (w .flags) f;
+      loops = w .loops;
+    }
+
+-- n steps more on a counter
+unfoldable pub steps : ℕ → ℕ → PickState → PickState
+steps n counter w =
+    record {
+      picker = w .picker;
+      used = w .used;
+      left = w .left;
+      contiguous = w .contiguous;
+      out = w .out;
+      backup = w .backup;
+      ignored = w .ignored;
+      flags = w .flags;
+      loops = setNth counter (nth 0 (w .loops) counter + n) (w .loops);
+    }
+
+-- the piece is passed over
+unfoldable pub isIgnored : ℕ → PickState → Bool
+isIgnored i w = nth false (w .ignored) i
+
+-- ---- runs
+unfoldable pub contiguousIsZero : Contiguous → Bool
+contiguousIsZero r = eqb (r .asked) (r .given)
+
+-- more than n are left of the run
+unfoldable pub contiguousAbove : ℕ → Contiguous → Bool
+contiguousAbove n r = ltb (r .given + n) (r .asked)
+
+-- a block more towards the run
+unfoldable pub shorter : Contiguous → Contiguous
+shorter r = record { asked = r .asked; given = suc (r .given) }
+
+-- pieces of b blocks that hold the run; none below 0, since it falls by less than b
+unfoldable pub wholePieces : ℕ → Contiguous → ℕ
+wholePieces b r = (r .asked - r .given + b - 1) / b
+
+-- ---- which pieces
+-- the peer has it, it is not had, and it is wished for
+unfoldable pub isPieceFree : PickRequest → Picker → ℕ → Bool
+isPieceFree a s i = hasBit a i && (not (pieceAt s i .flushed) && not (eqb (pieceAt s i .priority) 0))
+
+-- and no partial stands for it
+unfoldable pub canPick : PickRequest → Picker → ℕ → Bool
+canPick a s i = isPieceFree a s i && isOpen (pieceAt s i .state)
+
+-- down from piece i, by n at most, while pieces can be picked
+unfoldable pub downBy : PickRequest → Picker → ℕ → ℕ → ℕ
+downBy a s zero i = i
+downBy a s (suc n) i = cond (canPick a s (i - 1)) (downBy a s n (i - 1)) i
+
+-- up from piece k, by n at most
+unfoldable pub upBy : PickRequest → Picker → ℕ → ℕ → ℕ
+upBy a s zero k = k
+upBy a s (suc n) k = cond (canPick a s k) (upBy a s n (suc k)) k
+
+-- the pieces from `first` to `end`, without the end
+pub record Span : Type 0 where
+  pub first : ℕ
+  pub end : ℕ
+
+-- the piece alone
+unfoldable pub alone : ℕ → Span
+alone i = record { first = i; end = suc i }
+
+-- the lowest piece that a run of n pieces around piece i may start at
+unfoldable pub lowestStart : PickRequest → ℕ → ℕ → ℕ
+lowestStart a i n = cond (option alignExpandedPieces a) (i - i % n) (suc i - n)
+
+-- from `first` up, to no more than n pieces and no further than the last
+unfoldable pub spanFrom : PickRequest → Picker → ℕ → ℕ → ℕ → ℕ → Span
+spanFrom a s i n lowest first =
+    let end = least (cond (option alignExpandedPieces a) lowest first + n) (piecesIn s) in
+    record { first = first; end = upBy a s (end - suc i) (suc i) }
+
+-- a run of n pieces around piece i, as far as pieces can be picked; of no pieces, the piece alone
+unfoldable pub spanOf : PickRequest → Picker → ℕ → ℕ → Span
+spanOf a s i zero = alone i
+spanOf a s i (suc n) =
+    let lowest = lowestStart a i (suc n) in
+    spanFrom a s i (suc n) lowest (downBy a s (i - lowest) i)
+
+-- `expand_piece`
+unfoldable pub expandPiece : PickRequest → ℕ → PickState → Span
+expandPiece a i w = spanOf a (w .picker) i (wholePieces (blocksPerPiece (w .picker)) (w .contiguous))
+
+-- its pieces
+unfoldable pub piecesOf : Span → List ℕ
+piecesOf x = range (x .first) (x .end)
+
+-- ---- blocks taken
+unfoldable pub pieceBlock : ℕ → ℕ → PieceBlock
+pieceBlock i j = record { piece = i; block = j }
+
+-- block j of piece i, towards the run
+unfoldable pub took : ℕ → ℕ → PickState → PickState
+took i j w = withOut (w .left - 1) (shorter (w .contiguous)) (w .out ++ (pieceBlock i j ∷ [])) w
+
+-- the same, past the run
+unfoldable pub tookPast : ℕ → ℕ → PickState → PickState
+tookPast i j w = withOut (w .left - 1) (w .contiguous) (w .out ++ (pieceBlock i j ∷ [])) w
+
+-- exactly the run has been given, and no block is wanted
+unfoldable pub contiguousMet : PickState → Bool
+contiguousMet w = contiguousIsZero (w .contiguous) && spent w
+
+-- the same, or more than the run
+unfoldable pub contiguousOver : PickState → Bool
+contiguousOver w = not (contiguousAbove 0 (w .contiguous)) && spent w
+
+-- the first n blocks of piece i, up to where `ends` holds
+unfoldable pub takePiece : (PickState → Bool) → ℕ → ℕ → PickState → PickState
+takePiece ends i n w = walk (took i) ends (from 0 n) w
+
+-- a piece of a run: an ignored one only shortens it; another is ignored from here on, and its blocks are taken
+unfoldable pub spanStep : (ℕ → PickState → PickState) → ℕ → PickState → PickState
+spanStep takes k w = cond (isIgnored k w) (withContiguous (shorter (w .contiguous)) w) (takes k (ignore k w))
+
+-- at an ignored piece the run may end
+unfoldable pub spanHalt : ℕ → PickState → Bool
+spanHalt k w = isIgnored k w && contiguousMet (withContiguous (shorter (w .contiguous)) w)
+
+-- the pieces of a run in turn
+unfoldable pub takeSpan : (ℕ → PickState → PickState) → List ℕ → PickState → PickState
+takeSpan takes ks w = walkUntil (spanStep takes) spanHalt ks w
+
+-- ---- new pieces
+unfoldable pub takePayload : ℕ → PickState → PickState
+takePayload k w = takePiece contiguousMet k (payloadBlocksInPiece (w .picker) k) w
+
+-- blocks of an Open piece: without a run as many as are wanted, else the whole run around it
+unfoldable pub addNewPiece : PickRequest → ℕ → PickState → PickState
+addNewPiece a i w =
+    cond (contiguousIsZero (w .contiguous))
+    (takePiece (λ t. false) i (least (payloadBlocksInPiece (w .picker) i) (w .left)) w)
+    (takeSpan takePayload (piecesOf (expandPiece a i w)) w)
+
+-- ---- partials
+-- who works on a partial: `exclusive`, only this peer; `active`, another peer has a request; the longest run of free blocks, and its start
+pub record RequestedFrom : Type 0 where
+  pub exclusive : Bool
+  pub active : Bool
+  pub longest : ℕ
+  pub first : ℕ
+
+-- the longest run of free blocks from block j on, where `now` free ones stand before j; the first of equals
+pub record FreeRun : Type 0 where
+  pub longest : ℕ
+  pub first : ℕ
+
+-- a stretch that ends before j, if it is longer
+unfoldable pub longer : ℕ → ℕ → FreeRun → FreeRun
+longer j now x = cond (ltb (x .longest) now) (record { longest = now; first = j - now }) x
+
+-- the longest stretch of free blocks
+unfoldable pub longestFree : ℕ → ℕ → FreeRun → List Block → FreeRun
+longestFree j now x [] = longer j now x
+longestFree j now x (b ∷ bs) =
+    cond (sameBlockState (b .state) None) (longestFree (suc j) (suc now) x bs) (longestFree (suc j) 0 (longer j now x) bs)
+
+-- a block at work that another peer value holds
+unfoldable pub byAnother : Option ℕ → Block → Bool
+byAnother peer b = not (sameBlockState (b .state) None) && not (samePeer (b .peer) peer)
+
+-- `requested_from`
+unfoldable pub requestedFrom : Option ℕ → DownloadingPiece → RequestedFrom
+requestedFrom peer d =
+    let x = longestFree 0 0 (record { longest = 0; first = 0 }) (d .blocks) in
+    record {
+      exclusive = not (any (byAnother peer) (d .blocks));
+      active = any (λ b. byAnother peer b && (sameBlockState (b .state) Requested && hasPeer (b .peer))) (d .blocks);
+      longest = x .longest;
+      first = x .first;
+    }
+
+-- the free blocks, from `first` round the piece
+unfoldable pub freeFrom : DownloadingPiece → ℕ → List ℕ
+freeFrom d first =
+    filter (λ j. sameBlockState (blockAt d j .state) None) (each (λ k. (k + first) % len (d .blocks)) (from 0 (len (d .blocks))))
+
+-- the free blocks kept as backup, unless as many as are wanted are there already
+unfoldable pub setAside : DownloadingPiece → ℕ → PickState → PickState
+setAside d first w =
+    cond (leb (w .left) (len (w .backup))) w
+    (withBackup (w .backup ++ each (pieceBlock (d .piece)) (freeFrom d first)) w)
+
+-- a free block taken: towards the run while it lasts
+unfoldable pub freeStep : ℕ → ℕ → PickState → PickState
+freeStep i j w = cond (contiguousAbove 0 (w .contiguous)) (took i j w) (tookPast i j w)
+
+-- past the run the last wanted block ends it
+unfoldable pub freeHalt : ℕ → ℕ → PickState → Bool
+freeHalt i j w = not (contiguousAbove 0 (w .contiguous)) && spent (tookPast i j w)
+
+-- the free blocks taken
+unfoldable pub takeFree : DownloadingPiece → ℕ → PickState → PickState
+takeFree d first w = walkUntil (freeStep (d .piece)) (freeHalt (d .piece)) (freeFrom d first) w
+
+-- the pick's own run stays as it is
+unfoldable pub keepingContiguous : (PickState → PickState) → PickState → PickState
+keepingContiguous f w = withContiguous (w .contiguous) (f w)
+
+-- set aside where the run does not fit and another peer is at work; else taken
+unfoldable pub useFree : PickRequest → DownloadingPiece → RequestedFrom → PickState → PickState
+useFree a d h w =
+    let first = cond (contiguousIsZero (w .contiguous)) 0 (h .first) in
+    cond (contiguousAbove (h .longest) (w .contiguous) && (h .active && not (option onParole a))) (setAside d first w)
+    (keepingContiguous (takeFree d first) w)
+
+-- what a partial adds: none that the peer lacks, that is locked or, on parole, that another touched
+unfoldable pub addBlocksDownloading : PickRequest → DownloadingPiece → PickState → PickState
+addBlocksDownloading a d w =
+    let h = requestedFrom (a .peer) d in
+    when (hasBit a (d .piece) && (not (d .locked) && (not (option onParole a) || h .exclusive))) (useFree a d h) w
+
+-- ---- a piece
+unfoldable pub addPartialOf : PickRequest → Option DownloadingPiece → PickState → PickState
+addPartialOf a none w = w
+addPartialOf a (some d) w = addBlocksDownloading a d w
+
+-- partials were walked before under PRIORITIZE_PARTIALS
+unfoldable pub addStanding : PickRequest → ℕ → PickState → PickState
+addStanding a i w = unless (option prioritizePartials a) (addPartialOf a (partialOf (w .picker) i)) w
+
+-- what piece i adds: Open or Downloading, and not ignored
+unfoldable pub addBlocks : PickRequest → ℕ → PickState → PickState
+addBlocks a i w =
+    let q = pieceAt (w .picker) i .state in
+    unless (isIgnored i w)
+    (λ t. when (isOpen q) (keepingContiguous (addNewPiece a i)) (when (sameQueue (unreverse q) Downloading) (addStanding a i) t)) w
+
+-- ---- backup blocks
+-- as many as are wanted of the blocks set aside
+unfoldable pub appendBlocks : PickState → PickState
+appendBlocks w =
+    let n = least (len (w .backup)) (w .left) in
+    withBackup (drop n (w .backup)) (withOut (w .left - n) (w .contiguous) (w .out ++ take n (w .backup)) w)

@@ -1,0 +1,405 @@
+-- One pick: partials, suggestions, sequential, rarest or random, backup blocks, end game. A spent N stops it. Assumes nothing.
+use Prim.Native.Nat.{ℕ, suc, _-_, _*_, _/_}
+use mathlib.Core.Bool.{Bool, true, false, cond, not, _&&_, _||_}
+use mathlib.Core.List.{List, [], _∷_, _++_}
+use mathlib.Core.Option.{Option, none, some}
+use lib.ListN.{take}
+use lib.Dec.{eqb, ltb, leb}
+use Rattle.types.specs.declared.queue.DownloadQueue.the-variants.{Downloading, Full}
+use Rattle.types.specs.declared.block.BlockState.the-variants.{Requested}
+use Rattle.types.specs.Bits.{union}
+use Rattle.model.specs.Lists.{count, from, range, rangeDown, filter, each, every, nth, setNth, len, removeNth, lastOr, reversed}
+use Rattle.model.specs.Lists.{unless, when, repeat, walk}
+use Rattle.model.specs.State.{DownloadingPiece, Picker, isOpen, sameBlockState, samePeer, listOf, withRecentExtents, pieceAt}
+use Rattle.model.specs.State.{piecesIn, blocksPerPiece, blocksInPiece, extentStart, extentEnd}
+use Rattle.model.specs.Options.{rarestFirst, reverse, onParole, prioritizePartials, sequential, pieceExtentAffinity, partialRatio}
+use Rattle.model.specs.Options.{prioritizedPartials, rarestFirstPartials, rarestFirstPieces, reverseRarestFirst, suggestedPieces}
+use Rattle.model.specs.Options.{prioSequentialPieces, sequentialPieces, randomPieces, preferContiguous, reverseSequential, backup1}
+use Rattle.model.specs.Options.{endGame, extentAffinity, partialLoops, suggestLoops, reverseRareLoops, rareLoops, randStartLoops}
+use Rattle.model.specs.Options.{randLoops, busyLoops}
+use Rattle.model.specs.list.Order.{drawing, draw, updatePieces}
+use Rattle.model.specs.change.Partials.{blockAt, progress, inQueue}
+use Rattle.model.specs.pick.Blocks.{PickRequest, option, hasBit, PickState, startState, spent, withOut, withPicker, ignore, flagged}
+use Rattle.model.specs.pick.Blocks.{steps, isIgnored, contiguousAbove, isPieceFree, expandPiece, piecesOf, pieceBlock, took}
+use Rattle.model.specs.pick.Blocks.{contiguousOver, takeSpan, addBlocksDownloading, addBlocks, appendBlocks}
+
+-- ---- the forcing rule
+-- too many partials for the peers, or too many blocks in them
+unfoldable pub forced : ℕ → ℕ → ℕ → Bool
+forced partials b peers = ltb (peers * 3 / 2) partials || ltb 2048 (partials * b)
+
+-- the same, of a picker and what is asked
+unfoldable pub isForced : Picker → PickRequest → Bool
+isForced s a = forced (len (inQueue Downloading s)) (blocksPerPiece s) (a .peers)
+
+-- PRIORITIZE_PARTIALS set, and no run
+unfoldable pub forcedRequest : PickRequest → PickRequest
+forcedRequest a =
+    record {
+      options = union (a .options) prioritizePartials;
+      wanted = a .wanted;
+      contiguous = 0;
+      peers = a .peers;
+      peer = a .peer;
+      bits = a .bits;
+      bytes = a .bytes;
+      suggestions = a .suggestions;
+    }
+
+-- what is asked after the forcing rule
+unfoldable pub effectiveRequest : Picker → PickRequest → PickRequest
+effectiveRequest s a = cond (isForced s a) (forcedRequest a) a
+
+-- the flags of the start
+unfoldable pub startPick : Picker → PickRequest → PickState
+startPick s a =
+    when (isForced s a) (flagged partialRatio)
+    (when (ltb 0 (effectiveRequest s a .contiguous)) (flagged preferContiguous) (startState s (effectiveRequest s a)))
+
+-- ---- partials
+unfoldable pub usable : PickRequest → Picker → DownloadingPiece → Bool
+usable a s d = isPieceFree a s (d .piece) && not (d .locked)
+
+-- d before e: smaller count first, then more progress
+unfoldable pub rarestFirstBefore : Picker → DownloadingPiece → DownloadingPiece → Bool
+rarestFirstBefore s d e =
+    let m = pieceAt s (d .piece) .peerCount in
+    let n = pieceAt s (e .piece) .peerCount in
+    ltb m n || (eqb m n && ltb (progress e) (progress d))
+
+-- d behind all that it does not go before
+unfoldable pub insertRarest : Picker → DownloadingPiece → List DownloadingPiece → List DownloadingPiece
+insertRarest s d [] = d ∷ []
+insertRarest s d (e ∷ es) = cond (rarestFirstBefore s d e) (d ∷ e ∷ es) (e ∷ insertRarest s d es)
+
+-- equals stay by rising piece
+unfoldable pub sortRarest : Picker → List DownloadingPiece → List DownloadingPiece → List DownloadingPiece
+sortRarest s [] es = es
+sortRarest s (d ∷ ds) es = sortRarest s ds (insertRarest s d es)
+
+-- RAREST_FIRST, and not on parole
+unfoldable pub byRarity : PickRequest → Bool
+byRarity a = option rarestFirst a && not (option onParole a)
+
+-- the partials that may be picked from, in their order
+unfoldable pub orderedPartials : PickRequest → Picker → List DownloadingPiece
+orderedPartials a s =
+    let ds = filter (usable a s) (inQueue Downloading s) in
+    cond (byRarity a) (sortRarest s ds []) ds
+
+-- one partial
+unfoldable pub partialStep : PickRequest → DownloadingPiece → PickState → PickState
+partialStep a d w = addBlocksDownloading a d (flagged prioritizedPartials w)
+
+-- N spent, or as many blocks set aside as are wanted
+unfoldable pub partialsDone : PickState → Bool
+partialsDone w = leb (w .left) (len (w .backup))
+
+-- the partials in turn, then the blocks set aside
+unfoldable pub walkPartials : PickRequest → PickState → PickState
+walkPartials a w =
+    let v = walk (partialStep a) partialsDone (orderedPartials a (w .picker)) w in
+    unless (spent v) appendBlocks v
+
+-- the first phase, where partials come first
+unfoldable pub pickPartials : PickRequest → PickState → PickState
+pickPartials a w =
+    when (option prioritizePartials a)
+    (λ v. walkPartials a
+    (when (byRarity a) (flagged rarestFirstPartials) (steps (len (inQueue Downloading (v .picker))) partialLoops v)))
+    w
+
+-- ---- walks over pieces
+-- a free piece adds its blocks
+unfoldable pub visit : PickRequest → ℕ → ℕ → PickState → PickState
+visit a f i w = when (isPieceFree a (w .picker) i) (λ v. addBlocks a i (flagged f v)) w
+
+-- ---- suggestions
+unfoldable pub suggest : PickRequest → ℕ → PickState → PickState
+suggest a i w = when (isPieceFree a (w .picker) i) (λ v. ignore i (visit a suggestedPieces i v)) (steps 1 suggestLoops w)
+
+-- the second phase
+unfoldable pub pickSuggested : PickRequest → PickState → PickState
+pickSuggested a w = walk (suggest a) spent (a .suggestions) w
+
+-- ---- sequential
+-- the list up to the first priority that is not 7, `TOP`
+unfoldable pub leadingTop : Picker → List ℕ → List ℕ
+leadingTop s [] = []
+leadingTop s (i ∷ is) = cond (eqb (pieceAt s i .priority) 7) (i ∷ leadingTop s is) []
+
+-- pieces of priority 7 were walked before
+unfoldable pub visitBelowTop : PickRequest → ℕ → ℕ → PickState → PickState
+visitBelowTop a f i w = unless (eqb (pieceAt (w .picker) i .priority) 7) (visit a f i) w
+
+-- the stretch from cursor to reverse cursor, backwards under REVERSE
+unfoldable pub pickRange : PickRequest → PickState → PickState
+pickRange a w =
+    let s = w .picker in
+    cond (option reverse a)
+    (walk (visitBelowTop a reverseSequential) spent (rangeDown (s .cursor) (s .reverseCursor)) w)
+    (walk (visitBelowTop a sequentialPieces) spent (range (s .cursor) (s .reverseCursor)) w)
+
+-- top pieces of the list, then the stretch
+unfoldable pub pickSequential : PickRequest → PickState → PickState
+pickSequential a w =
+    let v = walk (visit a prioSequentialPieces) spent (leadingTop (w .picker) (listOf (w .picker .listing))) w in
+    unless (spent v) (pickRange a) v
+
+-- ---- rarest first
+-- a sequential pick has walked over piece i
+unfoldable pub inRange : PickRequest → Picker → ℕ → Bool
+inRange a s i = option sequential a && (leb (s .cursor) i && ltb i (s .reverseCursor))
+
+-- a piece outside that stretch
+unfoldable pub visitOutside : PickRequest → ℕ → ℕ → PickState → PickState
+visitOutside a f i w = unless (inRange a (w .picker) i) (visit a f i) w
+
+-- one piece of the list
+unfoldable pub rareStep : PickRequest → ℕ → PickState → PickState
+rareStep a i w = visitOutside a rarestFirstPieces i (steps 1 rareLoops w)
+
+-- the same, backwards
+unfoldable pub reverseRareStep : PickRequest → ℕ → PickState → PickState
+reverseRareStep a i w = visitOutside a reverseRarestFirst i (steps 1 reverseRareLoops w)
+
+-- a walk over extents: what the pick has come to, and the place of the last extent found finished
+pub record ExtentWalk : Type 0 where
+  pub work : PickState
+  pub finished : Option ℕ
+
+-- every piece of an extent is had
+unfoldable pub allFlushed : Picker → ℕ → Bool
+allFlushed s e = every (λ i. pieceAt s i .flushed) (range (extentStart s e) (extentEnd s e))
+
+-- a finished extent replaces the one found before
+unfoldable pub foundFinished : PickState → ℕ → Option ℕ → Option ℕ
+foundFinished w k found = cond (not (spent w) && allFlushed (w .picker) (nth 0 (w .picker .recentExtents) k)) (some k) found
+
+-- the extent at place k
+unfoldable pub extentStep : PickRequest → ℕ → ExtentWalk → ExtentWalk
+extentStep a k x =
+    let s = x .work .picker in
+    let e = nth 0 (s .recentExtents) k in
+    let w = walk (visitOutside a extentAffinity) spent (range (extentStart s e) (extentEnd s e)) (x .work) in
+    record { work = w; finished = foundFinished w k (x .finished) }
+
+-- the extent at place k goes
+unfoldable pub forgetExtent : Option ℕ → PickState → PickState
+forgetExtent none w = w
+forgetExtent (some k) w = withPicker (withRecentExtents (removeNth k (w .picker .recentExtents)) (w .picker)) (w .used) w
+
+-- one finished extent is forgotten, the last found
+unfoldable pub pickExtents : PickRequest → PickState → PickState
+pickExtents a w =
+    let x = walk (extentStep a) (λ y. spent (y .work)) (from 0 (len (w .picker .recentExtents))) (record { work = w; finished = none }) in
+    forgetExtent (x .finished) (x .work)
+
+-- recent extents where asked for, then the list
+unfoldable pub pickForward : PickRequest → PickState → PickState
+pickForward a w =
+    let v = when (option pieceExtentAffinity a) (pickExtents a) w in
+    unless (spent v) (λ u. walk (rareStep a) spent (listOf (u .picker .listing)) u) v
+
+-- the list, backwards under REVERSE
+unfoldable pub pickRarest : PickRequest → PickState → PickState
+pickRarest a w =
+    cond (option reverse a) (walk (reverseRareStep a) spent (reversed (listOf (w .picker .listing))) w) (pickForward a w)
+
+-- ---- random: round the torrent from a drawn piece
+unfoldable pub standsOpen : PickRequest → ℕ → PickState → Bool
+standsOpen a i w = isPieceFree a (w .picker) i && not (isIgnored i w)
+
+-- the piece after i, round the torrent
+unfoldable pub onward : Picker → ℕ → ℕ
+onward s i = cond (leb (piecesIn s) (suc i)) 0 (suc i)
+
+-- what tells whether a lap did anything: blocks appended, blocks set aside, pieces ignored
+pub record Trace : Type 0 where
+  pub taken : ℕ
+  pub aside : ℕ
+  pub ignored : ℕ
+
+-- of a pick
+unfoldable pub trace : PickState → Trace
+trace w = record { taken = len (w .out); aside = len (w .backup); ignored = count (λ b. b) (w .ignored) }
+
+-- nothing was done in between
+unfoldable pub sameTrace : Trace → Trace → Bool
+sameTrace x y = eqb (x .taken) (y .taken) && (eqb (x .aside) (y .aside) && eqb (x .ignored) (y .ignored))
+
+-- where the walk stands; whether skipping brought it back to the start; what it had come to when it last stood there; whether it is over
+pub record RandomWalk : Type 0 where
+  pub work : PickState
+  pub place : ℕ
+  pub back : Bool
+  pub seen : Trace
+  pub over : Bool
+
+-- one piece passed over
+unfoldable pub skipStep : ℕ → RandomWalk → RandomWalk
+skipStep start x =
+    let i = onward (x .work .picker) (x .place) in
+    record { work = steps 1 randStartLoops (x .work); place = i; back = eqb i start; seen = x .seen; over = x .over }
+
+-- at a piece that may be picked, or back at the start
+unfoldable pub skipDone : PickRequest → RandomWalk → Bool
+skipDone a x = x .back || standsOpen a (x .place) (x .work)
+
+-- on to the next piece that may be picked, or round to the start
+unfoldable pub skip : PickRequest → ℕ → RandomWalk → RandomWalk
+skip a start x =
+    repeat (piecesIn (x .work .picker)) (skipStep start) (skipDone a)
+    (record { work = x .work; place = x .place; back = false; seen = x .seen; over = x .over })
+
+-- all blocks of a piece, pads too, up to where run and N are over
+unfoldable pub randStep : ℕ → ℕ → PickState → PickState
+randStep k j w = took k j (steps 1 randLoops w)
+
+-- those of piece k
+unfoldable pub takeAll : ℕ → PickState → PickState
+takeAll k w = walk (randStep k) contiguousOver (from 0 (blocksInPiece (w .picker) k)) (flagged randomPieces w)
+
+-- the walk goes on at piece i; onto the start ends it
+unfoldable pub arrive : ℕ → ℕ → RandomWalk → PickState → RandomWalk
+arrive start i x w = record { work = w; place = i; back = false; seen = x .seen; over = eqb i start }
+
+-- a whole run from an Open piece where one is wanted, else the piece
+unfoldable pub randomVisit : PickRequest → ℕ → RandomWalk → RandomWalk
+randomVisit a start x =
+    let w = x .work in
+    let s = w .picker in
+    let i = x .place in
+    let span = expandPiece a i w in
+    cond (contiguousAbove 1 (w .contiguous) && isOpen (pieceAt s i .state))
+    (arrive start (onward s (span .end - 1)) x (takeSpan takeAll (piecesOf span) w))
+    (arrive start (onward s i) x (addBlocks a i (flagged randomPieces w)))
+
+-- the walk is over
+unfoldable pub ended : RandomWalk → RandomWalk
+ended x = record { work = x .work; place = x .place; back = x .back; seen = x .seen; over = true }
+
+-- at the start a new lap begins
+unfoldable pub marked : RandomWalk → RandomWalk
+marked x = record { work = x .work; place = x .place; back = x .back; seen = cond (x .back) (trace (x .work)) (x .seen); over = x .over }
+
+-- no piece may be picked, or a lap did nothing
+unfoldable pub lapEnds : PickRequest → RandomWalk → Bool
+lapEnds a x = not (standsOpen a (x .place) (x .work)) || (x .back && sameTrace (trace (x .work)) (x .seen))
+
+-- the end, or a visit
+unfoldable pub lapFrom : PickRequest → ℕ → RandomWalk → RandomWalk
+lapFrom a start x = elim (lapEnds a x) [ true ↦ ended x | false ↦ randomVisit a start (marked x) ]
+
+-- skipping, then a visit
+unfoldable pub lapStep : PickRequest → ℕ → RandomWalk → RandomWalk
+lapStep a start x = lapFrom a start (skip a start x)
+
+-- it is over, or N is spent
+unfoldable pub walkOver : RandomWalk → Bool
+walkOver x = x .over || spent (x .work)
+
+-- more visits than a walk can make: each lap but the last takes, sets aside or ignores something
+abbrev pub ringFuel : ℕ
+ringFuel = 4096 * 8200
+
+-- the whole walk
+unfoldable pub ring : PickRequest → ℕ → PickState → PickState
+ring a start w =
+    repeat ringFuel (lapStep a start) walkOver (record { work = w; place = start; back = false; seen = trace w; over = false }) .work
+
+-- from a drawn piece
+unfoldable pub pickRandom : List ℕ → PickRequest → PickState → PickState
+pickRandom ds a w = ring a (draw ds (w .used) (piecesIn (w .picker) - 1)) (withPicker (w .picker) (suc (w .used)) w)
+
+-- ---- end game
+-- blocks requested, and held by another peer value than this one
+unfoldable pub busyBlocks : PickRequest → DownloadingPiece → List ℕ
+busyBlocks a d =
+    filter (λ j. sameBlockState (blockAt d j .state) Requested && not (samePeer (blockAt d j .peer) (a .peer))) (from 0 (len (d .blocks)))
+
+-- the Rust's cap
+abbrev pub maxEndGamePieces : ℕ
+maxEndGamePieces = 200
+
+-- the Full pieces that the peer has
+unfoldable pub fullPartials : PickRequest → Picker → List DownloadingPiece
+fullPartials a s = take maxEndGamePieces (filter (λ d. hasBit a (d .piece)) (inQueue Full s))
+
+-- what the end game has come to, and the pieces it has not tried
+pub record EndGame : Type 0 where
+  pub work : PickState
+  pub pieces : List DownloadingPiece
+  pub found : Bool
+
+-- a partial past the last
+unfoldable pub noPartial : DownloadingPiece
+noPartial = record { piece = 0; passedHashCheck = false; locked = false; hashing = false; blocks = [] }
+
+-- the last takes the place of the one that goes
+unfoldable pub swapRemove : ℕ → List DownloadingPiece → List DownloadingPiece
+swapRemove k ds = take (len ds - 1) (setNth k (lastOr noPartial ds) ds)
+
+-- by whether the piece has a block for this peer
+unfoldable pub endGameTry : List ℕ → ℕ → DownloadingPiece → List ℕ → EndGame → EndGame
+endGameTry ds k d [] x = record { work = x .work; pieces = swapRemove k (x .pieces); found = false }
+endGameTry ds k d (j ∷ js) x =
+    let w = x .work in
+    let b = nth 0 (j ∷ js) (draw ds (w .used) (len js)) in
+    record {
+      work = flagged endGame (withPicker (w .picker) (suc (w .used)) (withOut (w .left) (w .contiguous) (w .out ++ (pieceBlock (d .piece) b ∷ [])) w));
+      pieces = x .pieces;
+      found = true;
+    }
+
+-- one block of a drawn Full piece; a piece with none for this peer is dropped
+unfoldable pub endGameStep : List ℕ → PickRequest → EndGame → EndGame
+endGameStep ds a x =
+    let w = x .work in
+    let k = draw ds (w .used) (len (x .pieces) - 1) in
+    let d = nth noPartial (x .pieces) k in
+    endGameTry ds k d (busyBlocks a d)
+    (record { work = withPicker (w .picker) (suc (w .used)) (steps 1 busyLoops w); pieces = x .pieces; found = false })
+
+-- a block was found, or no piece is left
+unfoldable pub endGameDone : EndGame → Bool
+endGameDone x = x .found || eqb (len (x .pieces)) 0
+
+-- the end game
+unfoldable pub pickEndGame : List ℕ → PickRequest → PickState → PickState
+pickEndGame ds a w =
+    repeat maxEndGamePieces (endGameStep ds a) endGameDone (record { work = w; pieces = fullPartials a (w .picker); found = false }) .work
+
+-- ---- the pick
+unfoldable pub withListUpdated : List ℕ → PickState → PickState
+withListUpdated ds w =
+    let x = updatePieces ds (drawing (w .used) (w .picker)) in
+    withPicker (x .picker) (x .used) w
+
+-- the phases that go by the list
+unfoldable pub pickListed : List ℕ → PickRequest → PickState → PickState
+pickListed ds a w =
+    let v = when (option sequential a) (pickSequential a) (withListUpdated ds w) in
+    unless (spent v) (pickRarest a) v
+
+-- sequential and rarest, or random
+unfoldable pub pickMain : List ℕ → PickRequest → PickState → PickState
+pickMain ds a w = elim (option sequential a || option rarestFirst a) [ true ↦ pickListed ds a w | false ↦ pickRandom ds a w ]
+
+-- backup blocks, then the end game
+unfoldable pub pickRest : List ℕ → PickRequest → PickState → PickState
+pickRest ds a w =
+    let v = appendBlocks (flagged backup1 w) in
+    unless (spent v || option onParole a) (pickEndGame ds a) v
+
+-- partials, suggestions, the main phase and the rest, up to where N is spent
+unfoldable pub phases : List ℕ → PickRequest → PickState → PickState
+phases ds a w =
+    let p = pickPartials a w in
+    let g = unless (spent p) (pickSuggested a) p in
+    let m = unless (spent g) (pickMain ds a) g in
+    unless (spent m) (pickRest ds a) m
+
+-- what the pick has come to; its picker is the next state
+unfoldable pub pickPieces : List ℕ → Picker → PickRequest → PickState
+pickPieces ds s a = phases ds (effectiveRequest s a) (startPick s a)
