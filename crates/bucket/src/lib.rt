@@ -5,7 +5,7 @@ ghost use Rattle.bucket.specs.Ranks.{off, unlistedBy, IsRank};
 
 // No rank: not wanted, there already, with no peer that has it, or all of it requested or received.
 pub fn unlisted(seeds: u64, count: u64, state: u64, wish: u64, had: bool) -> bool
-    ensures { λ r. ⌜ r ≡ unlistedBy seeds peerCount state priority flushed ⌝ }
+    ensures { λ r. ⌜ r ≡ unlistedBy seeds count state wish had ⌝ }
 {
     (wish == 0) | had | ((count == 0) & (seeds == 0)) | (state == 1) | (state == 2)
 }
@@ -22,9 +22,9 @@ pub fn adjustment(state: u64) -> u64
 
 // The rank. With at most 1000 peers that have the piece it is at most 21,021.
 pub fn bucket(seeds: u64, count: u64, state: u64, wish: u64, had: bool) -> u64
-    requires { ⌜ peerCount ≤ 1000 ⌝ }
-    requires { ⌜ priority ≤ 7 ⌝ }
-    ensures { λ r. ⌜ IsRank seeds peerCount state priority flushed r ⌝ }
+    requires { ⌜ count ≤ 1000 ⌝ }
+    requires { ⌜ wish ≤ 7 ⌝ }
+    ensures { λ r. ⌜ IsRank seeds count state wish had r ⌝ }
 {
     if unlisted(seeds, count, state, wish, had) {
         return 0;

@@ -39,7 +39,7 @@ largestImage n b = imageLength n (least n maxPartials) (least n maxPartials * b)
 
 -- ---- of a geometry, 0 where it is not valid
 unfoldable pub wordsFor : ℕ → ℕ → ℕ
-wordsFor totalSize pieceSize = cond (validGeometry totalSize pieceSize) (wordsNeeded (numPieces totalSize pieceSize) (wholePieceBlocks len)) 0
+wordsFor totalSize pieceSize = cond (validGeometry totalSize pieceSize) (wordsNeeded (numPieces totalSize pieceSize) (wholePieceBlocks pieceSize)) 0
 
 unfoldable pub bytesFor : ℕ → ℕ → ℕ
-bytesFor totalSize pieceSize = cond (validGeometry totalSize pieceSize) (largestImage (numPieces totalSize pieceSize) (wholePieceBlocks len)) 0
+bytesFor totalSize pieceSize = cond (validGeometry totalSize pieceSize) (largestImage (numPieces totalSize pieceSize) (wholePieceBlocks pieceSize)) 0

@@ -12,9 +12,9 @@ ghost use Rattle.listing.specs.Listings.{Ranges, Keyed};
 
 // The rank by a piece's words. Most pieces are Open: tested first, they need no other test of the state.
 fn rank_by(seeds: u64, count: u64, state: u64, wish: u64, had: u64) -> u64
-    requires { ⌜ peerCount ≤ 1000 ⌝ }
-    requires { ⌜ priority ≤ 7 ⌝ }
-    ensures { λ r. ⌜ IsRank seeds peerCount (queueNumber (queueFrom state)) priority (eqb flushed 1) r ⌝ }
+    requires { ⌜ count ≤ 1000 ⌝ }
+    requires { ⌜ wish ≤ 7 ⌝ }
+    ensures { λ r. ⌜ IsRank seeds count (queueNumber (queueFrom state)) wish (eqb had 1) r ⌝ }
 {
     if state == 4 {
         return bucket::bucket(seeds, count, 4, wish, had == 1);

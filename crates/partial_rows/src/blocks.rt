@@ -30,7 +30,7 @@ struct Joined {
 //   The number of requesters goes in beside itself plus 23: one of the two passes 1023 exactly where the number passes 1000.
 //   The peer goes in under a mask: all bits where the flag is 0, none where it is 1.
 fn join(sum: Joined, state: u64, requesters: u64, has: u64, peer: u64) -> Joined
-    ensures { λ r. ⌜ joinedOk r ≡ (joinedOk sum && rowOk state numPeers has peer) ⌝ }
+    ensures { λ r. ⌜ joinedOk r ≡ (joinedOk sum && rowOk state requesters has peer) ⌝ }
 {
     Joined {
         states: sum.states | state,
@@ -56,9 +56,9 @@ pub fn one_if(t: bool) -> u64
 
 // One pass over the words of many blocks, a slice for each field. The numbers are those of the blocks where all are good.
 fn rows_pass(states: &[u64], requesters: &[u64], has: &[u64], peers: &[u64], many: usize) -> Counted
-    requires { ⌜ (many ≤ length (now states)) × (many ≤ length (now numPeers)) ⌝ }
+    requires { ⌜ (many ≤ length (now states)) × (many ≤ length (now requesters)) ⌝ }
     requires { ⌜ (many ≤ length (now has)) × (many ≤ length (now peers)) ⌝ }
-    ensures all { λ r. ⌜ r .ok ≡ allBelow (rowIn (now (states .entry)) (now (numPeers .entry)) (now (has .entry)) (now (peers .entry))) many ⌝ }
+    ensures all { λ r. ⌜ r .ok ≡ allBelow (rowIn (now (states .entry)) (now (requesters .entry)) (now (has .entry)) (now (peers .entry))) many ⌝ }
     ensures requested { λ r. ⌜ (r .ok ≡ true → r .requested ≡ requestedOf (now (states .entry)) many) ⌝ }
     ensures busy { λ r. ⌜ (r .ok ≡ true → r .busy ≡ busyOf (now (states .entry)) many) ⌝ }
 {

@@ -7,7 +7,7 @@ ghost use Rattle.partial_rows.specs.Rows.{dueBy, stateBy};
 
 // The number of the plain state that is due; that of Open where the piece is left as it is.
 pub fn state_due(wish: u64, requested: u64, busy: u64, blocks: u64, hashing: bool) -> u64
-    ensures { λ r. ⌜ r ≡ queueNumber (dueBy priority requested busy blocks hashing) ⌝ }
+    ensures { λ r. ⌜ r ≡ queueNumber (dueBy wish requested busy blocks hashing) ⌝ }
 {
     if wish == 0 {
         return 3;
@@ -36,7 +36,7 @@ pub fn state_ok(
     hashing: bool,
 ) -> bool
     requires { ⌜ state ≤ 6 ⌝ }
-    ensures { λ r. ⌜ r ≡ stateBy state priority requested busy blocks hashing ⌝ }
+    ensures { λ r. ⌜ r ≡ stateBy state wish requested busy blocks hashing ⌝ }
 {
     if 0 < wish {
         if busy == 0 {

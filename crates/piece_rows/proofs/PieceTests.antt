@@ -109,18 +109,18 @@ tests-apart true true false d z l h = refl
 tests-apart true false c d z l h = refl
 tests-apart false b c d z l h = refl
 
-pad-apart : (pad pieceSize long : ℕ) → long ≤ pieceSize → (leb pad pieceSize && leb pad long) ≡ leb pad long
-pad-apart pad pieceSize long h = elim (decLe pad long) [
-  | yes l ↦ rw (le-leb pad pieceSize (omega arith), le-leb pad long l)
-  | no m ↦ rw (lt-leb pad long (omega arith)) (and-false (leb pad pieceSize))
+pad-apart : (pad size long : ℕ) → long ≤ size → (leb pad size && leb pad long) ≡ leb pad long
+pad-apart pad size long h = elim (decLe pad long) [
+  | yes l ↦ rw (le-leb pad size (omega arith), le-leb pad long l)
+  | no m ↦ rw (lt-leb pad long (omega arith)) (and-false (leb pad size))
 ]
 
-row-apart : (seeds pieceSize long count state priority flushed pad : ℕ) → long ≤ pieceSize
-    → rowOk seeds long count state priority flushed pad ≡ (rowOk seeds pieceSize count state priority flushed pad && leb pad long)
+row-apart : (seeds size long count state priority flushed pad : ℕ) → long ≤ size
+    → rowOk seeds long count state priority flushed pad ≡ (rowOk seeds size count state priority flushed pad && leb pad long)
 unfolding rowOk
-row-apart seeds pieceSize long count state priority flushed pad h =
+row-apart seeds size long count state priority flushed pad h =
     tests-apart (leb state 6 && leb flushed 1) (leb (count + seeds) maxPeers) (leb priority 7) (not (yes? flushed) || isOpen (queueFrom state))
-    (leb pad pieceSize) (leb pad long) (pad-apart pad pieceSize long h)
+    (leb pad size) (leb pad long) (pad-apart pad size long h)
 
 -- tests that agree but for the last number, where the one asks t as well
 last-apart : (f g : ℕ → Bool) (t : Bool) (k m l : ℕ) → k + m ≡ l → ((i : ℕ) → i < l → f i ≡ g i) → f l ≡ (g l && t)
@@ -139,9 +139,9 @@ module _ (s : Shape) (xs : List ℕ) (r : Housed s xs) where
   some-piece = omega (arith, r .pieces, bounds (headWord xs 0) (headWord xs 1) (r .geometry) .some-pieces)
 
   -- a piece before the end is one of the geometry's
-  pub piece-there : (i at totalSize pieceSize : ℕ) → i < s .pieces → at ≡ i → totalSize ≡ headWord xs 0 → pieceSize ≡ headWord xs 1 → at < numPieces totalSize pieceSize
+  pub piece-there : (i at total size : ℕ) → i < s .pieces → at ≡ i → total ≡ headWord xs 0 → size ≡ headWord xs 1 → at < numPieces total size
   unfolding piecesOn
-  piece-there i at totalSize pieceSize h ea et ez = rw (ea, et, ez) (omega (arith, r .pieces))
+  piece-there i at total size h ea et ez = rw (ea, et, ez) (omega (arith, r .pieces))
 
   module _ (counts states wishes hads pads : List ℕ) (e0 : Column xs (s .pieces) 0 counts) (e1 : Column xs (s .pieces) 1 states)
       (e2 : Column xs (s .pieces) 2 wishes) (e3 : Column xs (s .pieces) 3 hads) (e4 : Column xs (s .pieces) 4 pads) where
@@ -154,7 +154,7 @@ module _ (s : Shape) (xs : List ℕ) (r : Housed s xs) where
       pads-long = e4 .long ∙ sym (e0 .long);
     }
 
-    module _ (seeds pieceSize : ℕ) (es : seeds ≡ headWord xs 2) (ez : pieceSize ≡ headWord xs 1) where
+    module _ (seeds size : ℕ) (es : seeds ≡ headWord xs 2) (ez : size ≡ headWord xs 1) where
       at-field : (i f : ℕ) (words : List ℕ) → Column xs (s .pieces) f words → i < s .pieces → pieceWord xs (piecesOn xs) f i ≡ getD words i 0
       at-field i f words e h = sym (e .word i h ∙ ap (λ (n : ℕ). pieceWord xs n f i) (r .pieces))
 
@@ -165,7 +165,7 @@ module _ (s : Shape) (xs : List ℕ) (r : Housed s xs) where
           (at-field i 2 wishes e2 h k) (at-field i 3 hads e3 h k) (at-field i 4 pads e4 h k)
 
       -- each row as that of a whole piece
-      pub inner-row : (i : ℕ) → i + 1 < s .pieces → rowAt xs i ≡ rowIn seeds pieceSize counts states wishes hads pads i
+      pub inner-row : (i : ℕ) → i + 1 < s .pieces → rowAt xs i ≡ rowIn seeds size counts states wishes hads pads i
       unfolding rowIn piecesOn
       inner-row i h =
           let e = pieceLength-whole (headWord xs 0) (headWord xs 1) i (bounds (headWord xs 0) (headWord xs 1) (r .geometry) .some-size) (omega (arith, r .pieces)) in
@@ -181,25 +181,25 @@ module _ (s : Shape) (xs : List ℕ) (r : Housed s xs) where
       -- and the pad of the last one by its own length
       module _ (last pad long : ℕ) (el : last + 1 ≡ s .pieces) (ep : pad ≡ pieceWord xs (s .pieces) 4 last)
           (eg : long ≡ pieceLength (headWord xs 0) (headWord xs 1) last) where
-        last-row : rowAt xs last ≡ (rowIn seeds pieceSize counts states wishes hads pads last && leb pad long)
+        last-row : rowAt xs last ≡ (rowIn seeds size counts states wishes hads pads last && leb pad long)
         unfolding rowIn
         last-row =
             let h : last < s .pieces = omega arith in
             let m = pieceLength-le (headWord xs 0) (headWord xs 1) last in
             row-read last h
-            ∙ row-apart seeds pieceSize (pieceLength (headWord xs 0) (headWord xs 1) last) (getD counts last 0) (getD states last 0) (getD wishes last 0) (getD hads last 0) (getD pads last 0) (omega arith)
-            ∙ ap (λ (t : Bool). rowOk seeds pieceSize (getD counts last 0) (getD states last 0) (getD wishes last 0) (getD hads last 0) (getD pads last 0) && t)
+            ∙ row-apart seeds size (pieceLength (headWord xs 0) (headWord xs 1) last) (getD counts last 0) (getD states last 0) (getD wishes last 0) (getD hads last 0) (getD pads last 0) (omega arith)
+            ∙ ap (λ (t : Bool). rowOk seeds size (getD counts last 0) (getD states last 0) (getD wishes last 0) (getD hads last 0) (getD pads last 0) && t)
             (λ k. leb ((e4 .word last h ∙ sym ep) k) (sym eg k))
 
-        pieces-are : (every (rowIn seeds pieceSize counts states wishes hads pads) (from 0 (length counts)) && leb pad long) ≡ goodPieces xs
+        pieces-are : (every (rowIn seeds size counts states wishes hads pads) (from 0 (length counts)) && leb pad long) ≡ goodPieces xs
         pieces-are =
             let a : length counts ≡ suc last = omega (arith, e0 .long) in
             let b : suc last ≡ piecesOn xs = omega (arith, r .pieces) in
-            ap (λ (n : ℕ). every (rowIn seeds pieceSize counts states wishes hads pads) (from 0 n) && leb pad long) a
-            ∙ sym (last-apart (rowAt xs) (rowIn seeds pieceSize counts states wishes hads pads) (leb pad long) 0 last last (omega arith) (λ i l. inner-row i (omega arith)) last-row)
+            ap (λ (n : ℕ). every (rowIn seeds size counts states wishes hads pads) (from 0 n) && leb pad long) a
+            ∙ sym (last-apart (rowAt xs) (rowIn seeds size counts states wishes hads pads) (leb pad long) 0 last last (omega arith) (λ i l. inner-row i (omega arith)) last-row)
             ∙ ap (λ (n : ℕ). every (rowAt xs) (from 0 n)) b ∙ rows-are xs
 
-      module _ (t : Bool) (keys : List ℕ) (p : Passed (rowIn seeds pieceSize counts states wishes hads pads) (keyIn seeds counts states wishes hads) (length counts) t keys) where
+      module _ (t : Bool) (keys : List ℕ) (p : Passed (rowIn seeds size counts states wishes hads pads) (keyIn seeds counts states wishes hads) (length counts) t keys) where
         pub rows-bad : t ≡ false → Sifted s false keys xs
         rows-bad e = record {
           is = sym (sym (pieces-are (s .pieces - 1) _ _ (omega (arith, some-piece)) refl refl) ∙ rw (sym (p .is) ∙ e));

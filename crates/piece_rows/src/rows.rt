@@ -14,7 +14,7 @@ pub fn piece_ok(
     pad: u64,
 ) -> bool
     requires { ⌜ seeds ≤ 1000 ⌝ }
-    ensures { λ r. ⌜ r ≡ rowOk seeds long count state priority flushed pad ⌝ }
+    ensures { λ r. ⌜ r ≡ rowOk seeds long count state wish had pad ⌝ }
 {
     if 6 < state {
         return false;

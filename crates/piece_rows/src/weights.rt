@@ -29,9 +29,9 @@ pub fn key_of(
     wish: u64,
     had: u64,
 ) -> u16
-    requires { ⌜ Ranked count state priority flushed ⌝ }
+    requires { ⌜ Ranked count state wish had ⌝ }
     requires { ⌜ now weights ≡ weightRows ⌝ }
-    ensures { λ r. ⌜ r ≡ rankFrom seeds count state priority flushed ⌝ }
+    ensures { λ r. ⌜ r ≡ rankFrom seeds count state wish had ⌝ }
 {
     if had != 0 {
         return 0;
