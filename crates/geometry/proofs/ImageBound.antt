@@ -86,7 +86,7 @@ record Tests (s : Picker) : Type 0 where
   valid : validGeometry (s .totalSize) (s .pieceSize) ≡ true
   many : piecesIn s ≡ numPieces (s .totalSize) (s .pieceSize)
   partials : partialsOk s 0 0 (s .pieces) (s .partials) ≡ true
-  extents : extentsOk s [] (s .recentExtents) ≡ true
+  recentExtents : extentsOk s [] (s .recentExtents) ≡ true
   listing : listingOk s (s .listing) ≡ true
 
 tests : (s : Picker) → wellFormed s ≡ true → Tests s

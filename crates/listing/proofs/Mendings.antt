@@ -20,8 +20,8 @@ use Rattle.layout.specs.Tables.{front}
 use Rattle.layout.specs.Layout.{listWords, decode, Room, Became}
 use Rattle.layout.proofs.RoomLaws.{became-none}
 use Rattle.layout.proofs.Meanings.{pieces-number, length-is}
-use Rattle.order.specs.Places.{rankIn, Pieces}
-use Rattle.update.specs.Relisting.{former, Ready, IsRelisted}
+use Rattle.list_moves.specs.Places.{rankIn, Pieces}
+use Rattle.list_update.specs.Relisting.{former, Ready, IsRelisted}
 use Rattle.listing.specs.Listings.{OrderBefore, ListedBefore}
 use Rattle.listing.proofs.Regions.{lentAt, backAt, part-long, part-list, filed-room, filed-few, filed}
 

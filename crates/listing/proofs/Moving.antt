@@ -12,7 +12,7 @@ use Rattle.model.proofs.sound.SoundFields.{Alone}
 use Rattle.layout.specs.declared.spots.Shape.{Shape}
 use Rattle.layout.specs.Layout.{decode, Became}
 use Rattle.layout.proofs.RoomLaws.{kept-again}
-use Rattle.update.specs.Relisting.{former}
+use Rattle.list_update.specs.Relisting.{former}
 use Rattle.listing.specs.Listings.{ListedBefore}
 
 -- a right list was right before the change of one piece

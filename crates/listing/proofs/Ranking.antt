@@ -20,7 +20,7 @@ use Rattle.model.proofs.base.Truths.{and-left, and-right}
 use Rattle.layout.specs.declared.spots.Shape.{Shape}
 use Rattle.layout.specs.Layout.{headWord, pieceWord, queueFrom, yes?, decode, Room}
 use Rattle.layout.proofs.Meanings.{pieces-number, count-is, state-is, priority-is, flushed-is}
-use Rattle.bucket.specs.Ranks.{Numbers, IsRank}
+use Rattle.list_rank.specs.Ranks.{Numbers, IsRank}
 use Rattle.listing.specs.Listings.{Ranges, Keyed}
 
 -- ---- a picker whose pieces pass their test has its numbers in range

@@ -13,10 +13,10 @@ use Rattle.layout.specs.Tables.{front}
 use Rattle.layout.specs.Layout.{listWords, decode, Room, Became}
 use Rattle.layout.proofs.RoomLaws.{became-none}
 use Rattle.layout.proofs.Meanings.{pieces-number}
-use Rattle.order.specs.Places.{rankIn}
-use Rattle.order.proofs.Ranks.{ranks-are}
-use Rattle.rebuild.specs.Rebuilding.{rebuiltBelow, drawsBelow, IsRebuilt}
-use Rattle.rebuild.proofs.Building.{rebuilt-is, rebuildDraws-is}
+use Rattle.list_moves.specs.Places.{rankIn}
+use Rattle.list_moves.proofs.Ranks.{ranks-are}
+use Rattle.list_rebuild.specs.Rebuilding.{rebuiltBelow, drawsBelow, IsRebuilt}
+use Rattle.list_rebuild.proofs.Building.{rebuilt-is, rebuildDraws-is}
 use Rattle.listing.specs.Listings.{Keyed}
 use Rattle.listing.proofs.Regions.{lentAt, backAt, filed-room, filed-few, filed}
 

@@ -6,7 +6,7 @@ use lib.ListN.{length, getD}
 use Rattle.model.specs.State.{Picker, maxPeers, listOf, pieceAt, piecesIn}
 use Rattle.model.specs.list.Order.{rank}
 use Rattle.model.specs.list.Listed.{Listed, ListingOf}
-use Rattle.update.specs.Relisting.{former}
+use Rattle.list_update.specs.Relisting.{former}
 
 -- peers and priority of each piece are in range, so that its rank has a place in the table
 pub record Ranges (p : Picker) : Type 0 where

@@ -23,7 +23,7 @@ fn rebuild_list(mem: &mut [u64], s: layout::Shape, draws: &[u32], t: usize) -> u
     rank_pieces(mem, s, &mut keys);
     let n = s.pieces;
     let a = layout::list_start(s);
-    let done = rebuild::update_pieces(&mut mem[a..a + n], &keys, n, draws, t);
+    let done = list_rebuild::update_pieces(&mut mem[a..a + n], &keys, n, draws, t);
     heads::set_list_length(mem, s, done.len);
     done.used
 }
@@ -67,7 +67,7 @@ fn mend_list(
     let a = layout::list_start(s);
     let len = heads::list_length(mem, s);
     let w = layout::word(x);
-    let done = update::relist(&mut mem[a..a + n], &keys, len, w, old, draws, t);
+    let done = list_update::relist(&mut mem[a..a + n], &keys, len, w, old, draws, t);
     heads::set_list_length(mem, s, done.len);
     done.used
 }

@@ -7,7 +7,7 @@ ghost use Rattle.types.specs.Piece.{indexOf};
 ghost use Rattle.types.specs.Queue.{queueNumber};
 ghost use Rattle.model.specs.list.Order.{rank};
 ghost use Rattle.layout.specs.Layout.{queueFrom, decode, Room};
-ghost use Rattle.bucket.specs.Ranks.{IsRank};
+ghost use Rattle.list_rank.specs.Ranks.{IsRank};
 ghost use Rattle.listing.specs.Listings.{Ranges, Keyed};
 
 // The rank by a piece's words. Most pieces are Open: tested first, they need no other test of the state.
@@ -17,9 +17,9 @@ fn rank_by(seeds: u64, count: u64, state: u64, wish: u64, had: u64) -> u64
     ensures { λ r. ⌜ IsRank seeds count (queueNumber (queueFrom state)) wish (eqb had 1) r ⌝ }
 {
     if state == 4 {
-        return bucket::bucket(seeds, count, 4, wish, had == 1);
+        return list_rank::rank(seeds, count, 4, wish, had == 1);
     }
-    bucket::bucket(seeds, count, layout::state_number(state), wish, had == 1)
+    list_rank::rank(seeds, count, layout::state_number(state), wish, had == 1)
 }
 
 // The rank of piece i: one more than its bucket, and 0 where it is in none.

@@ -14,7 +14,7 @@ use Rattle.model.specs.list.Order.{unlisted, bucketNumber, bucket, rankOf}
 use Rattle.model.proofs.base.Truths.{both-true}
 use Rattle.layout.specs.Layout.{queueFrom, yes?}
 use Rattle.layout.proofs.Meanings.{queue-number}
-use Rattle.bucket.specs.Ranks.{Numbers}
+use Rattle.list_rank.specs.Ranks.{Numbers}
 use Rattle.piece_rows.specs.Rows.{pieceFrom, rankFrom, rowOk, Ranked}
 
 -- ---- the state that a word means

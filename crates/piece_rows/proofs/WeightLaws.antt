@@ -11,8 +11,8 @@ use lib.ListN.{getD}
 use borrow.Author.Tests.{eq-eqb, ne-eqb, eqb-true, leb-true}
 use Rattle.model.specs.Lists.{every, from}
 use Rattle.model.proofs.base.Truths.{both-true}
-use Rattle.bucket.specs.Ranks.{off, unlistedBy}
-use Rattle.bucket.proofs.Ranking.{product, taken-off, rank-none, rank-some}
+use Rattle.list_rank.specs.Ranks.{off, unlistedBy}
+use Rattle.list_rank.proofs.Ranking.{product, taken-off, rank-none, rank-some}
 use Rattle.piece_rows.specs.Rows.{rankFrom, Ranked, weightRows}
 use Rattle.piece_rows.proofs.RowLaws.{numbers-of}
 use Rattle.piece_rows.proofs.PieceTests.{every-from}

@@ -1,0 +1,29 @@
+-- `go_earlier` meets its contract: what stands at i pushed in at p. Assumes nothing.
+use borrow.Author.Needs.{needs}
+use mathlib.Core.Path.{_∙_}
+use native.Mathlib.Omega.{arith}
+use Rattle.list_update.proofs.Moving.{earlier-pushed}
+use Rattle.list_update.proofs.go_earlier.Statement.{statement}
+use Rattle.list_update.proofs.go_earlier.Tie as tie
+
+mul-x : tie.Need-mul-x
+mul-x c = search needs
+
+slice-read-x : tie.Need-slice-read-x
+slice-read-x c = search needs
+
+push-requires : tie.Need-push-requires
+push-requires c κs =
+    let t = c .before .before .before .before in
+    (t .pre .0, (t .pre .1 .0, ((λ k q. t .pre .1 .1 k (omega arith)), t .pre .1 .1 _ (omega arith))))
+
+same-length : tie.Need-same-length
+same-length c = search needs
+
+returns : tie.Need-returns
+returns c =
+    let t = c .before .before .before .before .before .before .before in
+    c .before .before .push .ensures ∙ earlier-pushed _ (t .args .p) (t .args .i) (t .args .list .now)
+
+pub go-earlier-spec : {M : Type 1} → statement M
+go-earlier-spec = tie.close (tie.spec mul-x slice-read-x push-requires same-length returns)
