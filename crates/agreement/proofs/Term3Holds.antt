@@ -50,14 +50,14 @@ unfolding within
 within-enough lent s h = rw (le-ltb lent (memoryNeeded s) h)
 
 -- ---- reached pickers are well-formed
-begun-sound : {s : Picker} → Started s → Sound s
-begun-sound (fromNew lent totalSize pieceSize s e) =
+started-sound : {s : Picker} → Started s → Sound s
+started-sound (fromNew lent totalSize pieceSize s e) =
     let m = made-new lent totalSize pieceSize s e in
     subst Sound (m .1) (new-sound totalSize pieceSize (m .0))
-begun-sound (fromImage lent bytes s e) = wellFormed-sound s (accepted-image bytes s (made-read lent bytes s e) .1)
+started-sound (fromImage lent bytes s e) = wellFormed-sound s (accepted-image bytes s (made-read lent bytes s e) .1)
 
 reached-sound : {s : Picker} → Reached s → Sound s
-reached-sound (after b calls) = run-keeps _ calls (begun-sound b)
+reached-sound (after b calls) = run-keeps _ calls (started-sound b)
 
 reached-well : {s : Picker} → Reached s → wellFormed s ≡ true
 reached-well r = sound-wellFormed _ (reached-sound r)
@@ -66,12 +66,12 @@ reached-well r = sound-wellFormed _ (reached-sound r)
 pub term-3 : Term3
 unfolding readPicker readWithin
 term-3 = record {
-  same = λ s t p q. (
+  agree = λ s t p q. (
     (λ e calls. ap (λ (x : Picker). answers x calls) (image-injective s t (reached-well p) (reached-well q) e)),
     (λ f. ap image (pickers-same s t f (reached-sound p) (reached-sound q))),
   );
-  stay = λ s t p q e calls.
+  imagesStay = λ s t p q e calls.
       ap (λ (x : Picker). image (run x calls)) (image-injective s t (reached-well p) (reached-well q) e);
-  back = λ lent bytes s e. accepted-image bytes s (made-read lent bytes s e) .0;
-  there = λ s p lent h. ap (readWithin lent) (image-accepted s (reached-well p)) ∙ within-enough lent s h;
+  imageKept = λ lent bytes s e. accepted-image bytes s (made-read lent bytes s e) .0;
+  imageAccepted = λ s p lent h. ap (readWithin lent) (image-accepted s (reached-well p)) ∙ within-enough lent s h;
 }

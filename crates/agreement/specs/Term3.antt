@@ -25,6 +25,6 @@ pub record Term3 : Type 0 where
   pub imagesStay :
       (s t : Picker) → Reached s → Reached t → image s ≡ image t → (calls : List Call) → image (run s calls) ≡ image (run t calls)
   -- a picker read from an accepted image has that image
-  pub back : (lent : ℕ) (bytes : List ℕ) (s : Picker) → readPicker lent bytes ≡ made s → image s ≡ bytes
+  pub imageKept : (lent : ℕ) (bytes : List ℕ) (s : Picker) → readPicker lent bytes ≡ made s → image s ≡ bytes
   -- the image of a picker is accepted, given memory enough, and gives that picker
-  pub there : (s : Picker) → Reached s → (lent : ℕ) → memoryNeeded s ≤ lent → readPicker lent (image s) ≡ made s
+  pub imageAccepted : (s : Picker) → Reached s → (lent : ℕ) → memoryNeeded s ≤ lent → readPicker lent (image s) ≡ made s

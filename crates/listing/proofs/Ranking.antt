@@ -66,8 +66,8 @@ module _ (s : Shape) (xs : List ℕ) (r : Room s xs) (g : Ranges (decode xs)) (i
       let n : Numbers peerCount (queueNumber (queueFrom state)) priority (eqb flushed 1) (pieceAt (decode xs) i) = record {
         counts = sym (ec ∙ count-is s xs r i h);
         states = sym (ap (λ (w : ℕ). queueNumber (queueFrom w)) et ∙ ap queueNumber (state-is s xs r i h));
-        wishes = sym (ei ∙ priority-is s xs r i h);
-        haves = sym (ap (λ (w : ℕ). eqb w 1) eh ∙ flushed-is s xs r i h);
+        priorities = sym (ei ∙ priority-is s xs r i h);
+        flushes = sym (ap (λ (w : ℕ). eqb w 1) eh ∙ flushed-is s xs r i h);
       } in
       (k .is (pieceAt (decode xs) i) n ∙ ap (λ (m : ℕ). rankOf (bucket m (pieceAt (decode xs) i))) es, omega (arith, k .low))
 

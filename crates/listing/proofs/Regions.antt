@@ -95,7 +95,7 @@ module _ (s : Shape) (xs : List ℕ) (r : Room s xs) (a : ℕ) (ea : a ≡ 16 + 
       ap₂ (λ (k : ℕ) (l : List ℕ). take k l) (sym (length-is s xs r)) (lent-region ∙ region-lent s xs r) ∙ list-front s xs r
 
   -- a list put in front, and the other words as they were
-  module _ (ys l : List ℕ) (len : ℕ) (long : length ys ≡ length (lentAt a (s .pieces) xs)) (e : ys ≡ l ++ drop len (lentAt a (s .pieces) xs)) (el : len ≡ len l) where
+  module _ (ys l : List ℕ) (m : ℕ) (long : length ys ≡ length (lentAt a (s .pieces) xs)) (e : ys ≡ l ++ drop m (lentAt a (s .pieces) xs)) (el : m ≡ len l) where
     back-is : backAt a (s .pieces) xs ys ≡ putMid (16 + 5 * s .pieces) (s .pieces) xs ys
     back-is = ap₂ (λ (i k : ℕ). putMid i k xs ys) ea many
 
@@ -105,21 +105,21 @@ module _ (s : Shape) (xs : List ℕ) (r : Room s xs) (a : ℕ) (ea : a ≡ 16 + 
     pub filed-room : Room s (backAt a (s .pieces) xs ys)
     filed-room = rw back-is (region-back s xs r ys long-is .kept .room)
 
-    pub filed-few : len ≤ s .pieces
+    pub filed-few : m ≤ s .pieces
     unfolding len
-    filed-few = omega (arith, long-is, ap length e, length-append l (drop len (lentAt a (s .pieces) xs)))
+    filed-few = omega (arith, long-is, ap length e, length-append l (drop m (lentAt a (s .pieces) xs)))
 
-    front-is : front len (listWords (putMid (16 + 5 * s .pieces) (s .pieces) xs ys) (s .pieces)) ≡ l
+    front-is : front m (listWords (putMid (16 + 5 * s .pieces) (s .pieces) xs ys) (s .pieces)) ≡ l
     unfolding front len
-    front-is = ap (take len) (region-words s xs r ys long-is ∙ e) ∙ take-at l (drop len (lentAt a (s .pieces) xs)) len (sym el)
+    front-is = ap (take m) (region-words s xs r ys long-is ∙ e) ∙ take-at l (drop m (lentAt a (s .pieces) xs)) m (sym el)
 
     -- with its length stored it is the picker's list
     pub filed : (zs : List ℕ)
-        → Became s (backAt a (s .pieces) xs ys) zs (withListing (fresh (front len (listWords (backAt a (s .pieces) xs ys) (s .pieces)))) (decode (backAt a (s .pieces) xs ys)))
+        → Became s (backAt a (s .pieces) xs ys) zs (withListing (fresh (front m (listWords (backAt a (s .pieces) xs ys) (s .pieces)))) (decode (backAt a (s .pieces) xs ys)))
         → Became s xs zs (withListing (fresh l) (decode xs))
     filed zs b =
         let m = putMid (16 + 5 * s .pieces) (s .pieces) xs ys in
-        let g = subst (λ (z : List ℕ). Became s z zs (withListing (fresh (front len (listWords z (s .pieces)))) (decode z))) back-is b in
+        let g = subst (λ (z : List ℕ). Became s z zs (withListing (fresh (front m (listWords z (s .pieces)))) (decode z))) back-is b in
         let h = subst (λ (z : List ℕ). Became s m zs (withListing (fresh z) (decode m))) front-is g in
         subst (Became s xs zs) (listing-twice (fresh l) (listingHeld m (s .pieces)) (decode xs))
         (became-again s xs m zs (withListing (listingHeld m (s .pieces)) (decode xs)) (withListing (fresh l)) (region-back s xs r ys long-is) h)

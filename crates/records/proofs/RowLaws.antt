@@ -43,7 +43,7 @@ bits-flags : (f : PartialFlags) (d : DownloadingPiece) → withBits (flagNumber 
 unfolding withBits flagNumber flagged partialFrom
 bits-flags f d =
     let t = three-bits (f .passed) (f .locked) (f .hashing) in
-    λ i. record { piece = d .piece; passed = t .0 i; locked = t .1 i; hashing = t .2 i; blocks = d .blocks }
+    λ i. record { piece = d .piece; passedHashCheck = t .0 i; locked = t .1 i; hashing = t .2 i; blocks = d .blocks }
 
 module _ (s : Shape) (xs : List ℕ) (r : Room s xs) (k : ℕ) (h : k < len (decode xs .partials)) where
   pub slot-held : k < headWord xs 7
@@ -61,7 +61,7 @@ module _ (s : Shape) (xs : List ℕ) (r : Room s xs) (k : ℕ) (h : k < len (dec
   flags-read w f q a b c =
       let e = sym (partial-is s xs r k slot-held) in
       record {
-        passed = a ∙ ap (λ (v : ℕ). eqb (v % 2) 1) (sym (div-one w)) ∙ ap (λ (v : ℕ). bitOf v 0) q ∙ ap (λ (d : DownloadingPiece). d .passed) e;
+        passed = a ∙ ap (λ (v : ℕ). eqb (v % 2) 1) (sym (div-one w)) ∙ ap (λ (v : ℕ). bitOf v 0) q ∙ ap (λ (d : DownloadingPiece). d .passedHashCheck) e;
         locked = b ∙ ap (λ (v : ℕ). bitOf v 1) q ∙ ap (λ (d : DownloadingPiece). d .locked) e;
         hashing = c ∙ ap (λ (v : ℕ). bitOf v 2) q ∙ ap (λ (d : DownloadingPiece). d .hashing) e;
       }

@@ -11,7 +11,7 @@ use Rattle.records.specs.declared.blocks.BlockRow.{BlockRow}
 use Rattle.records.specs.declared.slots.PartialFlags.{PartialFlags}
 
 unfoldable pub blockOfRow : BlockRow → Block
-blockOfRow r = record { state = stateFrom (r .state); requesters = r .requesters; peer = cond (r .has) (some (r .peer)) none }
+blockOfRow r = record { state = stateFrom (r .state); numPeers = r .requesters; peer = cond (r .has) (some (r .peer)) none }
 
 -- the row is the block's, with its state's number
 pub record BlockRead (r : BlockRow) (x : Block) : Type 0 where
@@ -20,7 +20,7 @@ pub record BlockRead (r : BlockRow) (x : Block) : Type 0 where
 
 -- ---- flags
 pub record FlagsRead (f : PartialFlags) (d : DownloadingPiece) : Type 0 where
-  pub passed : f .passed ≡ d .passed
+  pub passed : f .passed ≡ d .passedHashCheck
   pub locked : f .locked ≡ d .locked
   pub hashing : f .hashing ≡ d .hashing
 
@@ -29,4 +29,4 @@ unfoldable pub flagNumber : PartialFlags → ℕ
 flagNumber f = bit (f .passed) + 2 * bit (f .locked) + 4 * bit (f .hashing)
 
 unfoldable pub flagged : PartialFlags → DownloadingPiece → DownloadingPiece
-flagged f d = record { piece = d .piece; passed = f .passed; locked = f .locked; hashing = f .hashing; blocks = d .blocks }
+flagged f d = record { piece = d .piece; passedHashCheck = f .passed; locked = f .locked; hashing = f .hashing; blocks = d .blocks }
