@@ -118,8 +118,8 @@ module _ (s : Shape) (xs : List ℕ) (r : Room s xs) (a : ℕ) (ea : a ≡ 16 + 
         → Became s (backAt a (s .pieces) xs ys) zs (withListing (fresh (front m (listWords (backAt a (s .pieces) xs ys) (s .pieces)))) (decode (backAt a (s .pieces) xs ys)))
         → Became s xs zs (withListing (fresh l) (decode xs))
     filed zs b =
-        let m = putMid (16 + 5 * s .pieces) (s .pieces) xs ys in
+        let back = putMid (16 + 5 * s .pieces) (s .pieces) xs ys in
         let g = subst (λ (z : List ℕ). Became s z zs (withListing (fresh (front m (listWords z (s .pieces)))) (decode z))) back-is b in
-        let h = subst (λ (z : List ℕ). Became s m zs (withListing (fresh z) (decode m))) front-is g in
-        subst (Became s xs zs) (listing-twice (fresh l) (listingHeld m (s .pieces)) (decode xs))
-        (became-again s xs m zs (withListing (listingHeld m (s .pieces)) (decode xs)) (withListing (fresh l)) (region-back s xs r ys long-is) h)
+        let h = subst (λ (z : List ℕ). Became s back zs (withListing (fresh z) (decode back))) front-is g in
+        subst (Became s xs zs) (listing-twice (fresh l) (listingHeld back (s .pieces)) (decode xs))
+        (became-again s xs back zs (withListing (listingHeld back (s .pieces)) (decode xs)) (withListing (fresh l)) (region-back s xs r ys long-is) h)

@@ -95,7 +95,7 @@ module _ (s : Shape) (xs : List ℕ) (r : Room s xs) (k : ℕ) (h : k < len (dec
         record {
           is = (λ i. record {
             state = (ap stateFrom ea ∙ number-state (stateFrom a) ∙ ap stateFrom wa) i;
-            requesters = eb i;
+            numPeers = eb i;
             peer = cond ((ec ∙ ap yes? wc) i) (some (ed i)) none;
           }) ∙ e;
           state = ea ∙ ap (λ (w : ℕ). blockStateNumber (stateFrom w)) wa ∙ ap (λ (y : Block). blockStateNumber (y .state)) e;
@@ -108,7 +108,7 @@ module _ (s : Shape) (xs : List ℕ) (r : Room s xs) (k : ℕ) (h : k < len (dec
 -- ---- a row stored
 row-from : (x : BlockRow) → blockFrom (x .state) (x .requesters) (bit (x .has)) (x .peer) ≡ blockOfRow x
 unfolding blockFrom blockOfRow peerFrom yes?
-row-from x = λ i. record { state = stateFrom (x .state); requesters = x .requesters; peer = go (x .has) (x .peer) i }
+row-from x = λ i. record { state = stateFrom (x .state); numPeers = x .requesters; peer = go (x .has) (x .peer) i }
   where
     go : (t : Bool) (p : ℕ) → peerFrom (bit t) p ≡ cond t (some p) none
     go true p = refl

@@ -15,7 +15,7 @@ wrapping-sub-u64-requires c κs = search needs
 returns : tie.Need-returns
 returns c =
     let a = c .before .before .before .before .before .before .args in
-    join-row (a .sum) (a .state) (a .numPeers) (a .has) (a .peer) (c .before .before .before .before .wrapping-add-u64 .result) (c .before .wrapping-sub-u64 .result) (omega arith) (omega arith) (omega arith) (c .before .before .before .before .wrapping-add-u64 .ensures) (c .before .wrapping-sub-u64 .ensures)
+    join-row (a .sum) (a .state) (a .requesters) (a .has) (a .peer) (c .before .before .before .before .wrapping-add-u64 .result) (c .before .wrapping-sub-u64 .result) (omega arith) (omega arith) (omega arith) (c .before .before .before .before .wrapping-add-u64 .ensures) (c .before .wrapping-sub-u64 .ensures)
 
 pub join-spec : {M : Type 1} → statement M
 join-spec = tie.close (tie.spec wrapping-add-u64-requires wrapping-sub-u64-requires returns)
