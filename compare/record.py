@@ -41,7 +41,8 @@ def full_of_partials(rng):
     while True:
         s = a_picker(rng, 513, 1)
         if len(s.partials) == 512 and not s.pieces[512].had:
-            return ["zero", f"read {image(s).hex()}", "mark_as_downloading 512 0 - 0", "mark_as_writing 512 0 1", "mark_as_finished 512 0 1"]
+            marks = ["mark_as_downloading 512 0 - 0", "mark_as_writing 512 0 1", "mark_as_finished 512 0 1"]
+            return ["zero", f"read {image(s).hex()}"] + marks
 
 
 def damaged(rng):

@@ -7,7 +7,15 @@ from compare.lists import a_peer
 from compare.states import BLOCK, a_picker, an_order
 from reference.geometry import blocks_of, num_extents
 from reference.image import image
-from reference.options import ALIGN_EXPANDED_PIECES, ON_PAROLE, PIECE_EXTENT_AFFINITY, PRIORITIZE_PARTIALS, RAREST_FIRST, REVERSE, SEQUENTIAL
+from reference.options import (
+    ALIGN_EXPANDED_PIECES,
+    ON_PAROLE,
+    PIECE_EXTENT_AFFINITY,
+    PRIORITIZE_PARTIALS,
+    RAREST_FIRST,
+    REVERSE,
+    SEQUENTIAL,
+)
 from reference.state import MAX_EXTENTS, MIN_DRAWS, OPEN
 
 RUN_PICKERS = 160
