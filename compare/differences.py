@@ -1,6 +1,7 @@
 """`python3 -m compare.differences`: the smallest input of each difference, docs/differences/NAME.calls. The oracle must meet that
 difference, and then answer as the reference does. The scripts are those of SCRIPTS, no fewer and no others. Status 1 where a difference
 is not met or the answers part, 2 where a script is missing, malformed or on no list."""
+import glob
 import os
 import sys
 
@@ -27,7 +28,7 @@ class Amiss(Exception):
 def check_list():
     if set(SCRIPTS.values()) != set(DIFFERENCES):
         raise Amiss("the list of scripts does not have every difference")
-    there = set(os.listdir(FOLDER)) if os.path.isdir(FOLDER) else set()
+    there = {os.path.basename(path) for path in glob.glob(os.path.join(FOLDER, "*")) if os.path.isfile(path)}
     due = {f"{name}.calls" for name in SCRIPTS}
     if due - there:
         raise Amiss("missing: " + ", ".join(sorted(due - there)))

@@ -5,6 +5,7 @@ blocks that they make two extents or more, two or more of them recent, most piec
 run, N or the list ends is met often."""
 from compare.lists import a_peer
 from compare.states import BLOCK, a_picker, an_order
+from reference.blocks import free_from, longest_free
 from reference.geometry import blocks_of, num_extents
 from reference.image import image
 from reference.options import (
@@ -72,9 +73,23 @@ def some_options(rng, usual):
     return options
 
 
-def a_run(rng, b):
-    """A multiple of b, one less or one more."""
-    return max(0, rng.randint(0, 4) * b + rng.choice([-1, 0, 1]))
+def near(rng, number, lowest):
+    """The number, one less or one more."""
+    return max(lowest, number + rng.choice([-1, 0, 1]))
+
+
+def a_run(rng, s, b):
+    """Near a multiple of b, now and then near the longest stretch of free blocks of a partial."""
+    if s.partials and rng.random() < 0.3:
+        return near(rng, longest_free(rng.choice(s.partials))[0], 0)
+    return near(rng, rng.randint(0, 4) * b, 0)
+
+
+def a_number_wanted(rng, s, n, b):
+    """Few, near whole pieces, or near the number of free blocks of a partial."""
+    if s.partials and rng.random() < 0.3:
+        return near(rng, len(free_from(rng.choice(s.partials), 0)), 1)
+    return rng.choice([1, 2, 3, b, b + 1, 2 * b, 3 * b + 1, n * b, n * b + 5])
 
 
 def a_bitfield(rng, n):
@@ -94,11 +109,10 @@ def some_draws(rng, n):
 
 def pick_line(rng, s, usual, suggested):
     n, b = len(s.pieces), blocks_of(s.size, s.size)
-    wanted = rng.choice([1, 2, 3, b, b + 1, 2 * b, 3 * b + 1, n * b, n * b + 5])
     peers = rng.choice([0, 1, 10, 10, 10])
     suggestions = some_suggestions(rng, n) if rng.random() < suggested else "-"
-    run = a_run(rng, b) if rng.random() < 0.85 else 0
-    fields = f"{some_options(rng, usual)} {wanted} {run} {peers} {a_peer(rng)} {a_bitfield(rng, n)} {suggestions}"
+    run = a_run(rng, s, b) if rng.random() < 0.85 else 0
+    fields = f"{some_options(rng, usual)} {a_number_wanted(rng, s, n, b)} {run} {peers} {a_peer(rng)} {a_bitfield(rng, n)} {suggestions}"
     return f"pick_pieces {fields} {some_draws(rng, n)}"
 
 
