@@ -21,8 +21,10 @@ def text_of(path):
     try:
         with open(path, encoding="ascii") as f:
             text = f.read()
-    except (OSError, UnicodeDecodeError) as why:
-        raise Lacking(f"{path}: {why}")
+    except OSError as why:
+        raise Lacking(f"{path}: {why.strerror}")
+    except UnicodeDecodeError as why:
+        raise Lacking(f"{path}: not ASCII at byte {why.start}")
     if not text:
         raise Lacking(f"{path}: the file is empty")
     return text
