@@ -18,7 +18,7 @@ from reference.calls import STEPS
 from reference.image import image
 
 SEED = 20261115
-STEPS_WANTED = 4500
+STEPS_WANTED = 6000
 
 
 class Failed(Exception):
