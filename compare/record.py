@@ -19,6 +19,7 @@ from reference.image import image
 
 SEED = 20261115
 STEPS_WANTED = 6000
+MOST_STEPS = 20000
 
 
 class Failed(Exception):
@@ -60,6 +61,8 @@ def random_lists(rng):
     lines = []
     while len(lines) < STEPS_WANTED or missing(lines):
         lines += [s.line for s in a_list(rng, tiny_geometry, 30)]
+        if len(lines) > MOST_STEPS:
+            raise Failed(f"no random list makes these calls: {', '.join(sorted(missing(lines)))}")
     return lines
 
 
