@@ -3,28 +3,8 @@ scripts, which get a message with the line, status 2 and nothing on standard out
 import subprocess
 import sys
 
+from compare.pick_programs import PICKS
 from compare.run import TOP
-from reference.image import HEAD, PICK, PIECE, image, record
-from reference.geometry import new
-
-EXAMPLE = record(HEAD, (65536, 32768, 0, 0, 2, 1)) + record(PIECE, (2, 4, 4, 0, 0)) + record(PIECE, (1, 4, 4, 0, 0))
-ASK = record(PICK, (3, 3, 0, 10, 0, 0))
-SIX_LINES = "0 0\n0 1\n1 0\nflags 16\ndraws 0\nloops 0 0 2 0 0 0 0\n"
-
-# standard input of the pick program, and what it prints
-PICKS = {
-    "the example": (EXAMPLE + ASK, SIX_LINES),
-    "nothing": (b"", "refused 13 0\n"),
-    "no pick record": (EXAMPLE, "refused 13 44\n"),
-    "a pick record cut short": (EXAMPLE + ASK[:-1], "refused 13 44\n"),
-    "something after it": (EXAMPLE + ASK + b"\0", "refused 13 62\n"),
-    "a piece missing": (EXAMPLE[:-10] + ASK, "refused 13 34\n"),
-    "an absent peer with a number": (EXAMPLE + record(PICK, (3, 3, 0, 10, 0, 1)), "refused 13 44\n"),
-    "65 pieces": (image(new(65, 1)) + ASK, "refused 2\n"),
-    "17 blocks a piece": (image(new(1, 17 * 16384)) + ASK, "refused 2\n"),
-    "no blocks wanted": (EXAMPLE + record(PICK, (3, 0, 0, 10, 0, 0)), "refused 11\n"),
-    "both orders": (EXAMPLE + record(PICK, (17, 3, 0, 10, 0, 0)), "refused 11\n"),
-}
 
 # scripts that are no scripts, and the line to be named
 BAD_SCRIPTS = {

@@ -1,22 +1,34 @@
-"""`python3 -m compare.record`: writes recorded/calls.txt and recorded/outcomes.txt, the oracle's answers to a fixed list of calls on
-small geometries. With `--check` it compares instead of writing."""
+"""`python3 -m compare.record`: writes recorded/calls.txt and recorded/outcomes.txt, the oracle's answers to a fixed list of calls. With
+`--check` it compares instead of writing: the oracle still gives the recorded outcomes, and oracle and reference agree on the whole of
+the scripts that are recorded in part. Status 1 where they do not, 2 where the recorded files are not as they have to be."""
 import argparse
-import glob
 import os
 import random
 import subprocess
 import sys
 
+from compare.kept import is_cut, paths, recorded_form, whole
 from compare.lists import a_list
-from compare.run import ORACLE, TOP
+from compare.recorded import CALLS, OUTCOMES, Lacking, check, recorded
+from compare.replay import first_other
+from compare.run import ORACLE
+from compare.small_picks import small_picks
 from compare.states import BLOCK, a_picker
 from reference.calls import STEPS
 from reference.image import image
 
-CALLS = os.path.join(TOP, "recorded", "calls.txt")
-OUTCOMES = os.path.join(TOP, "recorded", "outcomes.txt")
 SEED = 20261115
-STEPS_WANTED = 3000
+STEPS_WANTED = 6000
+MOST_STEPS = 20000
+
+
+class Failed(Exception):
+    """The oracle does not answer, or not as recorded."""
+
+
+def part(name):
+    """Each part of the script has draws of its own, so that one can change without the others."""
+    return random.Random(f"{SEED} {name}")
 
 
 def tiny_geometry(rng):
@@ -30,7 +42,8 @@ def full_of_partials(rng):
     while True:
         s = a_picker(rng, 513, 1)
         if len(s.partials) == 512 and not s.pieces[512].had:
-            return ["zero", f"read {image(s).hex()}", "mark_as_downloading 512 0 - 0", "mark_as_writing 512 0 1", "mark_as_finished 512 0 1"]
+            marks = ["mark_as_downloading 512 0 - 0", "mark_as_writing 512 0 1", "mark_as_finished 512 0 1"]
+            return ["zero", f"read {image(s).hex()}"] + marks
 
 
 def damaged(rng):
@@ -44,21 +57,13 @@ def damaged(rng):
     return lines
 
 
-def kept_scripts():
-    """The scripts of the differences and those of the oracle's own tests, each on memory of zeros."""
-    lines = []
-    for path in sorted(glob.glob(os.path.join(TOP, "docs", "differences", "*.calls")) + glob.glob(os.path.join(TOP, "oracle", "tests", "*.calls"))):
-        with open(path, encoding="ascii") as f:
-            lines += ["zero"] + [line for line in f.read().split("\n") if line and line != "end" and not line.startswith("#")]
-    return lines
-
-
-def script_lines():
-    rng = random.Random(SEED)
+def random_lists(rng):
     lines = []
     while len(lines) < STEPS_WANTED or missing(lines):
         lines += [s.line for s in a_list(rng, tiny_geometry, 30)]
-    return lines + kept_scripts() + damaged(rng) + full_of_partials(rng)
+        if len(lines) > MOST_STEPS:
+            raise Failed(f"no random list makes these calls: {', '.join(sorted(missing(lines)))}")
+    return lines
 
 
 def missing(lines):
@@ -66,17 +71,19 @@ def missing(lines):
     return set(STEPS) - {line.split(" ")[0] for line in lines}
 
 
+def script_lines():
+    kept = [line for path in paths() for line in recorded_form(path)]
+    return random_lists(part("lists")) + kept + small_picks(part("picks")) + damaged(part("damaged")) + full_of_partials(part("partials"))
+
+
 def answers(script):
-    run = subprocess.run([ORACLE], input=script, capture_output=True, text=True)
+    try:
+        run = subprocess.run([ORACLE], input=script, capture_output=True, text=True)
+    except OSError as why:
+        raise Failed(f"the oracle does not run: {why}")
     if run.returncode != 0:
-        print(f"record: the oracle ended with status {run.returncode}: {run.stderr.strip()}", file=sys.stderr)
-        sys.exit(run.returncode)
+        raise Failed(f"the oracle ended with status {run.returncode}: {run.stderr.strip()}")
     return run.stdout
-
-
-def same(path, text):
-    with open(path, encoding="ascii") as f:
-        return f.read() == text
 
 
 def write(path, text):
@@ -85,21 +92,40 @@ def write(path, text):
         f.write(text)
 
 
+def script_of(lines):
+    return "\n".join(lines) + "\nend\n"
+
+
+def record_anew():
+    script = script_of(script_lines())
+    outcomes = answers(script)
+    check(script, outcomes)
+    write(CALLS, script)
+    write(OUTCOMES, outcomes)
+    print(f"{script.count(chr(10)) - 1} calls recorded")
+
+
+def still_holds():
+    script, outcomes = recorded()
+    if answers(script) != outcomes:
+        raise Failed("the oracle's outcomes are not those recorded")
+    cut = [path for path in paths() if is_cut(path)]
+    for path in cut:
+        script_whole = script_of(whole(path))
+        other = first_other(script_whole, answers(script_whole))
+        if other:
+            raise Failed(f"{path}: {other}")
+    print(f"{script.count(chr(10)) - 1} recorded outcomes still hold; {len(cut)} scripts recorded in part agree as a whole")
+
+
 def main():
     ap = argparse.ArgumentParser()
     ap.add_argument("--check", action="store_true")
-    check = ap.parse_args().check
-    if check:
-        with open(CALLS, encoding="ascii") as f:
-            script = f.read()
-        if not same(OUTCOMES, answers(script)):
-            print("record: the oracle's outcomes are not those recorded", file=sys.stderr)
-            return 1
-        print(f"{script.count(chr(10)) - 1} recorded outcomes still hold")
-        return 0
-    script = "\n".join(script_lines()) + "\nend\n"
-    write(CALLS, script)
-    write(OUTCOMES, answers(script))
+    try:
+        still_holds() if ap.parse_args().check else record_anew()
+    except (Failed, Lacking) as why:
+        print(f"record: {why}", file=sys.stderr)
+        return 2 if isinstance(why, Lacking) else 1
     return 0
 
 

@@ -1,5 +1,5 @@
 //! Runs the exported functions of `bitfield_c` beside the Rust bitfield and compares every answer and every byte.
-//! `harness/run` builds it. Prints how many comparisons were made; ends with status 1 at the first difference.
+//! `harness/run` builds it. Prints how many comparisons were made; ends with status 1 at the first difference, 2 after fewer than LEAST.
 
 use bitfield_rs::Bitfield;
 
@@ -56,6 +56,9 @@ impl Random {
             .collect()
     }
 }
+
+/// Comparisons: no fewer than this.
+const LEAST: u64 = 12_000_000;
 
 struct Tally(u64);
 
@@ -278,6 +281,10 @@ fn main() {
         let places: Vec<usize> = (0..20).map(|_| r.below(bits + 10)).collect();
         let sizes: Vec<usize> = (0..10).map(|_| r.below(5001)).collect();
         case(&mut t, &mut r, &data, bits, &places, &sizes);
+    }
+    if t.0 < LEAST {
+        eprintln!("bitfield: {} comparisons, fewer than {LEAST}", t.0);
+        std::process::exit(2);
     }
     println!("{} comparisons, no difference", t.0);
 }

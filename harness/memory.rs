@@ -1,5 +1,6 @@
 //! Runs the proved memory test on the memories of standard input and compares its answer with the one that stands before each.
-//! `harness/run` builds it. Prints how many were compared; ends with status 1 at the first difference, 2 on bad input.
+//! `harness/run` builds it. Prints how many were compared; ends with status 1 at the first difference, 2 on bad input and where there
+//! were fewer memories of a kind than LEAST.
 
 use std::io::BufRead;
 use std::process::exit;
@@ -8,6 +9,9 @@ use std::process::exit;
 extern "C" {
     fn wf_well_formed(mem: *const u64, len: usize) -> bool;
 }
+
+/// Memories in which a picker stands, and those in which none does: no fewer than this of each.
+const LEAST: u64 = 5_000;
 
 fn bad(line: usize, why: &str) -> ! {
     eprintln!("memory: line {line}: {why}");
@@ -40,6 +44,9 @@ fn main() {
     }
     if !ended {
         bad(0, "the input has no `end`");
+    }
+    if good < LEAST || other < LEAST {
+        bad(0, &format!("{good} good memories and {other} others, fewer than {LEAST} of a kind"));
     }
     println!("{} memories judged alike: {good} good, {other} not", good + other);
 }
