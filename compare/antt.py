@@ -4,6 +4,7 @@ The language is total and pure, so the order of evaluation is free. Arguments ar
 clauses compute only the arm that is taken. A function value takes one argument at a time. A call in tail position is a loop, and so is one under
 `_∷_`, `_++_`, `_+_` or `suc`, with what stands before it kept in `acc`. A list that a function takes apart is passed on with the place
 where its rest begins, so that the rest is copied only where it is used as a whole."""
+import ctypes
 import os
 import re
 import sys
@@ -23,8 +24,18 @@ def mangled(name):
     return re.sub(r"\W", lambda m: f"_{ord(m.group()):x}_", name)
 
 
-def with_deep_stack(f):
-    """The value of f(), run where calls may nest as deep as the lists of a definition are long."""
+class TooLong(Exception):
+    """No value in the time that was given."""
+
+
+def stop(thread):
+    """Ends a thread of Python code: what it computes has taken too long."""
+    ctypes.pythonapi.PyThreadState_SetAsyncExc(ctypes.c_ulong(thread.ident), ctypes.py_object(TooLong))
+    thread.join()
+
+
+def with_deep_stack(f, seconds=None):
+    """The value of f(), run where calls may nest as deep as the lists of a definition are long. TooLong where there is none in time."""
     out = []
 
     def run():
@@ -37,7 +48,9 @@ def with_deep_stack(f):
     threading.stack_size(STACK)
     thread = threading.Thread(target=run)
     thread.start()
-    thread.join()
+    thread.join(seconds)
+    if thread.is_alive():
+        stop(thread)
     value, why = out[0]
     if why is not None:
         raise why

@@ -2,8 +2,8 @@
 
 The lists of calls are those of compare/lists.py. Compared for each call: the answer with its refusal, the draws used, the image after it;
 after each change the picker must also be `wellFormed`. The first mismatch ends it with status 1, with the list up to that call as
-a script. `--script FILE` takes scripts instead, `--recorded` the recorded calls and their recorded outcomes, for which no oracle is needed.
-`--specs FOLDER` takes the definitions from another folder.
+a script. `--script FILE` takes scripts instead, `--edges` the lists of compare/edges.py, `--recorded` the recorded calls and their
+recorded outcomes, for which no oracle is needed. `--specs FOLDER` takes the definitions from another folder.
 
 The driver's and not the definition's, since the definition starts from a picker that stands:
 - where no picker stands (`zero`, or nothing read or made before), the answers of docs/DECISIONS.md 4: 2 for memory shorter than the head, else 3;
@@ -11,20 +11,20 @@ The driver's and not the definition's, since the definition starts from a picker
 - `none` among the numbers of a question is printed as `0 0` for a peer, -1 for a bucket."""
 import argparse
 import multiprocessing
-import os
 import re
 import sys
 
-from compare.antt import SPECS, Program, value_of, with_deep_stack
+from compare.antt import SPECS, Program, TooLong, value_of, with_deep_stack
 from compare.antt_library import NONE, Stuck, some
 from compare.antt_parse import AnttError
+from compare.edges import edges
 from compare.lists import lists
 from compare.record import CALLS, OUTCOMES
 from compare.run import Figures, Mismatch, ask_oracle, report
 from reference import questions
-from reference.calls import STEPS, Seeded
+from reference.calls import STEPS
 from reference.geometry import HEAD_WORDS
-from reference.script import LIST, NUMBER, OPTIONS, PEER, SHAPES, WITH_DRAWS, Malformed, call_of, calls_of
+from reference.script import OPTIONS, PEER, SHAPES, WITH_DRAWS, Malformed, call_of, calls_of
 
 # ---- the definition's names that values are built with or read by
 STEP, IMAGE, WELL_FORMED, NEW, READ, TAKE = "step", "image", "wellFormed", "newPicker", "readPicker", "takeImage"
@@ -270,12 +270,15 @@ def oracle_outcomes(lines):
     return ask_oracle("".join(f"{line}\n" for line in lines) + "end\n")
 
 
-def compare_definition(specs, lines, outcomes=None, figures=None):
+def compare_definition(specs, lines, outcomes=None, figures=None, seconds=None):
     """The first mismatch of the definitions in a folder on these script lines, or None. `outcomes` are the oracle's where they are known.
-    Text that cannot be run at all is an AnttError."""
+    Text that cannot be run at all is an AnttError. An edit may make a walk endless: what takes longer than `seconds` is a mismatch."""
     due = oracle_outcomes(lines) if outcomes is None else outcomes
     made = Figures() if figures is None else figures
-    return with_deep_stack(lambda: first_mismatch(Definition(specs), lines, due, made))
+    try:
+        return with_deep_stack(lambda: first_mismatch(Definition(specs), lines, due, made), seconds)
+    except TooLong:
+        return f"call: {lines[min(made['calls'], len(lines) - 1)][:300]}\nno answer within {seconds} s"
 
 
 def recorded_outcomes(path):
@@ -357,6 +360,8 @@ def script_run(a):
     todo = [(script_lines(path), None) for path in a.script]
     if a.recorded:
         todo.append((script_lines(CALLS), recorded_outcomes(OUTCOMES)))
+    if a.edges:
+        todo.append((edges(), None))
     for lines, due in todo:
         try:
             wrong = compare_definition(a.specs, lines, due, figures)
@@ -382,6 +387,7 @@ def arguments():
     ap.add_argument("--all", action="store_true", help="every call and refusal must have been met")
     ap.add_argument("--script", nargs="+", default=[], help="scripts of calls instead of random lists")
     ap.add_argument("--recorded", action="store_true", help="the recorded calls instead of random lists")
+    ap.add_argument("--edges", action="store_true", help="the lists of compare/edges.py instead of random lists")
     ap.add_argument("--specs", default=SPECS, help="the folder of the definitions")
     return ap.parse_args()
 
@@ -389,7 +395,7 @@ def arguments():
 def main():
     a = arguments()
     try:
-        figures, wrong = script_run(a) if a.script or a.recorded else random_run(a)
+        figures, wrong = script_run(a) if a.script or a.recorded or a.edges else random_run(a)
     except (Malformed, OSError) as why:
         print(f"definition: {why}", file=sys.stderr)
         return 2
