@@ -1,9 +1,9 @@
 """An interpreter of the subset of antt in which the definitions are written: the functions of the text become Python functions.
 
 The language is total and pure, so the order of evaluation is free. Arguments are computed before a call; `cond`, `_&&_`, `_||_`, `elim` and
-clauses compute only the arm that is taken. A function value takes one argument at a time. A call in tail position is a loop, and so is one under
-`_∷_`, `_++_`, `_+_` or `suc`, with what stands before it kept in `acc`. A list that a function takes apart is passed on with the place
-where its rest begins, so that the rest is copied only where it is used as a whole."""
+clauses compute only the arm that is taken. A function value takes one argument at a time. A call in tail position is a loop, and so
+is one under `_∷_`, `_++_`, `_+_` or `suc`, with what stands before it kept in `acc`. A list that a function takes apart is passed on
+with the place where its rest begins, so that the rest is copied only where it is used as a whole."""
 import ctypes
 import os
 import re
@@ -299,9 +299,15 @@ class Coder:
         if c.native == "suc":
             return f"({args[0]} + 1)"
         if c.native == "cons":
-            rest = args[1]
-            return f"[{args[0]}, {rest[1:]}" if e[2][1][0] == "con" and rest != "[]" else f"[{args[0]}]" if rest == "[]" else f"[{args[0]}, *{rest}]"
+            return self.list_text(args, e[2][1])
         return f"({', '.join([self.program.tag(c), *args])})" if args else self.program.constant(c)
+
+    def list_text(self, args, rest):
+        """x ∷ xs, a list of more elements where xs is one written out."""
+        first, more = args
+        if more == "[]":
+            return f"[{first}]"
+        return f"[{first}, {more[1:]}" if rest[0] == "con" else f"[{first}, *{more}]"
 
     def ex_cond(self, e):
         return f"({self.ex(e[2])} if {self.ex(e[1])} else {self.ex(e[3])})"
@@ -413,13 +419,15 @@ class Program:
     def curried(self, function):
         """A function as a value."""
         self.need(function)
+        if function.arity == 0:
+            return function.py
         name = f"c_{function.py}"
         if name not in self.globals:
             self.globals[name] = None
             params = [f"a{k}" for k in range(function.arity)]
             args = ", ".join(f"{p}, 0" if k in function.offsets else p for k, p in enumerate(params))
-            self.sources.append(f"{name} = {''.join(f'lambda {p}: ' for p in params)}{function.py}({args})" if params else f"{name} = {function.py}")
-        return function.py if function.arity == 0 else name
+            self.sources.append(f"{name} = {''.join(f'lambda {p}: ' for p in params)}{function.py}({args})")
+        return name
 
     def tag(self, c):
         name = f"t{id(c)}"

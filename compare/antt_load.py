@@ -1,9 +1,10 @@
 """The modules of a definition with all that they import, and every name in them resolved: what is left is a small language of calls,
 constructors, records, functions and case distinctions, from which compare/antt.py makes Python.
 
-Expressions: ("var", v), ("num", k), ("fref", function), ("call", function, args), ("nat", native, args), ("con", constructor, args), ("cond", c,
-a, b), ("and", a, b), ("or", a, b), ("app", f, args), ("proj", e, field), ("lam", vars, e), ("let", v, e, e), ("rec", fields, values),
-("case", e, arms). Patterns: ("any",), ("bind", v), ("is", constructor, patterns), ("eq", k). Every variable is a number of its own."""
+Expressions: ("var", v), ("num", k), ("fref", function), ("call", function, args), ("nat", native, args), ("con", constructor, args),
+("cond", c, a, b), ("and", a, b), ("or", a, b), ("app", f, args), ("proj", e, field), ("lam", vars, e), ("let", v, e, e),
+("rec", fields, values), ("case", e, arms). Patterns: ("any",), ("bind", v), ("is", constructor, patterns), ("eq", k). Every variable
+is a number of its own."""
 import itertools
 import os
 import re

@@ -45,7 +45,9 @@ class Module:
 # ---- tokens
 NAME = r"[^\s(){}.;,@\"«»]+"
 TOKEN = re.compile(
-    rf"(?P<skip>\s+|--[^\n]*|\{{-.*?-\}})|(?P<esc>«[^»]*»)|(?P<dotname>\.(?:«[^»]*»|{NAME}))|(?P<dot>\.)|(?P<name>{NAME})|(?P<punct>[(){{}};,])", re.S
+    rf"(?P<skip>\s+|--[^\n]*|\{{-.*?-\}})|(?P<esc>«[^»]*»)|(?P<dotname>\.(?:«[^»]*»|{NAME}))|(?P<dot>\.)"
+    rf"|(?P<name>{NAME})|(?P<punct>[(){{}};,])",
+    re.S,
 )
 NUMBER = re.compile(r"0x[0-9a-f_]+|0o[0-7_]+|0b[01_]+|[0-9][0-9_]*")
 USE = re.compile(r"^(?:pub )?use\s+([^\s{]+?)(?:\.\{([^}]*)\})?[ ]*$", re.M)

@@ -3,10 +3,12 @@
 The lists of calls are those of compare/lists.py. Compared for each call: the answer with its refusal, the draws used, the image after it;
 after each change the picker must also be `wellFormed`. The first mismatch ends it with status 1, with the list up to that call as
 a script. `--script FILE` takes scripts instead, `--edges` the lists of compare/edges.py, `--recorded` the recorded calls and their
-recorded outcomes, for which no oracle is needed. `--specs FOLDER` takes the definitions from another folder.
+recorded outcomes, for which no oracle is needed, `--programs` the pick program's inputs of compare/programs.py. `--specs FOLDER` takes the
+definitions from another folder.
 
 The driver's and not the definition's, since the definition starts from a picker that stands:
-- where no picker stands (`zero`, or nothing read or made before), the answers of docs/DECISIONS.md 4: 2 for memory shorter than the head, else 3;
+- where no picker stands (`zero`, or nothing read or made before), the answers of docs/DECISIONS.md 4: 2 for memory shorter than the
+  head, else 3. So refusal 3 is the driver's alone;
 - a negative number is lent as its 64 bits without a sign, which is out of range wherever a range is judged;
 - `none` among the numbers of a question is printed as `0 0` for a peer, -1 for a bucket."""
 import argparse
@@ -19,6 +21,7 @@ from compare.antt_library import NONE, Stuck, some
 from compare.antt_parse import AnttError
 from compare.edges import edges
 from compare.lists import lists
+from compare.programs import PICKS
 from compare.record import CALLS, OUTCOMES
 from compare.run import Figures, Mismatch, ask_oracle, report
 from reference import questions
@@ -28,6 +31,7 @@ from reference.script import OPTIONS, PEER, SHAPES, WITH_DRAWS, Malformed, call_
 
 # ---- the definition's names that values are built with or read by
 STEP, IMAGE, WELL_FORMED, NEW, READ, TAKE = "step", "image", "wellFormed", "newPicker", "readPicker", "takeImage"
+PROGRAM = "program"  # the pick program, from its bytes on
 REFUSAL_NUMBER, REFUSAL_VALUES = "refusalNumber", "refusalValues"
 REFUSALS = "Rattle.types.specs.Refusal"  # the module of these two
 ACTION, QUESTION = "Action", "Question"  # the types of what a call does, and of what it asks
@@ -101,7 +105,7 @@ class Definition:
     """The definitions of a folder, led through calls."""
 
     def __init__(self, specs=SPECS):
-        wanted = (STEP, IMAGE, WELL_FORMED, NEW, READ, TAKE, REFUSAL_NUMBER, REFUSAL_VALUES)
+        wanted = (STEP, IMAGE, WELL_FORMED, NEW, READ, TAKE, PROGRAM, REFUSAL_NUMBER, REFUSAL_VALUES)
         self.program = Program(specs, wanted, also=(REFUSALS,))
         self.actions = {c.name: c for c in self.program.data(ACTION)}
         self.wrapper = next(c for c in self.actions.values() if [p.type for p in c.params] == [QUESTION])
@@ -178,6 +182,17 @@ class Definition:
         if call.name not in WITH_DRAWS and used != 0:
             return f"{shown}, and {used} draws where none may be used"
         return f"{shown} draws {used}" if call.name in WITH_DRAWS else shown
+
+    def printed(self, data):
+        """What the pick program prints for these bytes on standard input."""
+        kind, what = self.program.call(PROGRAM, data)
+        if kind.name == "refusedAt":
+            return f"refused 13 {what}\n"
+        if what[0].name == "refused":
+            return self.refused(*what[1:]) + "\n"
+        blocks, flags, loops, used = what[1:]
+        shown = [" ".join(str(self.program.get(b, f)) for f in BLOCK) for b in blocks]
+        return "\n".join([*shown, f"flags {flags}", f"draws {used}", f"loops {' '.join(map(str, loops))}", ""])
 
     # ---- a step
     def made(self, value):
@@ -372,6 +387,22 @@ def script_run(a):
     return figures, None
 
 
+def wrong_program(specs):
+    """The first input of compare/programs.py for which the pick program prints something else."""
+    definition = Definition(specs)
+    for name, (data, due) in PICKS.items():
+        found = definition.printed(data)
+        if found != due:
+            return f"pick program, {name}: {found!r} where {due!r} is due"
+    return None
+
+
+def program_run(a):
+    wrong = with_deep_stack(lambda: wrong_program(a.specs))
+    print(f"definition: {wrong}" if wrong else f"{len(PICKS)} picks of the pick program as they should be", file=sys.stderr if wrong else sys.stdout)
+    return 1 if wrong else 0
+
+
 def never_met(figures):
     names = [f"call {name}" for name in STEPS] + [f"refused {k}" for k in CHECKED_REFUSALS]
     return [name for name in names if not figures[name]]
@@ -387,6 +418,7 @@ def arguments():
     ap.add_argument("--all", action="store_true", help="every call and refusal must have been met")
     ap.add_argument("--script", nargs="+", default=[], help="scripts of calls instead of random lists")
     ap.add_argument("--recorded", action="store_true", help="the recorded calls instead of random lists")
+    ap.add_argument("--programs", action="store_true", help="the pick program on the inputs of compare/programs.py instead")
     ap.add_argument("--edges", action="store_true", help="the lists of compare/edges.py instead of random lists")
     ap.add_argument("--specs", default=SPECS, help="the folder of the definitions")
     return ap.parse_args()
@@ -395,8 +427,10 @@ def arguments():
 def main():
     a = arguments()
     try:
+        if a.programs:
+            return program_run(a)
         figures, wrong = script_run(a) if a.script or a.recorded or a.edges else random_run(a)
-    except (Malformed, OSError) as why:
+    except (AnttError, Malformed, OSError) as why:
         print(f"definition: {why}", file=sys.stderr)
         return 2
     if wrong:
@@ -404,7 +438,10 @@ def main():
         return 1
     report(figures)
     names = sum(name.startswith("call ") for name in figures)
-    print(f"  {figures['call pick_pieces']} picks, {figures['draws']} draws, {figures['changes']} changes, {names} of {len(STEPS)} calls met")
+    print(
+        f"  {figures['call pick_pieces']} picks, {figures['draws']} draws, {figures['changes']} changes, each well-formed;"
+        f" {names} of {len(STEPS)} calls met"
+    )
     missing = never_met(figures) if a.all else []
     if missing or not figures["calls"]:
         print("definition: never met: " + (", ".join(missing) or "any call"), file=sys.stderr)

@@ -37,7 +37,8 @@ def set_aside():
     lines = []
     for peer in ("-", "1", "2"):
         lines += ["zero", f"new {3 * 4 * BLOCK} {4 * BLOCK}", f"mark_as_downloading 0 1 {peer} 0"]
-        lines += [f"pick_pieces {options} {n} {run} 1000 2 {ones(3)} -" for options in (8, 9, 12, 24, 1) for n in (1, 3) for run in (2, 3, 8)]
+        asked = [(options, n, run) for options in (8, 9, 12, 24, 1) for n in (1, 3) for run in (2, 3, 8)]
+        lines += [f"pick_pieces {options} {n} {run} 1000 2 {ones(3)} -" for options, n, run in asked]
     return lines
 
 
