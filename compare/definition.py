@@ -399,8 +399,11 @@ def wrong_program(specs):
 
 def program_run(a):
     wrong = with_deep_stack(lambda: wrong_program(a.specs))
-    print(f"definition: {wrong}" if wrong else f"{len(PICKS)} picks of the pick program as they should be", file=sys.stderr if wrong else sys.stdout)
-    return 1 if wrong else 0
+    if wrong:
+        print(f"definition: {wrong}", file=sys.stderr)
+        return 1
+    print(f"{len(PICKS)} picks of the pick program as they should be")
+    return 0
 
 
 def never_met(figures):
