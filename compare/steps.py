@@ -1,54 +1,26 @@
-"""`python3 -m compare.steps`: writes runs of recorded/ as theorems, which the checker computes from the definition: crates/replayed*/proofs.
-With `--check` it writes nothing and fails where a file is not what recorded/ gives.
+"""`python3 -m compare.steps`: writes runs of recorded/ as theorems, which the checker computes from the definition (proofs/ of the crates
+replayed and replayed_more), and edits that make one of them false (must-fail/). With `--check` it writes nothing and fails where a file is
+not what recorded/ gives.
 
-A run is what follows a `zero`, a `new` or a `read` that is accepted, up to the next of these. Runs are chosen without chance: first those
-that add a call with a kind of answer, a refusal, a flag or a counter of a pick, or a difference not yet there, then others up to LEAST
-steps. It fails where a call, refusal or flag that is recorded is left out."""
+A run is what follows a `new` or a `read` that is accepted, up to the next of these or a `zero`; before a picker stands, each call is one.
+Runs are chosen without chance: first those that add a call with a kind of answer, a refusal, a flag, counter or option of a pick, or a
+difference not yet there, then others up to LEAST steps. It fails where a call, refusal, flag or difference that is recorded is left out."""
 import argparse
 import glob
 import os
+import re
 import sys
 
 from compare.record import CALLS, OUTCOMES
 from compare.run import TOP
-from reference.calls import ENOUGH
-from reference.questions import LISTS, LISTS_OF_PIECE, OF_BLOCK, OF_PIECE, OF_PLACE, WHOLE
+from compare.terms import LIBRARY, REPLAY, Terms, theorem, used_draws
 from reference.script import WITH_DRAWS, calls_of
-
-# ---- names of the definition, by the module that they are imported from
-LIBRARY = """use mathlib.Core.Path.{_≡_, refl}
-use mathlib.Core.Bool.{true, false}
-use Prim.Native.Nat.{ℕ}
-use mathlib.Core.List.{List, [], _∷_}
-use mathlib.Core.Option.{none, some}
-"""
-ACTIONS = "Rattle.model.specs.Calls"
-QUESTIONS = "Rattle.model.specs.Questions"
-BLOCKS = "Rattle.model.specs.Blocks"
-QUESTION, DONE, SAID, TOLD, PICKED, REFUSED = "question", "done", "said", "told", "picked", "refused"
-OF = {"ofPicker": WHOLE, "listOfPicker": LISTS, "ofPiece": OF_PIECE, "listOfPiece": LISTS_OF_PIECE, "ofBlock": OF_BLOCK}
-NUMBERS, NOTHING, STALE = "numbers", "nothing", "staleList"
-PIECE_BLOCK = "pieceBlock"
-# questions whose name is that of a field, too
-MARKED = {"cursor", "reverse_cursor", "locked", "hashing"}
-# of crates/replayed/specs/Replay.antt
-REPLAY = "specs.Replay"
-NEW, READ, TAKE, CALL = "new-line", "read-line", "image-line", "call-line"
-STANDS, REFUSED_AT, BYTES_TAKEN, ANSWERED = "stands", "refusedAt", "bytesTaken", "answered"
-OUTCOMES_OF, OUTCOME, WORDS, ASKING, REPLAYING = "outcomes", "outcome", "words", "asking", "replaying"
 
 # ---- sizes
 LEAST = 1500
 PART = 250
 FIRST, REST = "replayed", "replayed_more"
-SMALL_IMAGE = 400
-MANY = 1000000
-PEER_AT = {"get_downloader": (1, 0), "get_downloaders": (1, 0), "block_peer": (1, 0), "blocks_for_piece": (3, 2)}
-
-
-def refusal(number):
-    """A refusal as the definition has it."""
-    return str(number)
+SMALL = 400
 
 
 # ---- what is recorded
@@ -94,7 +66,7 @@ def runs_of(steps):
     """Runs of steps. One that cannot be said is left out, and ends its run where it changed the picker."""
     runs, on = [[]], True
     for step in steps:
-        if step.call.name == "zero" or step.makes():
+        if step.call.name == "zero" or step.makes() or not step.image:
             runs.append([])
             on = True
         if step.call.name == "zero" or not on:
@@ -126,15 +98,24 @@ def needed(step):
 def telling(step):
     """What tells one step from another, beyond what must be there."""
     name, answer = step.call.name, step.answer
-    keys = {("answer", name) + tuple(answer[: 2 if answer[0] == "refused" or name in WITH_DRAWS else 1])} if answer[0] != "picked" else set()
     if answer[0] == "picked":
-        keys |= {("loop", k) for k in range(7) if answer[3 + k] != "0"} | {("option", k) for k in bits_of(step.call.args[0])}
-    return keys | needed(step)
+        loops = {("loop", k) for k in range(7) if answer[3 + k] != "0"}
+        return needed(step) | loops | {("option", k) for k in bits_of(step.call.args[0])}
+    by_value = answer[0] == "refused" or name in WITH_DRAWS
+    keys = needed(step) | {("answer", name, *answer[: 2 if by_value else 1])}
+    if answer[:2] == ["refused", "13"]:
+        keys.add(("fault", *step.call.args[0][int(answer[2]) :][:1]))
+    return keys
+
+
+def size(step):
+    """The bytes of the image after a step, or of one that it reads, whichever are more."""
+    return max(len(step.image) // 2, len(step.call.args[0]) if step.call.name == "read" else 0)
 
 
 def cost(step):
     """Roughly what a step costs to check: a large image is dear."""
-    return 1 + len(step.image) // 2 / SMALL_IMAGE * (1 if len(step.image) < 2 * SMALL_IMAGE else 100)
+    return 1 + size(step) / SMALL * (1 if size(step) < SMALL else 100)
 
 
 def best(runs, taken, have):
@@ -160,7 +141,7 @@ def chosen(runs):
         taken[k] = n
         have |= {key for step in runs[k][:n] for key in telling(step)}
     for k, run in enumerate(runs):
-        if sum(taken) < LEAST and all(len(step.image) < 2 * SMALL_IMAGE for step in run):
+        if sum(taken) < LEAST and all(size(step) < SMALL for step in run):
             taken[k] = min(len(run), taken[k] + LEAST - sum(taken))
     return [run[:n] for run, n in zip(runs, taken) if n]
 
@@ -169,161 +150,6 @@ def left_out(steps, picked):
     """What is recorded and must be there, and is not."""
     due = {key for step in steps if step.call.name != "zero" for key in needed(step)} - {("refused", "3")}
     return sorted(due - {key for run in picked for step in run for key in needed(step)})
-
-
-# ---- terms
-class Terms:
-    """Writes terms, and keeps what they import."""
-
-    def __init__(self):
-        self.used = {}
-
-    def take(self, module, name):
-        self.used.setdefault(module, set()).add(name)
-        return name
-
-    def call(self, *words):
-        return "(" + " ".join(str(w) for w in words) + ")" if len(words) > 1 else str(words[0])
-
-    def items(self, terms):
-        return "(" + " ∷ ".join(terms + ["[]"]) + ")" if terms else "[]"
-
-    def numbers(self, values):
-        return self.items([str(v) for v in values])
-
-    def option(self, value):
-        return "none" if value is None else f"(some {value})"
-
-
-def kebab(name):
-    return name.replace("_", "-") + ("?" if name in MARKED else "")
-
-
-def lent(value):
-    return MANY if value == ENOUGH else value
-
-
-def used_draws(step):
-    return int(step.answer[-1]) if "draws" in step.answer else 0
-
-
-def words(t, step):
-    """The lent words: those that are used, then zeros. Only used words matter, so the answer is that for the recorded words."""
-    draws = step.call.draws
-    return t.call(t.take(REPLAY, WORDS), draws.many, t.numbers([draws[k] for k in range(used_draws(step))]))
-
-
-def question(t, step):
-    name, args = step.call.name, step.call.args
-    if name in OF_PLACE:
-        return t.call(t.take(QUESTIONS, kebab(name)), *args)
-    of = next(of for of, table in OF.items() if name in table)
-    room = [lent(step.call.room)] if name in LISTS or name in LISTS_OF_PIECE else []
-    return t.call(t.take(QUESTIONS, of), t.take(QUESTIONS, kebab(name)), *args, *room)
-
-
-def action(t, step):
-    name, args = step.call.name, step.call.args
-    if name in OF_PLACE or any(name in table for table in OF.values()):
-        return t.call(t.take(ACTIONS, QUESTION), question(t, step))
-    if name == "pick_pieces":
-        options, wanted, run, peers, peer, bits, data, suggestions = args
-        ask = t.call(t.take(REPLAY, ASKING), options, wanted, run, peers, t.option(peer), bits, t.numbers(data), t.numbers(suggestions))
-        return t.call(t.take(ACTIONS, kebab(name)), ask, step.call.free, words(t, step))
-    peer_at = 2 if name in ("mark_as_downloading", "mark_as_writing", "mark_as_finished", "abort_download", "mark_as_canceled") else None
-    terms = [t.option(a) if k == peer_at else a for k, a in enumerate(args)]
-    return t.call(t.take(ACTIONS, kebab(name)), *terms, *([words(t, step)] if name in WITH_DRAWS else []))
-
-
-def line(t, step, image):
-    """A line of the script; `image` is the name of the image after it."""
-    name, args, memory = step.call.name, step.call.args, lent(step.call.mem)
-    if name == "new":
-        return " ".join(map(str, (t.take(REPLAY, NEW), memory, *args)))
-    if name == "read":
-        return f"{t.take(REPLAY, READ)} {memory} {image if step.makes() else t.numbers(args[0])}"
-    if name == "image":
-        return f"{t.take(REPLAY, TAKE)} {memory} {lent(step.call.room)}"
-    return f"{t.take(REPLAY, CALL)} {memory} {action(t, step)}"
-
-
-def told_numbers(name, words):
-    """The numbers of a question's answer, None for no peer and for no bucket."""
-    values = [int(w) for w in words]
-    if name == "piece_stats":
-        return [None if v < 0 else v for v in values]
-    if name not in PEER_AT:
-        return values
-    width, at = (2, 0) if PEER_AT[name][0] == 1 else (4, 2)
-    out = []
-    for k in range(0, len(values), width):
-        flag, peer = values[k + at : k + at + 2]
-        out += values[k : k + at] + [peer if flag else None]
-    return out
-
-
-def told(t, step):
-    name, answer = step.call.name, step.answer
-    plain = {"nothing": NOTHING, "stale": STALE}
-    if answer[0] in plain:
-        return t.take(QUESTIONS, plain[answer[0]])
-    return t.call(t.take(QUESTIONS, NUMBERS), t.items([t.option(v) for v in told_numbers(name, answer[1:])]))
-
-
-def picked_answer(t, step):
-    answer = step.answer
-    blocks = answer[answer.index("blocks") + 1 : answer.index("draws")]
-    made = [t.call(t.take(BLOCKS, PIECE_BLOCK), *b.split(".")) for b in blocks]
-    return t.call(t.take(ACTIONS, PICKED), t.items(made), answer[1], t.numbers(answer[3:10]), used_draws(step))
-
-
-def answer_of(t, step):
-    """The answer of a call, as the definition has it."""
-    kind = step.answer[0]
-    if kind == "refused":
-        return t.call(t.take(ACTIONS, REFUSED), refusal(step.answer[1]))
-    if kind == "picked":
-        return picked_answer(t, step)
-    if kind == "done":
-        return t.call(t.take(ACTIONS, DONE), used_draws(step))
-    if step.call.name in WITH_DRAWS:
-        return t.call(t.take(ACTIONS, SAID), "true" if step.answer[1] == "1" else "false", used_draws(step))
-    return t.call(t.take(ACTIONS, TOLD), told(t, step))
-
-
-def given(t, step):
-    if step.call.name not in ("new", "read", "image"):
-        return t.call(t.take(REPLAY, ANSWERED), answer_of(t, step))
-    kind, *rest = step.answer
-    if kind == "refused":
-        return t.call(t.take(REPLAY, REFUSED_AT), refusal(rest[0]), t.option(rest[1] if rest[1:] else None))
-    if kind == "bytes":
-        return t.call(t.take(REPLAY, BYTES_TAKEN), t.numbers(bytes.fromhex(rest[0])))
-    return t.take(REPLAY, STANDS)
-
-
-def images(t, run):
-    """A definition for each image of a run, by the call that first gave it, and the name of the image after each step."""
-    made, names, last = [], [], None
-    for step in run:
-        if last is None or step.image != last:
-            names.append(f"image-{step.number}" if step.image else "[]")
-            if step.image:
-                made.append(f"abbrev {names[-1]} : List ℕ\n{names[-1]} = {t.numbers(bytes.fromhex(step.image))}\n")
-        else:
-            names.append(names[-1])
-        last = step.image
-    return made, names
-
-
-def theorem(t, run):
-    first, last = run[0].number, run[-1].number
-    made, names = images(t, run)
-    lines = "\n    ∷ ".join([line(t, step, name) for step, name in zip(run, names)] + ["[]"])
-    ends = "\n    ∷ ".join([f"{t.take(REPLAY, OUTCOME)} {given(t, step)} {name}" for step, name in zip(run, names)] + ["[]"])
-    statement = f"    {t.take(REPLAY, OUTCOMES_OF)} none\n    ({lines})\n    ≡ {ends}\n"
-    proof = f"unfolding {t.take(REPLAY, REPLAYING)}\ncalls-{first} = refl\n"
-    return "\n".join(made + [f"-- calls {first} to {last}\ncalls-{first} :\n{statement}{proof}"])
 
 
 # ---- files
@@ -346,22 +172,62 @@ def parts(runs):
     return out
 
 
+def of_first(picked):
+    """The runs of the small crate: the shortest with a change answered and a pick that draws, and the shortest with an image refused."""
+    def shortest(*kinds):
+        return min((run for run in picked if all(any(kind(step) for step in run) for kind in kinds)), key=len)
+    drawn = shortest(lambda s: s.answer[0] == "picked" and used_draws(s) and "." in " ".join(s.answer), lambda s: says(s, "1"))
+    return [drawn, shortest(lambda s: s.answer[:2] == ["refused", "13"])]
+
+
+def says(step, value):
+    return step.answer[0] == "answer" and step.call.name in WITH_DRAWS and step.answer[1] == value
+
+
+def once(text, pattern):
+    """The first line of a text that is there once and matches."""
+    lines = text.split("\n")
+    return next(line for line in lines if re.search(pattern, line) and lines.count(line) == 1)
+
+
+# name, what it says, a pattern of its line, the part of the line to change, and what to put there
+EDITS = (
+    ("another_answer", "a call is recorded to answer false", r"said true", r"said true", "said false"),
+    ("another_block", "a pick is recorded to give another block first", r"picked \(\(pieceBlock", r"pieceBlock \d+", "pieceBlock 9"),
+    ("fewer_draws", "a pick is recorded to use no draws", r"\) [1-9]\d*\)\) image-", r"\) \d+\)\) image-", ") 0)) image-"),
+    ("another_image", "a piece in an image is recorded with another count", r"^    2 ∷ 0 ∷", r"2 ∷ 0", "2 ∷ 9"),
+    ("another_place", "an image is recorded to be at fault elsewhere", r"outcome \(refusedAt 13", r"\(some ", "(some 9"),
+)
+
+
+def edit_files(text):
+    """Edits that each make one recorded thing another."""
+    out = {}
+    for name, what, where, part, put in EDITS:
+        old = once(text, where)
+        new = re.sub(part, put, old, count=1)
+        if new == old:
+            sys.exit(f"steps: the edit {name} changes nothing")
+        out[f"{FIRST}/must-fail/{name}.edit"] = f"# {what}\nfile: proofs/Steps.antt\nold: {old}\nnew: {new}\n"
+    return out
+
+
 def files(picked):
-    """Every file by its path: the first run in a crate of its own, which is small for its must-fail edits, and the others."""
-    first, others = picked[0], parts(picked[1:])
-    out = {f"{FIRST}/proofs/Lib.antt": "pub mod Steps\n", f"{REST}/proofs/Lib.antt": ""}
-    out[f"{FIRST}/proofs/Steps.antt"] = module([first], f"Rattle.{FIRST}.specs.Replay", "The first recorded calls that are replayed")
-    for k, runs in enumerate(others, 1):
+    """Every file by its path: two runs in a crate of their own, which is small for its must-fail edits, and the others."""
+    first = of_first(picked)
+    few = module(first, f"Rattle.{FIRST}.specs.Replay", "Recorded calls, a few")
+    out = {f"{FIRST}/proofs/Lib.antt": "pub mod Steps\n", f"{FIRST}/proofs/Steps.antt": few, f"{REST}/proofs/Lib.antt": ""}
+    for k, runs in enumerate(parts([run for run in picked if run not in first]), 1):
         out[f"{REST}/proofs/Lib.antt"] += f"pub mod Steps{k}\n"
         what = f"Recorded calls {runs[0][0].number} to {runs[-1][-1].number}, those that are replayed"
         out[f"{REST}/proofs/Steps{k}.antt"] = module(runs, f"Rattle.{FIRST}.specs.Replay", what)
-    return {os.path.join(TOP, "crates", path): text for path, text in out.items()}
+    return {os.path.join(TOP, "crates", path): text for path, text in (out | edit_files(few)).items()}
 
 
 def standing():
     """The files that stand."""
-    found = glob.glob(os.path.join(TOP, "crates", FIRST, "proofs", "*")) + glob.glob(os.path.join(TOP, "crates", REST, "proofs", "*"))
-    return {path: read_text(path) for path in found}
+    folders = [os.path.join(TOP, "crates", crate, part) for crate in (FIRST, REST) for part in ("proofs", "must-fail")]
+    return {path: read_text(path) for folder in folders for path in glob.glob(os.path.join(folder, "*"))}
 
 
 def read_text(path):
