@@ -14,7 +14,7 @@ import sys
 from compare.record import CALLS, OUTCOMES
 from compare.run import TOP
 from compare.terms import LIBRARY, REPLAY, Terms, theorem, used_draws
-from reference.script import WITH_DRAWS, calls_of
+from reference.script import SHAPES, WITH_DRAWS, calls_of
 
 # ---- sizes
 LEAST = 1500
@@ -147,8 +147,10 @@ def chosen(runs):
 
 
 def left_out(steps, picked):
-    """What is recorded and must be there, and is not."""
-    due = {key for step in steps if step.call.name != "zero" for key in needed(step)} - {("refused", "3")}
+    """What must be there and is not: every call and refusal, 3 apart, which the definition has not, and what is recorded."""
+    due = {("call", name) for name in SHAPES} | {("refused", str(k)) for k in range(1, 14)}
+    due |= {key for step in steps for key in needed(step)}
+    due -= {("call", "zero"), ("refused", "3")}
     return sorted(due - {key for run in picked for step in run for key in needed(step)})
 
 
