@@ -14,7 +14,8 @@ SPECS = os.path.join(TOP, "crates", "model", "specs")
 FILE = os.path.join(TOP, "crates", "model", "proofs", "Everything.antt")
 MODULES = "Rattle.model.specs"
 WIDTH = 140
-HEAD = """-- All definitions of the model opened at once, for cases that the checker computes: a case says `unfolding everything` and `refl`.
+HEAD = """\
+-- All definitions of the model opened at once, for cases that the checker computes: a case says `unfolding everything` and `refl`.
 -- Written by compare/everything.py: not to be edited.
 """
 
