@@ -150,7 +150,7 @@ class Definition:
         values = self.program.call(REFUSAL_VALUES, refusal)
         return " ".join(map(str, ["refused", self.program.call(REFUSAL_NUMBER, refusal), *values]))
 
-    def told(self, call, reply):
+    def replied(self, call, reply):
         kind = reply[0].name
         if kind != "numbers":
             return {"nothing": "nothing", "staleList": "stale"}[kind]
@@ -172,8 +172,8 @@ class Definition:
         kind, *rest = value
         if kind.name == "refused":
             return self.refused(*rest)
-        if kind.name == "told":
-            return self.told(call, *rest)
+        if kind.name == "replied":
+            return self.replied(call, *rest)
         *rest, used = rest
         if kind.name == "picked":
             shown = self.picked(*rest)
