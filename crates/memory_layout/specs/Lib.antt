@@ -1,0 +1,4 @@
+pub mod Tables
+pub mod Offsets
+pub mod Decode
+pub mod Bounds
