@@ -5,12 +5,11 @@ use mathlib.Core.Path.{_≡_}
 use mathlib.Core.Bool.{Bool, true}
 use mathlib.Core.List.{List}
 use lib.ListN.{length, getD}
-use Rattle.model.specs.State.{Picker, maxPieces, maxExtents, validGeometry}
-use Rattle.model.specs.list.Order.{rank}
+use Rattle.model.specs.State.{maxPieces, maxExtents, validGeometry}
 use Rattle.memory_records.specs.declared.record.DownloadingPiece.{DownloadingPiece as Record}
 use Rattle.memory_layout.specs.declared.shape.Shape.{Shape}
 use Rattle.memory_layout.specs.Offsets.{placesFor, headLength, wordsFor, cellsFor}
-use Rattle.memory_layout.specs.Decode.{headWord, pieceWord, pieceCell, blockCell, recordAt, piecesOn, blocksOn, blocksOf, yes?, rankUnit, listedPiece, decode}
+use Rattle.memory_layout.specs.Decode.{headWord, pieceWord, pieceCell, blockCell, recordAt, piecesOn, blocksOn, blocksOf, yes?, rankUnit, listedPiece}
 
 -- ---- the tower
 -- the shape of a picker that can be
@@ -19,11 +18,26 @@ pub record Sizes (s : Shape) : Type 0 where
   pub many : s .pieces ≤ maxPieces
   pub wide : s .blocks ≤ 256
 
--- the words are long enough for it, and the cells
-pub record Spans (s : Shape) (words cells : List ℕ) : Type 0 where
+-- the shape that the head gives
+pub record ShapeOf (s : Shape) (words : List ℕ) : Type 0 where
   pub sizes : Sizes s
-  pub words : wordsFor (s .pieces) (s .blocks) ≤ length words
-  pub cells : cellsFor (s .pieces) (s .blocks) ≤ length cells
+  pub pieces : s .pieces ≡ piecesOn words
+  pub blocks : s .blocks ≡ blocksOn words
+
+-- the words are long enough for it
+pub record WordsSpan (s : Shape) (words : List ℕ) : Type 0 where
+  pub sizes : Sizes s
+  pub long : wordsFor (s .pieces) (s .blocks) ≤ length words
+
+-- the cells are
+pub record CellsSpan (s : Shape) (cells : List ℕ) : Type 0 where
+  pub sizes : Sizes s
+  pub long : cellsFor (s .pieces) (s .blocks) ≤ length cells
+
+-- both
+pub record Spans (s : Shape) (words cells : List ℕ) : Type 0 where
+  pub inWords : WordsSpan s words
+  pub inCells : CellsSpan s cells
 
 -- the shape is the one that the head gives, and the lengths and places that the buffers hold are in bounds
 pub record InBounds (s : Shape) (records : List Record) (words cells : List ℕ) : Type 0 where
@@ -38,6 +52,22 @@ pub record InBounds (s : Shape) (records : List Record) (words cells : List ℕ)
   pub recentExtents : headWord words 8 ≤ maxExtents
   pub placed : (k : ℕ) → k < headWord words 7 → recordAt records k .«info_idx» < s .places
   pub apart : (k l : ℕ) → k < headWord words 7 → l < headWord words 7 → recordAt records k .«info_idx» ≡ recordAt records l .«info_idx» → k ≡ l
+
+-- ---- columns: the numbers of one field, as a list of their own
+-- column f of the words of n pieces
+pub record WordColumn (words : List ℕ) (n f : ℕ) (column : List ℕ) : Type 0 where
+  pub long : length column ≡ n
+  pub word : (i : ℕ) → i < n → getD column i 0 ≡ pieceWord words n f i
+
+-- column f of the cells of n pieces
+pub record CellColumn (cells : List ℕ) (n f : ℕ) (column : List ℕ) : Type 0 where
+  pub long : length column ≡ n
+  pub cell : (i : ℕ) → i < n → getD column i 0 ≡ pieceCell cells n f i
+
+-- column f of the first blocks of place p
+pub record BlockColumn (cells : List ℕ) (s : Shape) (f p many : ℕ) (column : List ℕ) : Type 0 where
+  pub long : length column ≡ many
+  pub cell : (j : ℕ) → j < many → getD column j 0 ≡ blockCell cells (s .pieces) (s .blocks) f p j
 
 -- ---- plain: what the memory test asks for and `decode` forgets
 -- numbers of states and flags are numbers that a picker's image could hold
@@ -55,13 +85,13 @@ pub record PlainRecord (n b : ℕ) (words cells : List ℕ) (r : Record) : Type 
   pub flags : r .flags ≤ 7
   pub blocks : (j : ℕ) → j < blocksOf words (r .index) → PlainBlock n b cells (r .«info_idx») j
 
--- each word of the list has its piece's rank beside the piece
-abbrev pub RanksHeld : (n : ℕ) (words : List ℕ) (s : Picker) → Type 0
-RanksHeld n words s = (k : ℕ) → k < headWord words 6 → pieceWord words n 1 k / rankUnit ≡ rank s (listedPiece (pieceWord words n 1 k))
-
 -- all of it
 pub record Plain (s : Shape) (records : List Record) (words cells : List ℕ) : Type 0 where
   pub dirty : headWord words 5 ≤ 1
   pub pieces : PlainPieces (s .pieces) cells
-  pub records : (k : ℕ) → k < headWord words 7 → PlainRecord (s .pieces) (s .blocks) words cells (recordAt records k)
-  pub ranks : RanksHeld (s .pieces) words (decode records words cells)
+  pub partials : (k : ℕ) → k < headWord words 7 → PlainRecord (s .pieces) (s .blocks) words cells (recordAt records k)
+
+-- ---- ranks: the one thing stored that could be computed
+-- each word of the list has the rank of its piece beside the piece
+abbrev pub RanksHeld : (n : ℕ) (words : List ℕ) (r : ℕ → ℕ) → Type 0
+RanksHeld n words r = (k : ℕ) → k < headWord words 6 → pieceWord words n 1 k / rankUnit ≡ r (listedPiece (pieceWord words n 1 k))

@@ -2,3 +2,5 @@ pub mod Tables
 pub mod Offsets
 pub mod Decode
 pub mod Bounds
+pub mod Stores
+pub mod Good

@@ -1,0 +1,4 @@
+// stub
+mod record;
+
+pub use record::DownloadingPiece;
