@@ -46,6 +46,7 @@ SHAPES = {
     "mark_as_downloading": (NUMBER, NUMBER, PEER, OPTIONS),
     "mark_as_writing": (NUMBER, NUMBER, PEER),
     "mark_as_finished": (NUMBER, NUMBER, PEER),
+    "mark_as_canceled": (NUMBER, NUMBER, PEER),
     "abort_download": (NUMBER, NUMBER, PEER),
     "lock_piece": (NUMBER,),
     "piece_passed": (NUMBER,),

@@ -42,6 +42,7 @@ pub enum Change {
     MarkAsDownloading { piece: i64, block: i64, peer: Option<u64>, options: u16 },
     MarkAsWriting { piece: i64, block: i64, peer: Option<u64> },
     MarkAsFinished { piece: i64, block: i64, peer: Option<u64> },
+    MarkAsCanceled { piece: i64, block: i64, peer: Option<u64> },
     AbortDownload { piece: i64, block: i64, peer: Option<u64> },
     LockPiece { piece: i64 },
     PiecePassed { piece: i64 },
@@ -156,6 +157,10 @@ fn parse_change(name: &str, arguments: &mut Arguments) -> Result<Option<Change>,
         "mark_as_finished" => {
             let (piece, block, peer) = arguments.block_and_peer()?;
             Change::MarkAsFinished { piece, block, peer }
+        }
+        "mark_as_canceled" => {
+            let (piece, block, peer) = arguments.block_and_peer()?;
+            Change::MarkAsCanceled { piece, block, peer }
         }
         "abort_download" => {
             let (piece, block, peer) = arguments.block_and_peer()?;
