@@ -6,5 +6,6 @@ use Rattle.bitfield.specs.declared.Stored.{Stored}
 use Rattle.bitfield.specs.Bitfield.{Did}
 use Rattle.bitfield_c.specs.Codes.{codeOf, Coded}
 
-pub coded : {want answer : Stored} {new old exit : List ℕ} {k : ℕ} → Did want new old answer exit → k ≡ codeOf answer → Coded want new old k exit
+pub coded : {want answer : Stored} {new old exit : List ℕ} {k : ℕ}
+    → Did want new old answer exit → k ≡ codeOf answer → Coded want new old k exit
 coded d e = record { answers = e ∙ ap codeOf (d .answers); leaves = d .leaves }

@@ -5,16 +5,20 @@ use types::PieceIndex;
 ghost use mathlib.Core.Path.{_≡_};
 ghost use mathlib.Core.Bool.{true};
 ghost use Prim.Native.Nat.{_<_};
+ghost use Rattle.model.specs.Lists.{at};
+ghost use Rattle.model.specs.Order.{led, rank, refresh, relist};
 ghost use Rattle.model.specs.WellFormed.{wellFormed};
-ghost use Rattle.layout.specs.Layout.{piecesOn, decode};
+ghost use Rattle.layout.specs.Layout.{piecesOn, queueFrom, decode};
 ghost use Rattle.listing.specs.Listings.{ListedBefore};
-ghost use Rattle.lists_c.specs.Standing.{Stands};
+ghost use Rattle.queues.specs.Queues.{placesIn};
+ghost use Rattle.lists_c.specs.Standing.{Stands, Does};
 
 // The rank of a piece.
 #[no_mangle]
 pub extern "C" fn ls_rank(mem: &[u64], piece: usize) -> u64
     requires { ⌜ Stands (now mem) ⌝ }
     requires { ⌜ piece < piecesOn (now mem) ⌝ }
+    ensures { λ r. ⌜ r ≡ rank (decode (now (mem .entry))) piece ⌝ }
 {
     let s = shape_of(mem);
     listing::rank_at(mem, s, piece)
@@ -26,6 +30,7 @@ pub extern "C" fn ls_relist(mem: &mut [u64], piece: usize, old: u64, draws: &[u3
     requires { ⌜ Stands (now mem) ⌝ }
     requires { ⌜ piece < piecesOn (now mem) ⌝ }
     requires { ⌜ ListedBefore old piece (decode (now mem)) ⌝ }
+    ensures { λ r. ⌜ Does (now (mem .entry)) (now (mem .exit)) (relist (now (draws .entry)) old piece (led 0 (decode (now (mem .entry))))) r ⌝ }
 {
     let s = shape_of(mem);
     let index = PieceIndex::at(piece);
@@ -36,6 +41,7 @@ pub extern "C" fn ls_relist(mem: &mut [u64], piece: usize, old: u64, draws: &[u3
 #[no_mangle]
 pub extern "C" fn ls_refresh(mem: &mut [u64], draws: &[u32]) -> usize
     requires { ⌜ Stands (now mem) ⌝ }
+    ensures { λ r. ⌜ Does (now (mem .entry)) (now (mem .exit)) (refresh (now (draws .entry)) (led 0 (decode (now (mem .entry))))) r ⌝ }
 {
     let s = shape_of(mem);
     listing::refresh(mem, s, draws, 0)
@@ -47,6 +53,7 @@ pub extern "C" fn ls_queue_place(mem: &[u64], q: usize, j: usize) -> usize
     requires { ⌜ Stands (now mem) ⌝ }
     requires { ⌜ wellFormed (decode (now mem)) ≡ true ⌝ }
     requires { ⌜ q < 4 ⌝ }
+    ensures { λ r. ⌜ r ≡ at 512 (placesIn (queueFrom q) (decode (now (mem .entry)))) j ⌝ }
 {
     let s = shape_of(mem);
     let mut rows = [[0; 512]; 4];
