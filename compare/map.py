@@ -14,7 +14,7 @@ FILES = {
     "piece_picker.rs": "crates/bitdaemon-session/src/piece_picker.rs",
 }
 COLUMNS = ["Rust", "line", "definition", "code", "proof"]
-TO_COME, LEFT_OUT, CONTRACT, NONE = "to come", "left out: ", "contract", "—"
+TO_COME, LEFT_OUT, IN_PART, CONTRACT, NONE = "to come", "left out: ", "in part: ", "contract", "—"
 
 # `at` is the row's line in the map; the other fields are its cells, `rust` without its quotes
 Row = namedtuple("Row", "at file rust line definition code proof")
@@ -173,21 +173,26 @@ def references(cell):
     return re.findall(r"`([^`]+)`", cell)
 
 
+def fits(cell, words):
+    """References parted by commas, the fixed word `contract` among them where it may stand, or one of the other words alone."""
+    items = cell.split(", ")
+    named = [item for item in items if re.fullmatch(r"`[^`]+`", item) or item == CONTRACT in words]
+    return len(named) == len(items) or cell in words
+
+
 def shape_problems(row):
-    """Cells hold references parted by commas, or one of the fixed words; what is left out has a reason, and neither code nor proof."""
+    """What is left out has a reason, and neither code nor proof; code may do a function in part."""
     left = row.definition.startswith(LEFT_OUT.strip())
+    part = row.code.startswith(IN_PART)
     if left and not re.search(r"\w", row.definition[len(LEFT_OUT):]):
         yield "left out without a reason"
     for column, cell, words in (
-        ("definition", row.definition, {TO_COME, CONTRACT}),
-        ("code", row.code, {NONE} if left else {TO_COME}),
-        ("proof", row.proof, {NONE} if left else {TO_COME, CONTRACT}),
+        ("definition", row.definition, [row.definition] if left else [TO_COME, CONTRACT]),
+        ("code", row.code.removeprefix(IN_PART), [NONE] if left else [] if part else [TO_COME]),
+        ("proof", row.proof, [NONE] if left else [TO_COME, CONTRACT]),
     ):
-        if column == "definition" and left:
-            continue
-        items = cell.split(", ")
-        if any(not re.fullmatch(r"`[^`]+`", item) and item not in words for item in items) or (len(items) > 1 and TO_COME in items):
-            yield f"{column}: neither references nor {' or '.join(sorted(words))}: {cell[:80]}"
+        if not fits(cell, words):
+            yield f"{column}: {' nor '.join(['neither names', *words])}: {cell[:80]}"
 
 
 def name_problems(row):
@@ -234,7 +239,7 @@ def coverage_problems(rows, rust):
 def figures(rows):
     left = sum(row.definition.startswith(LEFT_OUT) for row in rows)
     defined = sum(row.definition != TO_COME for row in rows) - left
-    coded = sum(bool(references(row.code)) for row in rows)
+    coded = sum(bool(references(row.code)) and not row.code.startswith(IN_PART) for row in rows)
     return f"{len(rows)} functions mapped: {defined} with definition, {coded} with code, {left} left out"
 
 
