@@ -1,5 +1,6 @@
 """`python3 -m compare.map`: docs/MAP.md holds a row for each function of the three Rust files, and no name in it is stale. A row's line is
-the function's, each definition, function and law that it names is where it says, and what is said to come is not there yet."""
+the function's, each definition, function and law that it names is where it says, and what is said to come is not there yet. The reading
+order at the head of the model's specs names each of their files once."""
 import glob
 import os
 import re
@@ -8,6 +9,7 @@ from collections import namedtuple
 
 TOP = os.path.dirname(os.path.dirname(os.path.abspath(__file__)))
 MAP = os.path.join("docs", "MAP.md")
+SPECS = os.path.join("crates", "model", "specs")
 FILES = {
     "types.rs": "crates/bitdaemon-common/src/types.rs",
     "bitfield.rs": "crates/bitdaemon-common/src/bitfield.rs",
@@ -119,7 +121,7 @@ def antt_problem(kind, reference):
 
 def definition_named(name):
     """The file of the model's specs that defines the name, or nothing."""
-    for path in sorted(glob.glob(os.path.join(TOP, "crates", "model", "specs", "**", "*.antt"), recursive=True)):
+    for path in sorted(glob.glob(os.path.join(TOP, SPECS, "**", "*.antt"), recursive=True)):
         if name in paragraphs(lines_of(path)):
             return os.path.relpath(path, TOP)
     return None
@@ -236,6 +238,20 @@ def coverage_problems(rows, rust):
                 yield f"{MAP}: {name}, line {line} of {file}: {names.count(name)} rows, not 1"
 
 
+# ---- the reading order
+def order_problems():
+    """The order names each file of the specs once, and no other. A file in small letters only lists its folder."""
+    head = os.path.join(SPECS, "Lib.antt")
+    order = [entry[1] for entry in (re.match(r"--   ([\w/]+) +\S", line) for line in lines_of(os.path.join(TOP, head))) if entry]
+    paths = glob.glob(os.path.join(TOP, SPECS, "**", "[A-Z]*.antt"), recursive=True)
+    files = {os.path.relpath(path, os.path.join(TOP, SPECS))[: -len(".antt")].replace(os.sep, "/") for path in paths} - {"Lib"}
+    for name in sorted(files | set(order)):
+        if name not in files:
+            yield f"{head}: the reading order has {name}, which is no file there"
+        elif order.count(name) != 1:
+            yield f"{head}: the reading order has {name} {order.count(name)} times, not once"
+
+
 def figures(rows):
     left = sum(row.definition.startswith(LEFT_OUT) for row in rows)
     defined = sum(row.definition != TO_COME for row in rows) - left
@@ -249,6 +265,7 @@ def main():
         rows = map_rows(lines_of(os.path.join(TOP, MAP)))
         problems = list(coverage_problems(rows, rust))
         problems += [f"{MAP}:{row.at}: {row.rust}: {problem}" for row in rows for problem in row_problems(row)]
+        problems += order_problems()
     except Unreadable as why:
         print(f"map: {why}", file=sys.stderr)
         return 2
