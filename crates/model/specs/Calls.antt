@@ -14,8 +14,8 @@ use Rattle.model.specs.Options.{rarestFirst, sequential}
 use Rattle.model.specs.list.Order.{Drawing, drawing}
 use Rattle.model.specs.change.Partials.{partialOf}
 use Rattle.model.specs.change.Changes.{Change, quietly, incRefcount, decRefcount, incRefcountAll, decRefcountAll, setPiecePriority}
-use Rattle.model.specs.change.Changes.{markAsDownloading, markAsWriting, markAsFinished, abortDownload, lockPiece, piecePassed}
-use Rattle.model.specs.change.Changes.{received}
+use Rattle.model.specs.change.Changes.{markAsDownloading, markAsWriting, markAsFinished, markAsCanceled, abortDownload, lockPiece}
+use Rattle.model.specs.change.Changes.{piecePassed, received}
 use Rattle.model.specs.ask.Questions.{ListOfPicker, get-availability-vec, piece-priorities, get-download-queue, Question, ofPicker}
 use Rattle.model.specs.ask.Questions.{listOfPicker, ofPiece, listOfPiece, ofBlock, partial-at, recent-extent, list-place, Reply}
 use Rattle.model.specs.ask.Questions.{blockIn, blockTest, reply}
@@ -31,7 +31,7 @@ pub data Action : Type 0 where
   inc-refcount-all dec-refcount-all : Action
   set-piece-priority : (piece priority : ℕ) → (draws : List ℕ) → Action
   mark-as-downloading : (piece block : ℕ) → (peer : Option ℕ) → (options : ℕ) → (draws : List ℕ) → Action
-  mark-as-writing mark-as-finished abort-download : (piece block : ℕ) → (peer : Option ℕ) → (draws : List ℕ) → Action
+  mark-as-writing mark-as-finished mark-as-canceled abort-download : (piece block : ℕ) → (peer : Option ℕ) → (draws : List ℕ) → Action
   lock-piece piece-passed : (piece : ℕ) → Action
   pick-pieces : PickRequest → (free : ℕ) → (draws : List ℕ) → Action
 
@@ -142,6 +142,7 @@ refusal s (mark-as-finished i j peer ds) =
     refuseFewDraws ds
     (refuseBadBlock s i j
     (check (blockTest (λ b. sameBlockState (b .state) Requested) (blockThere s i j)) 9 (check (noPartialLeft s i) 10 none)))
+refusal s (mark-as-canceled i j peer ds) = refuseFewDraws ds (refuseBadBlock s i j none)
 refusal s (abort-download i j peer ds) = refuseFewDraws ds (refuseBadBlock s i j none)
 refusal s (lock-piece i) = refuseBadPiece s i none
 refusal s (piece-passed i) = refuseBadPiece s i none
@@ -190,6 +191,7 @@ act s (set-piece-priority i priority ds) = changing (setPiecePriority ds i prior
 act s (mark-as-downloading i j peer options ds) = changing (markAsDownloading ds i j (lentPeer peer) options (drawing 0 s))
 act s (mark-as-writing i j peer ds) = changing (markAsWriting ds i j (lentPeer peer) (drawing 0 s))
 act s (mark-as-finished i j peer ds) = doing (markAsFinished ds i j (lentPeer peer) (drawing 0 s))
+act s (mark-as-canceled i j peer ds) = doing (markAsCanceled ds i j (lentPeer peer) (drawing 0 s))
 act s (abort-download i j peer ds) = doing (abortDownload ds i j (lentPeer peer) (drawing 0 s))
 act s (lock-piece i) = doing (drawing 0 (lockPiece i s))
 act s (piece-passed i) = doing (drawing 0 (piecePassed i s))

@@ -9,7 +9,7 @@ use lib.Dec.{eqb, ltb}
 use borrow.Author.Tests.{not-false}
 use Rattle.types.specs.declared.queue.DownloadQueue.{DownloadQueue}
 use Rattle.types.specs.declared.queue.DownloadQueue.the-variants.{Downloading}
-use Rattle.types.specs.declared.block.BlockState.the-variants.{Requested, Finished}
+use Rattle.types.specs.declared.block.BlockState.the-variants.{Requested, Writing, Finished}
 use Rattle.types.specs.Queue.{unreverse, makeReverse}
 use Rattle.model.specs.Lists.{unless, when}
 use Rattle.model.specs.State.{Block, DownloadingPiece, Picker, minDraws, pieceAt, withPiece, withState, withPriority, withPeer}
@@ -17,20 +17,20 @@ use Rattle.model.specs.State.{markDirty, sameQueue, isOpen, sameBlockSta
 use Rattle.model.specs.list.Order.{Drawing, drawing, noDraw, changeAndUpdate, rank}
 use Rattle.model.specs.change.Partials.{partialOf, blockAt, replaceBlock, addPartial, eraseDownloadPiece, progress, newState}
 use Rattle.model.specs.change.Partials.{setState, moveState, updateStateOf, updatePieceState, addDownloadPiece, eraseAndUpdate}
-use Rattle.model.specs.change.Changes.{recordDownloadingPiece, requestedBy, writtenBy, finishedBy, finishedPeer, freed, released}
+use Rattle.model.specs.change.Changes.{recordDownloadingPiece, requestedBy, writtenBy, finishedBy, finishedPeer, freed, canceled}
 use Rattle.model.specs.change.Changes.{flushDone, decPeerCount, incPeerCount, breakOneSeed, incRefcountAll, decRefcountAll, lockPiece}
 use Rattle.model.specs.change.Changes.{piecePassed, filterChanges, cursorsOnFilter, received, reverseAsked, Change, quietly, saying}
 use Rattle.model.specs.change.Changes.{incRefcount, decRefcount, prioritySet, setPiecePriority, opened, setBlock, markFirst}
 use Rattle.model.specs.change.Changes.{markOpening, setDirection, makePieceReverse, unreversePiece, request, markDownloadingIn}
 use Rattle.model.specs.change.Changes.{markAsDownloading, markWritingIn, markAsWriting, markFinishedIn, markAsFinished, freeBlock}
-use Rattle.model.specs.change.Changes.{abortIn, abortDownload}
+use Rattle.model.specs.change.Changes.{cancelIn, markAsCanceled, released, abortIn, abortDownload}
 use Rattle.model.specs.ask.Questions.{Reply, Question, reply}
 use Rattle.model.specs.pick.Blocks.{PickRequest}
 use Rattle.model.specs.pick.Pick.{pickPieces}
 use Rattle.model.specs.image.Sound.{Sound}
 use Rattle.model.specs.Calls.{Action, question, inc-refcount, dec-refcount, inc-refcount-all, dec-refcount-all, set-piece-priority}
-use Rattle.model.specs.Calls.{mark-as-downloading, mark-as-writing, mark-as-finished, abort-download, lock-piece, piece-passed}
-use Rattle.model.specs.Calls.{pick-pieces, Answer, refused, done, said, replied, picked, changeAnswer, changing, doing, answering}
+use Rattle.model.specs.Calls.{mark-as-downloading, mark-as-writing, mark-as-finished, mark-as-canceled, abort-download, lock-piece}
+use Rattle.model.specs.Calls.{piece-passed, pick-pieces, Answer, refused, done, said, replied, picked, changeAnswer, changing, doing, answering}
 use Rattle.model.specs.Calls.{picking, act, lentPeer, refusal, requestFits}
 use Rattle.model.proofs.list.ListingLaws.{moved-used}
 use Rattle.model.proofs.base.Phases.{cond-arms, when-arms, unless-arms}
@@ -168,9 +168,23 @@ module _ (ds : List ℕ) (i : ℕ) where
           arm true = omega arith
           arm false = omega (arith, block-few d j (finishedBy (finishedPeer peer (blockAt d j)) (blockAt d j .numPeers)) w)
 
-  free-few : (d : DownloadingPiece) (j : ℕ) (w : Drawing) → Few 1 w (freeBlock ds i d j w)
+  free-few : (d : DownloadingPiece) (j : ℕ) (b : Block) (w : Drawing) → Few 1 w (freeBlock ds i d j b w)
   unfolding freeBlock
-  free-few d j w = cond-arms (Few 1 w) (eqb (progress d) 1 && not (d .hashing)) (eraseAndUpdate ds i w) (setBlock ds i d j freed w) (λ e. erase-few w) (λ e. block-few d j freed w)
+  free-few d j b w = cond-arms (Few 1 w) (eqb (progress d) 1 && not (d .hashing)) (eraseAndUpdate ds i w) (setBlock ds i d j b w) (λ e. erase-few w) (λ e. block-few d j b w)
+
+  cancel-few : (j : ℕ) (peer : Option ℕ) (w : Drawing) → Few 1 w (markAsCanceled ds i j peer w)
+  unfolding markAsCanceled cancelIn noDraw drawing
+  cancel-few j peer w = go (partialOf (w .picker) i)
+    where
+      go : (o : Option DownloadingPiece) → Few 1 w (cancelIn ds i o j peer w)
+      go none = omega arith
+      go (some d) = arm (sameBlockState (blockAt d j .state) Finished) (sameBlockState (blockAt d j .state) Writing)
+        where
+          arm : (t u : Bool)
+              → Few 1 w (cond t w (cond u (freeBlock ds i d j (canceled peer (blockAt d j)) w) (noDraw (replaceBlock d j (withPeer peer (blockAt d j))) w)))
+          arm true u = omega arith
+          arm false true = free-few d j (canceled peer (blockAt d j)) w
+          arm false false = omega arith
 
   abort-few : (j : ℕ) (peer : Option ℕ) (w : Drawing) → Few 1 w (abortDownload ds i j peer w)
   unfolding abortDownload abortIn noDraw drawing
@@ -180,10 +194,10 @@ module _ (ds : List ℕ) (i : ℕ) where
       go none = omega arith
       go (some d) = arm (not (sameBlockState (blockAt d j .state) Requested)) (ltb 1 (blockAt d j .numPeers))
         where
-          arm : (t u : Bool) → Few 1 w (cond t w (cond u (noDraw (replaceBlock d j (released peer (blockAt d j))) w) (freeBlock ds i d j w)))
+          arm : (t u : Bool) → Few 1 w (cond t w (cond u (noDraw (replaceBlock d j (released peer (blockAt d j))) w) (freeBlock ds i d j freed w)))
           arm true u = omega arith
           arm false true = omega arith
-          arm false false = free-few d j w
+          arm false false = free-few d j freed w
 
   set-few : (priority : ℕ) (w : Drawing) → Few 2 w (prioritySet ds i priority w)
   unfolding prioritySet noDraw drawing
@@ -253,6 +267,8 @@ act-draws s (mark-as-writing i j peer ds) v e =
     few-enough (markAsWriting ds i j (lentPeer peer) (drawing 0 s)) (omega (arith, writing-few ds i j (lentPeer peer) (drawing 0 s)))
 act-draws s (mark-as-finished i j peer ds) v e =
     few-enough (quietly (markAsFinished ds i j (lentPeer peer) (drawing 0 s))) (omega (arith, finished-few ds i j (lentPeer peer) (drawing 0 s)))
+act-draws s (mark-as-canceled i j peer ds) v e =
+    few-enough (quietly (markAsCanceled ds i j (lentPeer peer) (drawing 0 s))) (omega (arith, cancel-few ds i j (lentPeer peer) (drawing 0 s)))
 act-draws s (abort-download i j peer ds) v e =
     few-enough (quietly (abortDownload ds i j (lentPeer peer) (drawing 0 s))) (omega (arith, abort-few ds i j (lentPeer peer) (drawing 0 s)))
 act-draws s (lock-piece i) v e = few-enough (quietly (drawing 0 (lockPiece i s))) (omega arith)

@@ -19,14 +19,15 @@ use Rattle.model.specs.ask.Questions.{blockIn, blockTest}
 use Rattle.model.specs.image.WellFormed.{peerOk}
 use Rattle.model.specs.image.Sound.{Sound}
 use Rattle.model.specs.Calls.{Action, question, inc-refcount, dec-refcount, inc-refcount-all, dec-refcount-all, set-piece-priority}
-use Rattle.model.specs.Calls.{mark-as-downloading, mark-as-writing, mark-as-finished, abort-download, lock-piece, piece-passed}
-use Rattle.model.specs.Calls.{pick-pieces, Call, check, refuseFewDraws, refuseBadPiece as pastPieces, refuseBadBlock as pastBlocks}
+use Rattle.model.specs.Calls.{mark-as-downloading, mark-as-writing, mark-as-finished, mark-as-canceled, abort-download, lock-piece}
+use Rattle.model.specs.Calls.{piece-passed, pick-pieces, Call, check, refuseFewDraws, refuseBadPiece as pastPieces, refuseBadBlock as pastBlocks}
 use Rattle.model.specs.Calls.{peersFull, numPeersFull, blockThere, noPartialLeft, requestFits, refusal, memoryNeeded, answering}
 use Rattle.model.specs.Calls.{changing, doing, lentPeer, picking, act, unlessRefused, step, run}
 use Rattle.model.proofs.keep.KeepCounts.{incRefcount-keeps, decRefcount-keeps, incRefcountAll-keeps, decRefcountAll-keeps}
 use Rattle.model.proofs.keep.KeepBlocks.{lockPiece-keeps}
 use Rattle.model.proofs.keep.KeepClose.{piecePassed-keeps}
-use Rattle.model.proofs.keep.KeepMarks.{markAsDownloading-keeps, markAsWriting-keeps, markAsFinished-keeps, abortDownload-keeps}
+use Rattle.model.proofs.keep.KeepMarks.{markAsDownloading-keeps, markAsWriting-keeps, markAsFinished-keeps, markAsCanceled-keeps}
+use Rattle.model.proofs.keep.KeepMarks.{abortDownload-keeps}
 use Rattle.model.proofs.pick.SoundPick.{pick-sound}
 use Rattle.model.proofs.keep.KeepPriority.{setPiecePriority-keeps}
 use Rattle.model.proofs.base.Truths.{or-no-left, or-no-right}
@@ -120,6 +121,7 @@ act-keeps s (mark-as-finished i j peer ds) v e =
     let asked = check-none (blockTest (λ b. sameBlockState (b .state) Requested) (blockThere s i j)) 9 _ (c .1) in
     let room = check-none (noPartialLeft s i) 10 none (asked .1) in
     markAsFinished-keeps ds i j (lentPeer peer) (drawing 0 s) v (c .0) (lent-right peer) (room .0)
+act-keeps s (mark-as-canceled i j peer ds) v e = markAsCanceled-keeps ds i j (lentPeer peer) (drawing 0 s) v (lent-right peer)
 act-keeps s (abort-download i j peer ds) v e = abortDownload-keeps ds i j (lentPeer peer) (drawing 0 s) v
 act-keeps s (lock-piece i) v e = lockPiece-keeps i s v
 act-keeps s (piece-passed i) v e = piecePassed-keeps i s v

@@ -266,27 +266,44 @@ markFinishedIn ds i (some d) j peer w =
 unfoldable pub markAsFinished : List ℕ → ℕ → ℕ → Option ℕ → Drawing → Drawing
 markAsFinished ds i j peer w = markFinishedIn ds i (partialOf (w .picker) i) j peer w
 
+-- a block free again that no peer has a part in
+unfoldable pub freed : Block
+freed = record { state = None; numPeers = 0; peer = none }
+
+-- a block free again that keeps its number of peers and has the named one for its peer
+unfoldable pub canceled : Option ℕ → Block → Block
+canceled peer b = record { state = None; numPeers = b .numPeers; peer = peer }
+
+-- block j, which is at work, becomes the free block `b`; a partial without another block at work is closed, unless it is being hashed
+unfoldable pub freeBlock : List ℕ → ℕ → DownloadingPiece → ℕ → Block → Drawing → Drawing
+freeBlock ds i d j b w =
+    cond (eqb (progress d) 1 && not (d .hashing)) (eraseAndUpdate ds i w) (setBlock ds i d j b w)
+
+-- a Finished block stays, a Writing one is given back, and any other only gets the named peer. The Rust brings the piece's state up to date
+-- before it closes the partial, which changes nothing there
+unfoldable pub cancelIn : List ℕ → ℕ → Option DownloadingPiece → ℕ → Option ℕ → Drawing → Drawing
+cancelIn ds i none j peer w = w
+cancelIn ds i (some d) j peer w =
+    let b = blockAt d j in
+    cond (sameBlockState (b .state) Finished) w
+    (cond (sameBlockState (b .state) Writing) (freeBlock ds i d j (canceled peer b) w) (noDraw (replaceBlock d j (withPeer peer b)) w))
+
+-- `mark_as_canceled`
+unfoldable pub markAsCanceled : List ℕ → ℕ → ℕ → Option ℕ → Drawing → Drawing
+markAsCanceled ds i j peer w = cancelIn ds i (partialOf (w .picker) i) j peer w
+
 -- a requester less; the named peer is forgotten
 unfoldable pub released : Option ℕ → Block → Block
 released peer b =
     record { state = Requested; numPeers = b .numPeers - 1; peer = cond (samePeer (b .peer) peer) none (b .peer) }
 
--- a free block
-unfoldable pub freed : Block
-freed = record { state = None; numPeers = 0; peer = none }
-
--- a block without peers is free; a partial without blocks at work is closed
-unfoldable pub freeBlock : List ℕ → ℕ → DownloadingPiece → ℕ → Drawing → Drawing
-freeBlock ds i d j w =
-    cond (eqb (progress d) 1 && not (d .hashing)) (eraseAndUpdate ds i w) (setBlock ds i d j freed w)
-
--- only a Requested block of a standing partial is given back
+-- only a Requested block of a standing partial is given back, and it is free once its last requester is gone
 unfoldable pub abortIn : List ℕ → ℕ → Option DownloadingPiece → ℕ → Option ℕ → Drawing → Drawing
 abortIn ds i none j peer w = w
 abortIn ds i (some d) j peer w =
     let b = blockAt d j in
     cond (not (sameBlockState (b .state) Requested)) w
-    (cond (ltb 1 (b .numPeers)) (noDraw (replaceBlock d j (released peer b)) w) (freeBlock ds i d j w))
+    (cond (ltb 1 (b .numPeers)) (noDraw (replaceBlock d j (released peer b)) w) (freeBlock ds i d j freed w))
 
 -- `abort_download`
 unfoldable pub abortDownload : List ℕ → ℕ → ℕ → Option ℕ → Drawing → Drawing
