@@ -7,6 +7,7 @@ pub mod KeepClose
 pub mod KeepOpen
 pub mod KeepDirection
 pub mod KeepMarks
+pub mod CancelLaws
 pub mod KeepPriority
 pub mod KeepCalls
 pub mod CallDraws

@@ -2,14 +2,14 @@
 -- difference.
 use mathlib.Core.Path.{_≡_, refl}
 use Prim.Native.Nat.{ℕ, _-_}
-use mathlib.Core.Bool.{Bool, true, false}
+use mathlib.Core.Bool.{true, false}
 use mathlib.Core.List.{List, [], _∷_, _++_}
 use mathlib.Core.Option.{Option, none, some}
 use lib.ListN.{length, replicate}
 use Rattle.model.specs.State.{new}
-use Rattle.model.specs.ask.Questions.{Question, ofPicker, ofPiece, ofBlock, recent-extent, list-place, num-seeds, dirty?, have-piece}
+use Rattle.model.specs.ask.Questions.{ofPicker, ofPiece, ofBlock, recent-extent, list-place, num-seeds, dirty?, have-piece}
 use Rattle.model.specs.ask.Questions.{is-piece-flushed, piece-stats, peer-count, download-state, block-state, block-num-peers, block-peer}
-use Rattle.model.specs.ask.Questions.{numbers, staleList}
+use Rattle.model.specs.ask.Questions.{numbers}
 use Rattle.model.specs.ask.Questions.{nothing, one}
 use Rattle.model.specs.pick.Blocks.{PickRequest, pieceBlock}
 use Rattle.model.specs.Calls.{Action, question, inc-refcount, dec-refcount, inc-refcount-all, set-piece-priority, mark-as-downloading}

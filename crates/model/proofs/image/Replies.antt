@@ -1,32 +1,27 @@
 -- Pickers that answer every question alike are equal: each field of the image has its question.
-use mathlib.Core.Path.{_≡_, refl, sym, ap, _∙_, subst}
-use mathlib.Core.Logic.{_≢_, _⊎_, inl, inr}
+use mathlib.Core.Path.{_≡_, refl, sym, ap, _∙_}
 use Prim.Native.Nat.{ℕ, zero, suc, _+_, _≤_, _<_}
 use native.Mathlib.Omega.{arith}
 use native.Mathlib.Decide.{decLe}
-use mathlib.Core.Bool.{Bool, true, false, not, cond}
+use mathlib.Core.Bool.{Bool, true, false, cond}
 use mathlib.Core.List.{List, [], _∷_}
 use mathlib.Core.Option.{Option, none, some}
-use lib.ListN.{length, getD, getElem?}
+use lib.ListN.{length, getElem?}
 use lib.Seq.{ext-getD}
-use lib.Dec.{leb, ltb}
+use lib.Dec.{leb}
 use borrow.Author.Tests.{le-ltb, lt-leb, leb-true}
-use Rattle.types.specs.declared.queue.DownloadQueue.{DownloadQueue}
-use Rattle.types.specs.declared.block.BlockState.{BlockState}
-use Rattle.types.specs.Queue.{queueNumber}
-use Rattle.types.specs.Block.{blockStateNumber}
 use Rattle.model.specs.Lists.{bit, len, each, nth}
-use Rattle.model.specs.State.{Piece, Block, DownloadingPiece, Picker, Listing, dirty, fresh, noPiece, noBlock, sameQueue, isOpen}
+use Rattle.model.specs.State.{Piece, DownloadingPiece, Picker, Listing, dirty, fresh, noPiece, noBlock, sameQueue, isOpen}
 use Rattle.model.specs.State.{isDirty, pieceAt, piecesIn, blocksInPiece}
 use Rattle.model.specs.change.Partials.{partialOf, blockAt}
 use Rattle.model.specs.ask.Questions.{Question, ofPicker, ofPiece, ofBlock, recent-extent, list-place, total-size, full-piece-size}
 use Rattle.model.specs.ask.Questions.{num-seeds, cursor?, reverse-cursor?, dirty?, num-pieces, peer-count, download-state}
 use Rattle.model.specs.ask.Questions.{piece-priority, is-piece-flushed, pad-bytes-in-piece, passed-hash-check, locked?, hashing?}
-use Rattle.model.specs.ask.Questions.{block-state, block-num-peers, block-peer, OfPiece, OfBlock, Reply, numbers, nothing, staleList}
+use Rattle.model.specs.ask.Questions.{block-state, block-num-peers, block-peer, OfPiece, OfBlock, numbers, nothing}
 use Rattle.model.specs.ask.Questions.{plain, one, flag, reply, replyPicker, replyPiece, replyBlock, ofPartial, ofBlockThere, blockIn}
 use Rattle.model.specs.ask.Questions.{placeIn, listPlace}
 use Rattle.model.specs.Calls.{refuseBadPiece as pieceRefusal, refuseBadBlock as blockRefusal, Call, question, Answer, refused}
-use Rattle.model.specs.Calls.{replied, Step, step, answers, act, answering, unlessRefused, check, refusal, questionRefusal, noPlace}
+use Rattle.model.specs.Calls.{replied, step, answers, act, answering, unlessRefused, check, refusal, questionRefusal, noPlace}
 use Rattle.model.specs.Calls.{memoryNeeded}
 use Rattle.model.specs.image.Sound.{Sound, PartialSound}
 use Rattle.types.proofs.QueueNumbers.{queue-numbers}

@@ -11,7 +11,7 @@ use Rattle.types.specs.declared.queue.DownloadQueue.{DownloadQueue}
 use Rattle.types.specs.declared.queue.DownloadQueue.the-variants.{Downloading}
 use Rattle.types.specs.declared.block.BlockState.the-variants.{Requested, Writing, Finished}
 use Rattle.types.specs.Queue.{unreverse, makeReverse}
-use Rattle.model.specs.Lists.{unless, when}
+use Rattle.model.specs.Lists.{when}
 use Rattle.model.specs.State.{Block, DownloadingPiece, Picker, minDraws, pieceAt, withPiece, withState, withPriority, withPeer}
 use Rattle.model.specs.State.{markDirty, sameQueue, isOpen, sameBlockState}
 use Rattle.model.specs.list.Order.{Drawing, drawing, noDraw, changeAndUpdate, rank}
@@ -24,9 +24,8 @@ use Rattle.model.specs.change.Changes.{incRefcount, decRefcount, priorit
 use Rattle.model.specs.change.Changes.{markOpening, setDirection, makePieceReverse, unreversePiece, request, markDownloadingIn}
 use Rattle.model.specs.change.Changes.{markAsDownloading, markWritingIn, markAsWriting, markFinishedIn, markAsFinished, freeBlock}
 use Rattle.model.specs.change.Changes.{cancelIn, markAsCanceled, released, abortIn, abortDownload}
-use Rattle.model.specs.ask.Questions.{Reply, Question, reply}
+use Rattle.model.specs.ask.Questions.{Reply, reply}
 use Rattle.model.specs.pick.Blocks.{PickRequest}
-use Rattle.model.specs.pick.Pick.{pickPieces}
 use Rattle.model.specs.image.Sound.{Sound}
 use Rattle.model.specs.Calls.{Action, question, inc-refcount, dec-refcount, inc-refcount-all, dec-refcount-all, set-piece-priority}
 use Rattle.model.specs.Calls.{mark-as-downloading, mark-as-writing, mark-as-finished, mark-as-canceled, abort-download, lock-piece}

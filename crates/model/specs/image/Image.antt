@@ -1,7 +1,7 @@
 -- The image of a picker: its bytes, and a reader that accepts them or gives the place of the first fault. Assumes nothing.
 -- Each record is one byte of kind and a body whose length the kind fixes; numbers have their high byte first.
 use Prim.Native.Nat.{ℕ, zero, suc, _+_, _-_, _*_, _/_, _%_, _^_}
-use mathlib.Core.Bool.{Bool, true, false, cond, not, _&&_, _||_}
+use mathlib.Core.Bool.{Bool, true, false, cond, _&&_, _||_}
 use mathlib.Core.List.{List, [], _∷_, _++_}
 use mathlib.Core.Option.{Option, none, some}
 use lib.ListN.{take, drop}
