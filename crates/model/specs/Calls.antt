@@ -176,6 +176,20 @@ unfoldable pub lentPeer : Option ℕ → Option ℕ
 lentPeer none = none
 lentPeer (some n) = some (n % 2 ^ 64)
 
+-- so is the one that a pick is for
+unfoldable pub lentRequest : PickRequest → PickRequest
+lentRequest a =
+    record {
+      options = a .options;
+      wanted = a .wanted;
+      contiguous = a .contiguous;
+      peers = a .peers;
+      peer = lentPeer (a .peer);
+      bits = a .bits;
+      bytes = a .bytes;
+      suggestions = a .suggestions;
+    }
+
 -- a pick as a step
 unfoldable pub picking : PickState → Step
 picking w = answering (picked (w .out) (w .flags) (w .loops) (w .used)) (w .picker)
@@ -195,7 +209,7 @@ act s (mark-as-canceled i j peer ds) = doing (markAsCanceled ds i j (lentPeer pe
 act s (abort-download i j peer ds) = doing (abortDownload ds i j (lentPeer peer) (drawing 0 s))
 act s (lock-piece i) = doing (drawing 0 (lockPiece i s))
 act s (piece-passed i) = doing (drawing 0 (piecePassed i s))
-act s (pick-pieces a free ds) = picking (pickPieces ds s a)
+act s (pick-pieces a free ds) = picking (pickPieces ds s (lentRequest a))
 
 -- refused, the picker stays as it is
 unfoldable pub unlessRefused : Option ℕ → Picker → Action → Step

@@ -275,6 +275,24 @@ end-game :
 unfolding everything
 end-game = refl
 
+-- a peer is a number of 64 bits, in a mark as in a pick: 2^64 + 1 is peer 1, and peer 0 is another
+lent-peer :
+    answers (new 16384 16384)
+    (call (inc-refcount 0 draws)
+    ∷ call (mark-as-downloading 0 0 (some 18446744073709551617) 0 draws)
+    ∷ call (question (ofBlock block-peer 0 0))
+    ∷ call (pick-pieces (asking 1 1 0 10 (some 18446744073709551617) 1 (128 ∷ []) []) 4351 draws)
+    ∷ call (pick-pieces (asking 1 1 0 10 (some 18446744073709551616) 1 (128 ∷ []) []) 4351 draws)
+    ∷ [])
+    ≡ done 0
+    ∷ said true 0
+    ∷ replied (one 1)
+    ∷ picked [] 8192 (0 ∷ 0 ∷ 0 ∷ 0 ∷ 0 ∷ 0 ∷ 1 ∷ []) 1
+    ∷ picked (pieceBlock 0 0 ∷ []) 40960 (0 ∷ 0 ∷ 0 ∷ 0 ∷ 0 ∷ 0 ∷ 1 ∷ []) 2
+    ∷ []
+unfolding everything
+lent-peer = refl
+
 -- a suggestion out of range is skipped and counted
 skipped-suggestion :
     answers (new 32768 16384)

@@ -30,11 +30,11 @@ use Rattle.model.specs.image.Sound.{Sound}
 use Rattle.model.specs.Calls.{Action, question, inc-refcount, dec-refcount, inc-refcount-all, dec-refcount-all, set-piece-priority}
 use Rattle.model.specs.Calls.{mark-as-downloading, mark-as-writing, mark-as-finished, mark-as-canceled, abort-download, lock-piece}
 use Rattle.model.specs.Calls.{piece-passed, pick-pieces, Answer, refused, done, said, replied, picked, changeAnswer, changing, doing, answering}
-use Rattle.model.specs.Calls.{picking, act, lentPeer, refusal, requestFits}
+use Rattle.model.specs.Calls.{picking, act, lentPeer, lentRequest, refusal, requestFits}
 use Rattle.model.proofs.list.ListingLaws.{moved-used}
 use Rattle.model.proofs.base.Phases.{cond-arms, when-arms, unless-arms}
 use Rattle.model.proofs.pick.SoundPick.{pick-draws}
-use Rattle.model.proofs.keep.KeepCalls.{check-none, drawn}
+use Rattle.model.proofs.keep.KeepCalls.{check-none, drawn, lent-fits}
 
 -- at most n draws more than before
 abbrev Few : ℕ → Drawing → Drawing → Type 0
@@ -272,4 +272,4 @@ act-draws s (abort-download i j peer ds) v e =
     few-enough (quietly (abortDownload ds i j (lentPeer peer) (drawing 0 s))) (omega (arith, abort-few ds i j (lentPeer peer) (drawing 0 s)))
 act-draws s (lock-piece i) v e = few-enough (quietly (drawing 0 (lockPiece i s))) (omega arith)
 act-draws s (piece-passed i) v e = few-enough (quietly (drawing 0 (piecePassed i s))) (omega arith)
-act-draws s (pick-pieces a free ds) v e = pick-draws ds s a v (fits s a free ds e)
+act-draws s (pick-pieces a free ds) v e = pick-draws ds s (lentRequest a) v (lent-fits s a (fits s a free ds e))

@@ -16,13 +16,14 @@ use Rattle.model.specs.list.Order.{drawing}
 use Rattle.model.specs.change.Partials.{partialOf, blockAt}
 use Rattle.model.specs.change.Changes.{quietly}
 use Rattle.model.specs.ask.Questions.{blockIn, blockTest}
+use Rattle.model.specs.pick.Blocks.{PickRequest, option}
 use Rattle.model.specs.image.WellFormed.{peerOk}
 use Rattle.model.specs.image.Sound.{Sound}
 use Rattle.model.specs.Calls.{Action, question, inc-refcount, dec-refcount, inc-refcount-all, dec-refcount-all, set-piece-priority}
 use Rattle.model.specs.Calls.{mark-as-downloading, mark-as-writing, mark-as-finished, mark-as-canceled, abort-download, lock-piece}
 use Rattle.model.specs.Calls.{piece-passed, pick-pieces, Call, check, refuseFewDraws, refuseBadPiece as pastPieces, refuseBadBlock as pastBlocks}
-use Rattle.model.specs.Calls.{peersFull, numPeersFull, blockThere, noPartialLeft, requestFits, refusal, memoryNeeded, answering}
-use Rattle.model.specs.Calls.{changing, doing, lentPeer, picking, act, unlessRefused, step, run}
+use Rattle.model.specs.Calls.{peersFull, numPeersFull, blockThere, noPartialLeft, bitfieldFits, requestFits, refusal, memoryNeeded, answering}
+use Rattle.model.specs.Calls.{changing, doing, lentPeer, lentRequest, picking, act, unlessRefused, step, run}
 use Rattle.model.proofs.keep.KeepCounts.{incRefcount-keeps, decRefcount-keeps, incRefcountAll-keeps, decRefcountAll-keeps}
 use Rattle.model.proofs.keep.KeepBlocks.{lockPiece-keeps}
 use Rattle.model.proofs.keep.KeepClose.{piecePassed-keeps}
@@ -60,6 +61,11 @@ lent-right : (peer : Option ℕ) → peerOk (lentPeer peer) ≡ true
 unfolding peerOk lentPeer
 lent-right none = refl
 lent-right (some n) = lt-ltb (n % 2 ^ 64) (2 ^ 64) (mod-lt n (omega arith))
+
+-- a request fits whoever it is for
+pub lent-fits : (s : Picker) (a : PickRequest) → requestFits s a ≡ true → requestFits s (lentRequest a) ≡ true
+unfolding requestFits bitfieldFits option lentRequest
+lent-fits s a h = h
 
 not-full : (s : Picker) (p : Piece) → peersFull s p ≡ false → p .peerCount + s .seeds < maxPeers
 unfolding peersFull
@@ -127,7 +133,7 @@ act-keeps s (lock-piece i) v e = lockPiece-keeps i s v
 act-keeps s (piece-passed i) v e = piecePassed-keeps i s v
 act-keeps s (pick-pieces a free ds) v e =
     let bad = check-none (not (requestFits s a)) 11 _ (drawn ds _ e) in
-    pick-sound ds s a v (not-false (requestFits s a) (bad .0))
+    pick-sound ds s (lentRequest a) v (lent-fits s a (not-false (requestFits s a) (bad .0)))
 
 -- a call, refused or not
 pub step-keeps : (s : Picker) (c : Call) → Sound s → Sound (step s c .after)
