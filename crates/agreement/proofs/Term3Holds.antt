@@ -4,9 +4,9 @@ use Prim.Native.Nat.{ℕ, _≤_}
 use native.Mathlib.Omega.{arith}
 use mathlib.Core.Bool.{Bool, true, false, cond}
 use mathlib.Core.List.{List}
-use mathlib.Core.Option.{none}
 use lib.Dec.{ltb}
 use borrow.Author.Tests.{le-ltb}
+use Rattle.types.specs.declared.refusal.Refusal.the-variants.{Geometry, ShortMemory}
 use Rattle.model.specs.State.{Picker, validGeometry, new}
 use Rattle.model.specs.image.WellFormed.{wellFormed}
 use Rattle.model.specs.image.Sound.{Sound}
@@ -25,7 +25,7 @@ within-made : (lent : ℕ) (s t : Picker) → within lent s ≡ made t → s ≡
 unfolding within
 within-made lent s t e = go (ltb lent (memoryNeeded s)) e
   where
-    go : (b : Bool) → cond b (notMade 2 none) (made s) ≡ made t → s ≡ t
+    go : (b : Bool) → cond b (notMade ShortMemory) (made s) ≡ made t → s ≡ t
     go true e = let z : _≡_ {A = ℕ} 0 1 = cc in absurd (omega arith)
     go false e = cc
 
@@ -33,7 +33,7 @@ made-new : (lent totalSize pieceSize : ℕ) (s : Picker) → newPicker lent tota
 unfolding newPicker
 made-new lent totalSize pieceSize s e = go (validGeometry totalSize pieceSize) refl e
   where
-    go : (b : Bool) → validGeometry totalSize pieceSize ≡ b → cond b (within lent (new totalSize pieceSize)) (notMade 1 none) ≡ made s → (validGeometry totalSize pieceSize ≡ true) × (new totalSize pieceSize ≡ s)
+    go : (b : Bool) → validGeometry totalSize pieceSize ≡ b → cond b (within lent (new totalSize pieceSize)) (notMade Geometry) ≡ made s → (validGeometry totalSize pieceSize ≡ true) × (new totalSize pieceSize ≡ s)
     go true p e = (p, within-made lent (new totalSize pieceSize) s e)
     go false p e = let z : _≡_ {A = ℕ} 0 1 = cc in absurd (omega arith)
 

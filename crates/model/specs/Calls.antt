@@ -6,10 +6,15 @@ use mathlib.Core.List.{List, [], _∷_}
 use mathlib.Core.Option.{Option, none, some}
 use lib.Dec.{eqb, ltb, leb}
 use Rattle.types.specs.declared.block.BlockState.the-variants.{Requested}
+use Rattle.types.specs.declared.refusal.Refusal.{Refusal}
+use Rattle.types.specs.declared.refusal.Refusal.the-variants.{Geometry, ShortMemory, FewDraws, OutOfRange, TooManyPeers, NoPeerToTake}
+use Rattle.types.specs.declared.refusal.Refusal.the-variants.{HavePiece, NotWriting, TooManyPartials, PickArguments, ShortOutput}
+use Rattle.types.specs.declared.refusal.Refusal.the-variants.{IllFormedImage}
 use Rattle.model.specs.Lists.{least, any, len}
 use Rattle.model.specs.Bep3.{bitfieldBytes}
-use Rattle.model.specs.State.{Piece, Block, Picker, Listing, dirty, fresh, maxPeers, maxPartials, minDraws, isOpen, sameBlockState}
-use Rattle.model.specs.State.{validGeometry, new, pieceAt, piecesIn, blocksPerPiece, blocksInPiece}
+use Rattle.model.specs.State.{Piece, Block, Picker, Listing, dirty, fresh, maxPeers, maxPartials, maxPriority, maxWanted}
+use Rattle.model.specs.State.{maxContiguous, maxSuggestions, spareOutput, minDraws, isOpen, sameBlockState, validGeometry, new}
+use Rattle.model.specs.State.{pieceAt, piecesIn, blocksPerPiece, blocksInPiece}
 use Rattle.model.specs.Options.{rarestFirst, sequential}
 use Rattle.model.specs.list.Order.{Drawing, drawing}
 use Rattle.model.specs.change.Partials.{partialOf}
@@ -40,9 +45,9 @@ pub record Call : Type 0 where
   pub lent : ℕ
   pub action : Action
 
--- the table's number; a change done, or answered true or false, with the draws used; what a question is told; what a pick gives
+-- a refusal; a change done, or answered true or false, with the draws used; what a question is told; what a pick gives
 pub data Answer : Type 0 where
-  refused : ℕ → Answer
+  refused : Refusal → Answer
   done : (used : ℕ) → Answer
   said : Bool → (used : ℕ) → Answer
   replied : Reply → Answer
@@ -64,21 +69,21 @@ recordsNeeded s piece-priorities = piecesIn s
 recordsNeeded s get-download-queue = least (piecesIn s) maxPartials
 
 -- ---- refusals: the first of the table that holds
-unfoldable pub check : Bool → ℕ → Option ℕ → Option ℕ
-check true n r = some n
-check false n r = r
+unfoldable pub check : Bool → Refusal → Option Refusal → Option Refusal
+check true first rest = some first
+check false first rest = rest
 
 -- 4
-unfoldable pub refuseFewDraws : List ℕ → Option ℕ → Option ℕ
-refuseFewDraws ds r = check (ltb (len ds) minDraws) 4 r
+unfoldable pub refuseFewDraws : List ℕ → Option Refusal → Option Refusal
+refuseFewDraws ds r = check (ltb (len ds) minDraws) FewDraws r
 
 -- 5, of a piece
-unfoldable pub refuseBadPiece : Picker → ℕ → Option ℕ → Option ℕ
-refuseBadPiece s i r = check (leb (piecesIn s) i) 5 r
+unfoldable pub refuseBadPiece : Picker → ℕ → Option Refusal → Option Refusal
+refuseBadPiece s i r = check (leb (piecesIn s) i) OutOfRange r
 
 -- 5, of a block
-unfoldable pub refuseBadBlock : Picker → ℕ → ℕ → Option ℕ → Option ℕ
-refuseBadBlock s i j r = refuseBadPiece s i (check (leb (blocksInPiece s i) j) 5 r)
+unfoldable pub refuseBadBlock : Picker → ℕ → ℕ → Option Refusal → Option Refusal
+refuseBadBlock s i j r = refuseBadPiece s i (check (leb (blocksInPiece s i) j) OutOfRange r)
 
 -- no more peers of a piece, or peers of a block
 unfoldable pub peersFull : Picker → Piece → Bool
@@ -102,15 +107,15 @@ noPlace dirty k = false
 noPlace (fresh l) k = leb (len l) k
 
 -- 2 and 5 of a question
-unfoldable pub questionRefusal : Picker → Question → Option ℕ
+unfoldable pub questionRefusal : Picker → Question → Option Refusal
 questionRefusal s (ofPicker q) = none
-questionRefusal s (listOfPicker q room) = check (ltb room (recordsNeeded s q)) 2 none
+questionRefusal s (listOfPicker q room) = check (ltb room (recordsNeeded s q)) ShortMemory none
 questionRefusal s (ofPiece q i) = refuseBadPiece s i none
-questionRefusal s (listOfPiece q i room) = check (ltb room (blocksPerPiece s)) 2 (refuseBadPiece s i none)
+questionRefusal s (listOfPiece q i room) = check (ltb room (blocksPerPiece s)) ShortMemory (refuseBadPiece s i none)
 questionRefusal s (ofBlock q i j) = refuseBadBlock s i j none
 questionRefusal s (partial-at k) = none
 questionRefusal s (recent-extent k) = none
-questionRefusal s (list-place k) = check (noPlace (s .listing) k) 5 none
+questionRefusal s (list-place k) = check (noPlace (s .listing) k) OutOfRange none
 
 -- the bitfield has a bit for each piece, and the bytes that they need
 unfoldable pub bitfieldFits : Picker → PickRequest → Bool
@@ -120,34 +125,39 @@ bitfieldFits s a = eqb (a .bits) (piecesIn s) && eqb (len (a .bytes)) (bitfieldB
 unfoldable pub requestFits : Picker → PickRequest → Bool
 requestFits s a =
     leb 1 (a .wanted)
-    && (leb (a .wanted) 2048
-    && (leb (a .contiguous) 2048
-    && (leb (a .peers) 1000
-    && (leb (len (a .suggestions)) 256 && (not (option rarestFirst a && option sequential a) && bitfieldFits s a)))))
+    && (leb (a .wanted) maxWanted
+    && (leb (a .contiguous) maxContiguous
+    && (leb (a .peers) maxPeers
+    && (leb (len (a .suggestions)) maxSuggestions && (not (option rarestFirst a && option sequential a) && bitfieldFits s a)))))
 
 -- the table's refusals from 4 on, and 2 of lists
-unfoldable pub refusal : Picker → Action → Option ℕ
+unfoldable pub refusal : Picker → Action → Option Refusal
 refusal s (question q) = questionRefusal s q
-refusal s (inc-refcount i ds) = refuseFewDraws ds (refuseBadPiece s i (check (peersFull s (pieceAt s i)) 6 none))
-refusal s (dec-refcount i ds) = refuseFewDraws ds (refuseBadPiece s i (check (eqb (s .seeds) 0 && eqb (pieceAt s i .peerCount) 0) 7 none))
-refusal s inc-refcount-all = check (any (peersFull s) (s .pieces)) 6 none
-refusal s dec-refcount-all = check (eqb (s .seeds) 0 && any (λ p. eqb (p .peerCount) 0) (s .pieces)) 7 none
-refusal s (set-piece-priority i priority ds) = refuseFewDraws ds (refuseBadPiece s i (check (ltb 7 priority) 5 none))
+refusal s (inc-refcount i ds) = refuseFewDraws ds (refuseBadPiece s i (check (peersFull s (pieceAt s i)) TooManyPeers none))
+refusal s (dec-refcount i ds) =
+    refuseFewDraws ds (refuseBadPiece s i (check (eqb (s .seeds) 0 && eqb (pieceAt s i .peerCount) 0) NoPeerToTake none))
+refusal s inc-refcount-all = check (any (peersFull s) (s .pieces)) TooManyPeers none
+refusal s dec-refcount-all = check (eqb (s .seeds) 0 && any (λ p. eqb (p .peerCount) 0) (s .pieces)) NoPeerToTake none
+refusal s (set-piece-priority i priority ds) = refuseFewDraws ds (refuseBadPiece s i (check (ltb maxPriority priority) OutOfRange none))
 refusal s (mark-as-downloading i j peer options ds) =
     refuseFewDraws ds
     (refuseBadBlock s i j
-    (check (blockTest numPeersFull (blockThere s i j)) 6 (check (pieceAt s i .flushed) 8 (check (noPartialLeft s i) 10 none))))
-refusal s (mark-as-writing i j peer ds) = refuseFewDraws ds (refuseBadBlock s i j (check (noPartialLeft s i) 10 none))
+    (check (blockTest numPeersFull (blockThere s i j)) TooManyPeers
+    (check (pieceAt s i .flushed) HavePiece (check (noPartialLeft s i) TooManyPartials none))))
+refusal s (mark-as-writing i j peer ds) = refuseFewDraws ds (refuseBadBlock s i j (check (noPartialLeft s i) TooManyPartials none))
 refusal s (mark-as-finished i j peer ds) =
     refuseFewDraws ds
     (refuseBadBlock s i j
-    (check (blockTest (λ b. sameBlockState (b .state) Requested) (blockThere s i j)) 9 (check (noPartialLeft s i) 10 none)))
+    (check (blockTest (λ b. sameBlockState (b .state) Requested) (blockThere s i j)) NotWriting
+    (check (noPartialLeft s i) TooManyPartials none)))
 refusal s (mark-as-canceled i j peer ds) = refuseFewDraws ds (refuseBadBlock s i j none)
 refusal s (abort-download i j peer ds) = refuseFewDraws ds (refuseBadBlock s i j none)
 refusal s (lock-piece i) = refuseBadPiece s i none
 refusal s (piece-passed i) = refuseBadPiece s i none
 refusal s (pick-pieces a free ds) =
-    refuseFewDraws ds (check (not (requestFits s a)) 11 (check (ltb free (a .wanted + a .contiguous + 255)) 12 none))
+    refuseFewDraws ds
+    (check (not (requestFits s a)) PickArguments
+    (check (ltb free (a .wanted + a .contiguous + spareOutput)) ShortOutput none))
 
 -- ---- a step
 pub record Step : Type 0 where
@@ -212,13 +222,13 @@ act s (piece-passed i) = doing (drawing 0 (piecePassed i s))
 act s (pick-pieces a free ds) = picking (pickPieces ds s (lentRequest a))
 
 -- refused, the picker stays as it is
-unfoldable pub unlessRefused : Option ℕ → Picker → Action → Step
+unfoldable pub unlessRefused : Option Refusal → Picker → Action → Step
 unlessRefused none s a = act s a
-unlessRefused (some n) s a = answering (refused n) s
+unlessRefused (some why) s a = answering (refused why) s
 
 -- 2 of the picker's memory first
 unfoldable pub step : Picker → Call → Step
-step s c = unlessRefused (check (ltb (c .lent) (memoryNeeded s)) 2 (refusal s (c .action))) s (c .action)
+step s c = unlessRefused (check (ltb (c .lent) (memoryNeeded s)) ShortMemory (refusal s (c .action))) s (c .action)
 
 -- ---- lists of calls
 unfoldable pub answers : Picker → List Call → List Answer
@@ -231,34 +241,34 @@ run s [] = s
 run s (c ∷ cs) = run (step s c .after) cs
 
 -- ---- calls that make a picker, and the one that takes its image
--- a picker, or the table's number with, for 13, the place of the fault
+-- a picker, or why there is none
 pub data Made : Type 0 where
   made : Picker → Made
-  notMade : (number : ℕ) → (place : Option ℕ) → Made
+  notMade : Refusal → Made
 
 -- given memory enough
 unfoldable pub within : ℕ → Picker → Made
-within lent s = cond (ltb lent (memoryNeeded s)) (notMade 2 none) (made s)
+within lent s = cond (ltb lent (memoryNeeded s)) (notMade ShortMemory) (made s)
 
 -- `new`
 unfoldable pub newPicker : ℕ → ℕ → ℕ → Made
-newPicker lent totalSize pieceSize = cond (validGeometry totalSize pieceSize) (within lent (new totalSize pieceSize)) (notMade 1 none)
+newPicker lent totalSize pieceSize = cond (validGeometry totalSize pieceSize) (within lent (new totalSize pieceSize)) (notMade Geometry)
 
 -- an accepted image
 unfoldable pub readWithin : ℕ → Read Picker → Made
 readWithin lent (accepted s) = within lent s
-readWithin lent (faultAt k) = notMade 13 (some k)
+readWithin lent (faultAt k) = notMade (IllFormedImage k)
 
 -- a reader of bytes looks at them before it looks at the memory
 unfoldable pub readPicker : ℕ → List ℕ → Made
 readPicker lent bs = readWithin lent (readImage bs)
 
--- the image, or the table's number
+-- the image, or why it is not taken
 pub data Taken : Type 0 where
   taken : List ℕ → Taken
-  notTaken : ℕ → Taken
+  notTaken : Refusal → Taken
 
 -- taking the image needs room for it
 unfoldable pub takeImage : Picker → ℕ → ℕ → Taken
 takeImage s lent room =
-    cond (ltb lent (memoryNeeded s)) (notTaken 2) (cond (ltb room (len (image s))) (notTaken 2) (taken (image s)))
+    cond (ltb lent (memoryNeeded s)) (notTaken ShortMemory) (cond (ltb room (len (image s))) (notTaken ShortMemory) (taken (image s)))

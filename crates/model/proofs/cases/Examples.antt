@@ -6,16 +6,16 @@ use mathlib.Core.Bool.{true, false}
 use mathlib.Core.List.{List, [], _∷_, _++_}
 use mathlib.Core.Option.{Option, none, some}
 use lib.ListN.{length, replicate}
+use Rattle.types.specs.declared.refusal.Refusal.the-variants.{ShortMemory, FewDraws, OutOfRange, NoPeerToTake, HavePiece, NotWriting}
 use Rattle.model.specs.State.{new}
 use Rattle.model.specs.ask.Questions.{ofPicker, ofPiece, ofBlock, recent-extent, list-place, num-seeds, dirty?, have-piece}
-use Rattle.model.specs.ask.Questions.{is-piece-flushed, piece-stats, peer-count, download-state, block-state, block-num-peers, block-peer}
-use Rattle.model.specs.ask.Questions.{numbers}
-use Rattle.model.specs.ask.Questions.{nothing, one}
+use Rattle.model.specs.ask.Questions.{is-piece-flushed, piece-stats, peer-count, download-state, block-state, block-num-peers}
+use Rattle.model.specs.ask.Questions.{block-peer, numbers, nothing, one}
 use Rattle.model.specs.pick.Blocks.{PickRequest, pieceBlock}
 use Rattle.model.specs.Calls.{Action, question, inc-refcount, dec-refcount, inc-refcount-all, set-piece-priority, mark-as-downloading}
 use Rattle.model.specs.Calls.{mark-as-writing, mark-as-finished, mark-as-canceled, abort-download, piece-passed, pick-pieces, Call}
 use Rattle.model.specs.Calls.{refused, done, said, replied, picked, answers}
-use Rattle.model.specs.image.Program.{program, shown}
+use Rattle.model.specs.image.Program.{program}
 use Rattle.model.proofs.cases.Everything.{everything}
 
 -- n lent words: those listed, then zeros
@@ -39,7 +39,7 @@ example =
     2 ∷ 0 ∷ 1 ∷ 4 ∷ 4 ∷ 0 ∷ 0 ∷ 0 ∷ 0 ∷ 0 ∷
     7 ∷ 0 ∷ 3 ∷ 0 ∷ 3 ∷ 0 ∷ 0 ∷ 0 ∷ 10 ∷ 0 ∷ 0 ∷ 0 ∷ 0 ∷ 0 ∷ 0 ∷ 0 ∷ 0 ∷ 0 ∷ []
 
-pick-example : program example ≡ shown (picked (pieceBlock 0 0 ∷ pieceBlock 0 1 ∷ pieceBlock 1 0 ∷ []) 16 (0 ∷ 0 ∷ 2 ∷ 0 ∷ 0 ∷ 0 ∷ 0 ∷ []) 0)
+pick-example : program example ≡ picked (pieceBlock 0 0 ∷ pieceBlock 0 1 ∷ pieceBlock 1 0 ∷ []) 16 (0 ∷ 0 ∷ 2 ∷ 0 ∷ 0 ∷ 0 ∷ 0 ∷ []) 0
 unfolding everything example
 pick-example = refl
 
@@ -90,7 +90,7 @@ turned-and-back :
     ∷ replied (one 1)
     ∷ said true 0
     ∷ replied (numbers (some 1 ∷ none ∷ some 0 ∷ some 1 ∷ []))
-    ∷ refused 5
+    ∷ refused OutOfRange
     ∷ []
 unfolding everything
 turned-and-back = refl
@@ -112,7 +112,7 @@ break-one-seed :
     ∷ replied (one 0)
     ∷ replied (one 1)
     ∷ replied (one 1)
-    ∷ refused 7
+    ∷ refused NoPeerToTake
     ∷ []
 unfolding everything
 break-one-seed = refl
@@ -134,11 +134,11 @@ table-order :
     ∷ done 0
     ∷ done 0
     ∷ replied (one 1)
-    ∷ refused 8
-    ∷ refused 5
-    ∷ refused 4
-    ∷ refused 4
-    ∷ refused 2
+    ∷ refused HavePiece
+    ∷ refused OutOfRange
+    ∷ refused FewDraws
+    ∷ refused FewDraws
+    ∷ refused ShortMemory
     ∷ []
 unfolding everything
 table-order = refl
@@ -175,7 +175,7 @@ not-without-writing :
     ∷ call (question (ofPiece download-state 0))
     ∷ [])
     ≡ said true 0
-    ∷ refused 9
+    ∷ refused NotWriting
     ∷ said true 0
     ∷ done 0
     ∷ replied (one 2)
@@ -406,8 +406,8 @@ canceled :
     ∷ done 0
     ∷ replied (one 1)
     ∷ done 0
-    ∷ refused 5
-    ∷ refused 4
+    ∷ refused OutOfRange
+    ∷ refused FewDraws
     ∷ []
 unfolding everything
 canceled = refl

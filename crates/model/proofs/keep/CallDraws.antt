@@ -10,6 +10,7 @@ use borrow.Author.Tests.{not-false}
 use Rattle.types.specs.declared.queue.DownloadQueue.{DownloadQueue}
 use Rattle.types.specs.declared.queue.DownloadQueue.the-variants.{Downloading}
 use Rattle.types.specs.declared.block.BlockState.the-variants.{Requested, Writing, Finished}
+use Rattle.types.specs.declared.refusal.Refusal.the-variants.{PickArguments}
 use Rattle.types.specs.Queue.{unreverse, makeReverse}
 use Rattle.model.specs.Lists.{when}
 use Rattle.model.specs.State.{Block, DownloadingPiece, Picker, minDraws, pieceAt, withPiece, withState, withPriority, withPeer}
@@ -29,8 +30,8 @@ use Rattle.model.specs.pick.Blocks.{PickRequest}
 use Rattle.model.specs.image.Sound.{Sound}
 use Rattle.model.specs.Calls.{Action, question, inc-refcount, dec-refcount, inc-refcount-all, dec-refcount-all, set-piece-priority}
 use Rattle.model.specs.Calls.{mark-as-downloading, mark-as-writing, mark-as-finished, mark-as-canceled, abort-download, lock-piece}
-use Rattle.model.specs.Calls.{piece-passed, pick-pieces, Answer, refused, done, said, replied, picked, changeAnswer, changing, doing, answering}
-use Rattle.model.specs.Calls.{picking, act, lentPeer, lentRequest, refusal, requestFits}
+use Rattle.model.specs.Calls.{piece-passed, pick-pieces, Answer, refused, done, said, replied, picked, changeAnswer, changing, doing}
+use Rattle.model.specs.Calls.{answering, picking, act, lentPeer, lentRequest, refusal, requestFits}
 use Rattle.model.proofs.list.ListingLaws.{moved-used}
 use Rattle.model.proofs.base.Phases.{cond-arms, when-arms, unless-arms}
 use Rattle.model.proofs.pick.SoundPick.{pick-draws}
@@ -227,7 +228,7 @@ module _ (ds : List ℕ) (i : ℕ) where
 -- ---- every call
 -- the draws that an answer tells of
 unfoldable pub drawsIn : Answer → ℕ
-drawsIn (refused n) = 0
+drawsIn (refused why) = 0
 drawsIn (done used) = used
 drawsIn (said b used) = used
 drawsIn (replied t) = 0
@@ -249,7 +250,7 @@ told-none t = omega arith
 
 fits : (s : Picker) (a : PickRequest) (free : ℕ) (ds : List ℕ) → refusal s (pick-pieces a free ds) ≡ none → requestFits s a ≡ true
 unfolding refusal
-fits s a free ds e = not-false (requestFits s a) (check-none (not (requestFits s a)) 11 _ (drawn ds _ e) .0)
+fits s a free ds e = not-false (requestFits s a) (check-none (not (requestFits s a)) PickArguments _ (drawn ds _ e) .0)
 
 -- a call that is not refused takes no more draws than are lent
 pub act-draws : (s : Picker) (x : Action) → Sound s → refusal s x ≡ none → drawsIn (act s x .answer) ≤ minDraws

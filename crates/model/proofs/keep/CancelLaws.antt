@@ -15,12 +15,11 @@ use Rattle.types.specs.declared.queue.DownloadQueue.the-variants.{DownloadingRe
 use Rattle.types.specs.declared.block.BlockState.the-variants.{None}
 use Rattle.types.specs.Queue.{unreverse}
 use Rattle.model.specs.Lists.{bit, count, len, nth, setNth, unless}
-use Rattle.model.specs.State.{Piece, Block, DownloadingPiece, noBlock, isOpen, sameQueue, sameBlockState, withBlocks}
-use Rattle.model.specs.State.{withPartials, withPiece, pieceAt}
+use Rattle.model.specs.State.{Piece, Block, DownloadingPiece, noBlock, isOpen, sameQueue, sameBlockState, withBlocks, withPartials}
+use Rattle.model.specs.State.{withPiece, pieceAt}
 use Rattle.model.specs.list.Order.{Drawing, drawing, noDraw, rank, changeAndUpdate}
-use Rattle.model.specs.change.Partials.{partialOf, blockAt, blocksInState, progress, replacePartial, replaceBlock}
-use Rattle.model.specs.change.Partials.{newState, moveState, updateStateOf, updatePieceState, dropPartial, eraseDownloadPiece}
-use Rattle.model.specs.change.Partials.{eraseAndUpdate}
+use Rattle.model.specs.change.Partials.{partialOf, blockAt, blocksInState, progress, replacePartial, replaceBlock, newState}
+use Rattle.model.specs.change.Partials.{moveState, updateStateOf, updatePieceState, dropPartial, eraseDownloadPiece, eraseAndUpdate}
 use Rattle.model.specs.change.Changes.{setBlock}
 use Rattle.model.specs.image.WellFormed.{stateOk}
 use Rattle.model.specs.image.Sound.{Sound}

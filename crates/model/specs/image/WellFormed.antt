@@ -9,7 +9,8 @@ use Rattle.types.specs.Queue.{unreverse}
 use Rattle.model.specs.Lists.{every, len, member, lastOr}
 use Rattle.model.specs.Bep3.{numPieces}
 use Rattle.model.specs.State.{Piece, Block, DownloadingPiece, Picker, Listing, dirty, fresh, maxPeers, maxPartials, maxExtents}
-use Rattle.model.specs.State.{sameQueue, isOpen, validGeometry, piecesIn, pieceSizeAt, blocksPerPiece, blocksInPiece, numExtents}
+use Rattle.model.specs.State.{maxPriority, sameQueue, isOpen, validGeometry, piecesIn, pieceSizeAt, blocksPerPiece, blocksInPiece}
+use Rattle.model.specs.State.{numExtents}
 use Rattle.model.specs.list.Order.{rank, withBucket}
 use Rattle.model.specs.change.Partials.{progress, newState}
 
@@ -25,7 +26,7 @@ headOk s =
 unfoldable pub pieceOk : Picker → ℕ → Piece → Bool
 pieceOk s i p =
     leb (p .peerCount + s .seeds) maxPeers
-    && (leb (p .priority) 7 && ((not (p .flushed) || isOpen (p .state)) && leb (p .padBytes) (pieceSizeAt s i)))
+    && (leb (p .priority) maxPriority && ((not (p .flushed) || isOpen (p .state)) && leb (p .padBytes) (pieceSizeAt s i)))
 
 -- a peer is a number of 64 bits
 unfoldable pub peerOk : Option ℕ → Bool
