@@ -69,27 +69,28 @@ recordsNeeded s piece-priorities = piecesIn s
 recordsNeeded s get-download-queue = least (piecesIn s) maxPartials
 
 -- ---- refusals: the first of the table that holds
+-- a refusal that is met, or what the rest of the table says
 unfoldable pub check : Bool → Refusal → Option Refusal → Option Refusal
 check true first rest = some first
 check false first rest = rest
 
--- 4
+-- 4: too few draws
 unfoldable pub refuseFewDraws : List ℕ → Option Refusal → Option Refusal
 refuseFewDraws ds r = check (ltb (len ds) minDraws) FewDraws r
 
--- 5, of a piece
+-- 5: no such piece
 unfoldable pub refuseBadPiece : Picker → ℕ → Option Refusal → Option Refusal
 refuseBadPiece s i r = check (leb (piecesIn s) i) OutOfRange r
 
--- 5, of a block
+-- 5: no such piece, or no such block of it
 unfoldable pub refuseBadBlock : Picker → ℕ → ℕ → Option Refusal → Option Refusal
 refuseBadBlock s i j r = refuseBadPiece s i (check (leb (blocksInPiece s i) j) OutOfRange r)
 
--- no more peers of a piece, or peers of a block
+-- the piece has as many peers with the seeds as may be
 unfoldable pub peersFull : Picker → Piece → Bool
 peersFull s p = leb maxPeers (p .peerCount + s .seeds)
 
--- of a block that a request would count up
+-- the block, which a request would count up, has as many peers as may be
 unfoldable pub numPeersFull : Block → Bool
 numPeersFull b = not (received b) && leb maxPeers (b .numPeers)
 
@@ -106,7 +107,7 @@ unfoldable pub noPlace : Listing → ℕ → Bool
 noPlace dirty k = false
 noPlace (fresh l) k = leb (len l) k
 
--- 2 and 5 of a question
+-- 2 of the room for a list, and 5
 unfoldable pub questionRefusal : Picker → Question → Option Refusal
 questionRefusal s (ofPicker q) = none
 questionRefusal s (listOfPicker q room) = check (ltb room (recordsNeeded s q)) ShortMemory none
@@ -130,7 +131,8 @@ requestFits s a =
     && (leb (a .peers) maxPeers
     && (leb (len (a .suggestions)) maxSuggestions && (not (option rarestFirst a && option sequential a) && bitfieldFits s a)))))
 
--- the table's refusals from 4 on, and 2 of lists
+-- the table's refusals of a picker in memory enough: 2 of the room for a list, then 4 to 12. A picker is well-formed here: 3 is of memory
+-- that holds none
 unfoldable pub refusal : Picker → Action → Option Refusal
 refusal s (question q) = questionRefusal s q
 refusal s (inc-refcount i ds) = refuseFewDraws ds (refuseBadPiece s i (check (peersFull s (pieceAt s i)) TooManyPeers none))
@@ -231,6 +233,7 @@ unfoldable pub step : Picker → Call → Step
 step s c = unlessRefused (check (ltb (c .lent) (memoryNeeded s)) ShortMemory (refusal s (c .action))) s (c .action)
 
 -- ---- lists of calls
+-- what they answer, each led by those before it
 unfoldable pub answers : Picker → List Call → List Answer
 answers s [] = []
 answers s (c ∷ cs) = step s c .answer ∷ answers (step s c .after) cs
@@ -246,7 +249,7 @@ pub data Made : Type 0 where
   made : Picker → Made
   notMade : Refusal → Made
 
--- given memory enough
+-- the picker, given memory enough
 unfoldable pub within : ℕ → Picker → Made
 within lent s = cond (ltb lent (memoryNeeded s)) (notMade ShortMemory) (made s)
 
@@ -254,7 +257,7 @@ within lent s = cond (ltb lent (memoryNeeded s)) (notMade ShortMemory) (made s)
 unfoldable pub newPicker : ℕ → ℕ → ℕ → Made
 newPicker lent totalSize pieceSize = cond (validGeometry totalSize pieceSize) (within lent (new totalSize pieceSize)) (notMade Geometry)
 
--- an accepted image
+-- the picker of an accepted image
 unfoldable pub readWithin : ℕ → Read Picker → Made
 readWithin lent (accepted s) = within lent s
 readWithin lent (faultAt k) = notMade (IllFormedImage k)

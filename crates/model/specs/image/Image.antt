@@ -54,7 +54,7 @@ unfoldable pub bytesOf : ℕ → ℕ → List ℕ
 bytesOf zero n = []
 bytesOf (suc w) n = (n / 256 ^ w % 256) ∷ bytesOf w n
 
--- total, piece size, seeds, cursors, dirty
+-- total, piece size, seeds, cursors, whether the list is dirty
 unfoldable pub headRecord : Picker → List ℕ
 headRecord s =
     headKind
@@ -62,7 +62,7 @@ headRecord s =
     ++ (bytesOf 4 (s .pieceSize)
     ++ (bytesOf 2 (s .seeds) ++ (bytesOf 4 (s .cursor) ++ (bytesOf 4 (s .reverseCursor) ++ bytesOf 1 (bit (isDirty (s .listing))))))))
 
--- count, state, priority, had, pad bytes
+-- peers, state, priority, flushed, pad bytes
 unfoldable pub pieceRecord : Piece → List ℕ
 pieceRecord p =
     pieceKind
@@ -229,6 +229,7 @@ unfoldable pub readPartial : ℕ → ℕ → List ℕ → Option ℕ
 readPartial i n b = obeying (eqb (field 0 4 b) i && (leb (field 4 1 b) allFlags && ltb n maxPartials)) (field 4 1 b)
 
 -- ---- the parts of an image
+-- n pieces from i on
 unfoldable pub getPieces : Picker → ℕ → ℕ → Reader (List Piece)
 getPieces s i zero = ret []
 getPieces s i (suc n) = do

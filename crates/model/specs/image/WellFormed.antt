@@ -22,7 +22,7 @@ headOk s =
     && (leb (s .seeds) maxPeers
     && (leb (s .cursor) (numPieces (s .totalSize) (s .pieceSize)) && leb (s .reverseCursor) (numPieces (s .totalSize) (s .pieceSize))))
 
--- piece i: peers, priority and pad bytes in range; a had piece is Open
+-- piece i: peers, priority and pad bytes in range; a flushed piece is Open
 unfoldable pub pieceOk : Picker → ℕ → Piece → Bool
 pieceOk s i p =
     leb (p .peerCount + s .seeds) maxPeers
@@ -37,8 +37,8 @@ peerOk (some n) = ltb n (2 ^ 64)
 unfoldable pub blockOk : Block → Bool
 blockOk b = leb (b .numPeers) maxPeers && peerOk (b .peer)
 
--- the state is the one that blocks and priority give, plain or reverse. A wished piece with no block at work may stand in any, since the
--- Rust leaves it where it was
+-- the state is the one that blocks and priority give, plain or reverse. A piece above priority 0 with no block at work may stand in any,
+-- since the Rust leaves it where it was
 unfoldable pub stateOk : Piece → DownloadingPiece → Bool
 stateOk p d =
     (ltb 0 (p .priority) && eqb (progress d) 0) || sameQueue (unreverse (p .state)) (newState d (p .priority) Open)
@@ -60,6 +60,7 @@ placeOk s before i =
     ltb i (piecesIn s) && (ltb 0 (rank s i) && (not (member i before) && leb (rank s (lastOr i before)) (rank s i)))
 
 -- ---- the picker
+-- every piece
 unfoldable pub piecesOk : Picker → ℕ → List Piece → Bool
 piecesOk s i [] = true
 piecesOk s i (p ∷ ps) = pieceOk s i p && piecesOk s (suc i) ps
