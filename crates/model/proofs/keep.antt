@@ -10,4 +10,6 @@ pub mod KeepMarks
 pub mod CancelLaws
 pub mod KeepPriority
 pub mod KeepCalls
+pub mod ChangeParts
 pub mod CallDraws
+pub mod KeepTorrent

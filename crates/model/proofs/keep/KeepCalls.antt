@@ -44,7 +44,7 @@ unfolding check
 check-none true x r e = absurd (Option·none-ne-some x (sym e))
 check-none false x r e = (refl, e)
 
-pub drawn : (ds : List ℕ) (r : Option Refusal) → refuseFewDraws ds r ≡ none → r ≡ none
+drawn : (ds : List ℕ) (r : Option Refusal) → refuseFewDraws ds r ≡ none → r ≡ none
 unfolding refuseFewDraws
 drawn ds r e = check-none (ltb (len ds) minDraws) FewDraws r e .1
 
@@ -66,10 +66,11 @@ unfolding peerOk lentPeer
 lent-right none = refl
 lent-right (some n) = lt-ltb (n % 2 ^ 64) (2 ^ 64) (mod-lt n (omega arith))
 
--- a request fits whoever it is for
-pub lent-fits : (s : Picker) (a : PickRequest) → requestFits s a ≡ true → requestFits s (lentRequest a) ≡ true
-unfolding requestFits bitfieldFits option lentRequest
-lent-fits s a h = h
+-- the request fits, whoever it is for
+pub pick-fits : (s : Picker) (a : PickRequest) (free : ℕ) (ds : List ℕ) → refusal s (pick-pieces a free ds) ≡ none
+    → requestFits s (lentRequest a) ≡ true
+unfolding refusal requestFits bitfieldFits option lentRequest
+pick-fits s a free ds e = not-false (requestFits s a) (check-none (not (requestFits s a)) PickArguments _ (drawn ds _ e) .0)
 
 not-full : (s : Picker) (p : Piece) → peersFull s p ≡ false → p .peerCount + s .seeds < maxPeers
 unfolding peersFull
@@ -135,9 +136,7 @@ act-keeps s (mark-as-canceled i j peer ds) v e = markAsCanceled-keeps ds i j (le
 act-keeps s (abort-download i j peer ds) v e = abortDownload-keeps ds i j (lentPeer peer) (drawing 0 s) v
 act-keeps s (lock-piece i) v e = lockPiece-keeps i s v
 act-keeps s (piece-passed i) v e = piecePassed-keeps i s v
-act-keeps s (pick-pieces a free ds) v e =
-    let bad = check-none (not (requestFits s a)) PickArguments _ (drawn ds _ e) in
-    pick-sound ds s (lentRequest a) v (lent-fits s a (not-false (requestFits s a) (bad .0)))
+act-keeps s (pick-pieces a free ds) v e = pick-sound ds s (lentRequest a) v (pick-fits s a free ds e)
 
 -- a call, refused or not
 pub step-keeps : (s : Picker) (c : Call) → Sound s → Sound (step s c .after)
