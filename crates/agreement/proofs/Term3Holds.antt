@@ -19,7 +19,7 @@ use Rattle.model.proofs.keep.KeepCalls.{run-keeps}
 use Rattle.model.proofs.keep.KeepTorrent.{run-memory}
 use Rattle.model.proofs.sound.SoundLaws.{wellFormed-sound, sound-wellFormed}
 use Rattle.model.proofs.image.ImageLaws.{image-accepted, accepted-image, image-injective}
-use Rattle.agreement.specs.Term3.{Started, fromNew, fromImage, Reached, after, SetBack, Term3}
+use Rattle.agreement.specs.Term3.{Started, fromNew, fromImage, Reached, after, Term3}
 use Rattle.model.proofs.image.Replies.{pickers-same}
 
 -- ---- what a call makes
@@ -93,20 +93,10 @@ run-append s (c ∷ cs) ds = run-append (step s c .after) cs ds
 reached-stays : (s : Picker) → Reached s → (calls : List Call) → Reached (run s calls)
 reached-stays _ (after {s} b before) calls = subst Reached (sym (run-append s before calls)) (after b (before ++ calls))
 
--- ---- images and memory
--- the image is accepted
+-- ---- the image is accepted
 accepted-back : (s : Picker) → Reached s → (lent : ℕ) → memoryNeeded s ≤ lent → readPicker lent (image s) ≡ made s
 unfolding readPicker readWithin
 accepted-back s r lent h = ap (readWithin lent) (image-accepted s (reached-well r)) ∙ within-enough lent s h
-
--- and so is one that was taken, after any calls
-set-back : (s : Picker) → Reached s → (lent room : ℕ) (bytes : List ℕ) → takeImage s lent room ≡ taken bytes
-    → (away : List Call) (lent′ : ℕ) → memoryNeeded (run s away) ≤ lent′ → SetBack s lent′ bytes
-set-back s r lent room bytes e away lent′ h = record {
-  picker = s;
-  read = ap (readPicker lent′) (taken-image s lent room bytes e) ∙ accepted-back s r lent′ (rw (run-memory s away) at h);
-  answersAs = λ later. refl;
-}
 
 -- ---- the theorem
 pub term-3 : Term3
@@ -123,5 +113,9 @@ term-3 = record {
   takenImage = taken-image;
   reachedStays = reached-stays;
   memoryStays = run-memory;
-  setBack = set-back;
+  setBack = λ s r lent room bytes e away lent′ h. record {
+    picker = s;
+    read = ap (readPicker lent′) (taken-image s lent room bytes e) ∙ accepted-back s r lent′ (rw (run-memory s away) at h);
+    answersAs = λ later. refl;
+  };
 }

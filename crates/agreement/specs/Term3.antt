@@ -42,8 +42,8 @@ pub record Term3 : Type 0 where
   -- calls lead from a picker that is reached to one that is, and the memory needed does not change on the way
   pub reachedStays : (s : Picker) → Reached s → (calls : List Call) → Reached (run s calls)
   pub memoryStays : (s : Picker) → (calls : List Call) → memoryNeeded (run s calls) ≡ memoryNeeded s
-  -- a station takes the image of its picker, goes away by any calls, and reads those bytes in the memory it has, enough for the picker it has
-  -- by then: from there on it answers as if it had never left
+  -- a station takes the image of its picker, goes away by any calls, and reads those bytes in the memory it has, which is enough for the
+  -- picker it has by then: from there on it answers as if it had never left
   pub setBack :
       (s : Picker) → Reached s → (lent room : ℕ) (bytes : List ℕ) → takeImage s lent room ≡ taken bytes
       → (away : List Call) (lent′ : ℕ) → memoryNeeded (run s away) ≤ lent′ → SetBack s lent′ bytes
