@@ -35,8 +35,8 @@ use Rattle.model.specs.change.Changes.{markOpening}
 use Rattle.model.specs.change.Changes.{setDirection, makePieceReverse, unreversePiece, requestedBy, writtenBy, finishedBy, received}
 use Rattle.model.specs.change.Changes.{request, markDownloadingIn}
 use Rattle.model.specs.change.Changes.{markAsDownloading, markWritingIn, markAsWriting, pieceFlushed, allFinished, flushIf, flushDone}
-use Rattle.model.specs.change.Changes.{finishedPeer, markFinishedIn, markAsFinished, released, freed, freeBlock, abortIn}
-use Rattle.model.specs.change.Changes.{abortDownload, lockIn}
+use Rattle.model.specs.change.Changes.{finishedPeer, markFinishedIn, markAsFinished, freed, canceled, freeBlock, cancelIn, markAsCanceled}
+use Rattle.model.specs.change.Changes.{released, abortIn, abortDownload, lockIn}
 use Rattle.model.specs.change.Changes.{lockPiece, passIn, piecePassed}
 use Rattle.model.specs.ask.Questions.{plain, one, flag, passedIn, havePiece, filtered, piecesWhere, countWhere, sum, padBytesWhere}
 use Rattle.model.specs.ask.Questions.{numHave, numFiltered}
@@ -79,10 +79,10 @@ use Rattle.model.specs.image.Image.{getExtents, readPlace, getOrder, get
 use Rattle.model.specs.Calls.{wordsNeeded, memoryNeeded, recordsNeeded, check, refuseFewDraws, refuseBadPiece as noPiece·Calls}
 use Rattle.model.specs.Calls.{refuseBadBlock as noBlock·Calls, peersFull, numPeersFull, blockThere, noPartialLeft, noPlace}
 use Rattle.model.specs.Calls.{questionRefusal, bitfieldFits, requestFits, refusal, answering, changeAnswer, changing, doing, lentPeer}
-use Rattle.model.specs.Calls.{picking, act, unlessRefused, step, answers, run as run·Calls, within, newPicker, readWithin}
+use Rattle.model.specs.Calls.{lentRequest, picking, act, unlessRefused, step, answers, run as run·Calls, within, newPicker, readWithin}
 use Rattle.model.specs.Calls.{readPicker, takeImage}
-use Rattle.model.specs.image.Program.{requestOf, readRequest, getJob, pickOf, jobAnswer, printed, program}
+use Rattle.model.specs.image.Program.{requestOf, readRequest, getJob, pickOf, jobAnswer, programAnswer, program}
 
 unfoldable pub everything : Unit {0}
-unfolding least from range rangeDown count filter every any nth len setNth removeNth lastOr reversed member placeOf each concatMap unless when repeat walkUntil walk partsOf partLength sumTo numPieces pieceLength blockLength blockCount blockStart blockLengthAt wholePieceBlocks pieceBlocks pieceOfByte blockOfByte bitfieldBytes bitOf bitAt noneSet spareZero sameQueue isOpen sameBlockState samePeer hasPeer isDirty listOf noPiece noBlock withPeerCount withState withPriority withFlushed withPeer withBlocks withFlags withSeeds withCursors withPieces withPartials withRecentExtents withListing pieceAt withPiece piecesIn markDirty pieceSizeAt blocksPerPiece blocksInPiece payloadBlocksInPiece extentSize numExtents extentFor extentStart extentEnd validGeometry freshPiece new unlisted adjustment bucketNumber bucket rankOf rank draw groupStart groupSize carry turnLeft bring turnRight placed removed earlier later swap added addDraws groupLast groupDrawn changed changeDraws updated updateDraws inserted sorted shuffled runLength groupsShuffled groupDraws withBucket sortedPieces rebuilt rebuildDraws drawing noDraw updateIn update updatePiecesIn updatePieces changeAndUpdate findDlPiece partialOf blockAt blocksIn·Partials progress inQueue replaceIn replacePartial replaceBlock inDirection newState setState moveState updateStateOf updatePieceState freshBlock freshPartial insertIn addPartial addDownloadPiece dropPartial eraseDownloadPiece eraseAndUpdate quietly saying incPeerCount decPeerCount allPieces incRefcount breakOneSeed decRefcount incRefcountAll decRefcountAll flushedOrFiltered flushedOrFilteredRun cursorFrom reverseFrom emptyRange advanceCursors cursorsOnFilter filterChanges prioritySet setPiecePriority neighbours worthRecording recordable recordDownloadingPiece reverseAsked affinityAsked opened setBlock markFirst markOpening setDirection makePieceReverse unreversePiece requestedBy writtenBy finishedBy received request markDownloadingIn markAsDownloading markWritingIn markAsWriting pieceFlushed allFinished flushIf flushDone finishedPeer markFinishedIn markAsFinished released freed freeBlock abortIn abortDownload lockIn lockPiece passIn piecePassed plain one flag passedIn havePiece filtered piecesWhere countWhere sum padBytesWhere numHave numFiltered numHaveFiltered counted copies lowest distributed info infoOf queueInfo queueSizes availability replyPicker listPicker ofPartial hashingIn finishedIn peersIn blockInfo stats replyPiece listPiece blockIn blockTest ofBlockThere numPeersOf downloaderOf replyBlock placeIn listPlace reply option hasBit startState spent withOut withContiguous withBackup withPicker ignore flagged steps isIgnored contiguousIsZero contiguousAbove shorter wholePieces isPieceFree canPick downBy upBy alone lowestStart spanFrom spanOf expandPiece piecesOf pieceBlock took tookPast contiguousMet contiguousOver takePiece spanStep spanHalt takeSpan takePayload addNewPiece longer longestFree byAnother requestedFrom freeFrom setAside freeStep freeHalt takeFree keepingContiguous useFree addBlocksDownloading addPartialOf addStanding addBlocks appendBlocks forced isForced forcedRequest effectiveRequest startPick usable rarestFirstBefore insertRarest sortRarest byRarity orderedPartials partialStep partialsDone walkPartials pickPartials visit suggest pickSuggested leadingTop visitBelowTop pickRange pickSequential inRange visitOutside rareStep reverseRareStep allFlushed foundFinished extentStep forgetExtent pickExtents pickForward pickRarest standsOpen onward trace sameTrace skipStep skipDone skip randStep takeAll arrive randomVisit ended marked lapEnds lapFrom lapStep walkOver ring pickRandom busyBlocks fullPartials noPartial swapRemove endGameTry endGameStep endGameDone pickEndGame withListUpdated pickListed pickMain pickRest phases pickPieces headOk pieceOk peerOk blockOk stateOk partialOk extentOk placeOk piecesOk partialsOk extentsOk orderOk listingOk wellFormed bodyLength bytesOf headRecord pieceRecord peerBytes blockRecord flagsOf partialRecords numberRecord image next numberOf field startsWith given judged obeying headOf readHead pieceOf readPiece peerFits peerOf blockOf·Image readBlock lastFits readLastBlock readPartial getPieces getBlocks partialWith getPartial getPartials readExtent comes getExtents readPlace getOrder getListing getPicker whole readImage wordsNeeded memoryNeeded recordsNeeded check refuseFewDraws noPiece·Calls noBlock·Calls peersFull numPeersFull blockThere noPartialLeft noPlace questionRefusal bitfieldFits requestFits refusal answering changeAnswer changing doing lentPeer picking act unlessRefused step answers run·Calls within newPicker readWithin readPicker takeImage requestOf readRequest getJob pickOf jobAnswer printed program
+unfolding least from range rangeDown count filter every any nth len setNth removeNth lastOr reversed member placeOf each concatMap unless when repeat walkUntil walk partsOf partLength sumTo numPieces pieceLength blockLength blockCount blockStart blockLengthAt wholePieceBlocks pieceBlocks pieceOfByte blockOfByte bitfieldBytes bitOf bitAt noneSet spareZero sameQueue isOpen sameBlockState samePeer hasPeer isDirty listOf noPiece noBlock withPeerCount withState withPriority withFlushed withPeer withBlocks withFlags withSeeds withCursors withPieces withPartials withRecentExtents withListing pieceAt withPiece piecesIn markDirty pieceSizeAt blocksPerPiece blocksInPiece payloadBlocksInPiece extentSize numExtents extentFor extentStart extentEnd validGeometry freshPiece new unlisted adjustment bucketNumber bucket rankOf rank draw groupStart groupSize carry turnLeft bring turnRight placed removed earlier later swap added addDraws groupLast groupDrawn changed changeDraws updated updateDraws inserted sorted shuffled runLength groupsShuffled groupDraws withBucket sortedPieces rebuilt rebuildDraws drawing noDraw updateIn update updatePiecesIn updatePieces changeAndUpdate findDlPiece partialOf blockAt blocksIn·Partials progress inQueue replaceIn replacePartial replaceBlock inDirection newState setState moveState updateStateOf updatePieceState freshBlock freshPartial insertIn addPartial addDownloadPiece dropPartial eraseDownloadPiece eraseAndUpdate quietly saying incPeerCount decPeerCount allPieces incRefcount breakOneSeed decRefcount incRefcountAll decRefcountAll flushedOrFiltered flushedOrFilteredRun cursorFrom reverseFrom emptyRange advanceCursors cursorsOnFilter filterChanges prioritySet setPiecePriority neighbours worthRecording recordable recordDownloadingPiece reverseAsked affinityAsked opened setBlock markFirst markOpening setDirection makePieceReverse unreversePiece requestedBy writtenBy finishedBy received request markDownloadingIn markAsDownloading markWritingIn markAsWriting pieceFlushed allFinished flushIf flushDone finishedPeer markFinishedIn markAsFinished freed canceled freeBlock cancelIn markAsCanceled released abortIn abortDownload lockIn lockPiece passIn piecePassed plain one flag passedIn havePiece filtered piecesWhere countWhere sum padBytesWhere numHave numFiltered numHaveFiltered counted copies lowest distributed info infoOf queueInfo queueSizes availability replyPicker listPicker ofPartial hashingIn finishedIn peersIn blockInfo stats replyPiece listPiece blockIn blockTest ofBlockThere numPeersOf downloaderOf replyBlock placeIn listPlace reply option hasBit startState spent withOut withContiguous withBackup withPicker ignore flagged steps isIgnored contiguousIsZero contiguousAbove shorter wholePieces isPieceFree canPick downBy upBy alone lowestStart spanFrom spanOf expandPiece piecesOf pieceBlock took tookPast contiguousMet contiguousOver takePiece spanStep spanHalt takeSpan takePayload addNewPiece longer longestFree byAnother requestedFrom freeFrom setAside freeStep freeHalt takeFree keepingContiguous useFree addBlocksDownloading addPartialOf addStanding addBlocks appendBlocks forced isForced forcedRequest effectiveRequest startPick usable rarestFirstBefore insertRarest sortRarest byRarity orderedPartials partialStep partialsDone walkPartials pickPartials visit suggest pickSuggested leadingTop visitBelowTop pickRange pickSequential inRange visitOutside rareStep reverseRareStep allFlushed foundFinished extentStep forgetExtent pickExtents pickForward pickRarest standsOpen onward trace sameTrace skipStep skipDone skip randStep takeAll arrive randomVisit ended marked lapEnds lapFrom lapStep walkOver ring pickRandom busyBlocks fullPartials noPartial swapRemove endGameTry endGameStep endGameDone pickEndGame withListUpdated pickListed pickMain pickRest phases pickPieces headOk pieceOk peerOk blockOk stateOk partialOk extentOk placeOk piecesOk partialsOk extentsOk orderOk listingOk wellFormed bodyLength bytesOf headRecord pieceRecord peerBytes blockRecord flagsOf partialRecords numberRecord image next numberOf field startsWith given judged obeying headOf readHead pieceOf readPiece peerFits peerOf blockOf·Image readBlock lastFits readLastBlock readPartial getPieces getBlocks partialWith getPartial getPartials readExtent comes getExtents readPlace getOrder getListing getPicker whole readImage wordsNeeded memoryNeeded recordsNeeded check refuseFewDraws noPiece·Calls noBlock·Calls peersFull numPeersFull blockThere noPartialLeft noPlace questionRefusal bitfieldFits requestFits refusal answering changeAnswer changing doing lentPeer lentRequest picking act unlessRefused step answers run·Calls within newPicker readWithin readPicker takeImage requestOf readRequest getJob pickOf jobAnswer programAnswer program
 everything = tt

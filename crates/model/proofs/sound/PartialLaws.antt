@@ -315,6 +315,17 @@ findDlPiece-drop-other i k (x ∷ xs) m = elim (ℕ-discrete (x .piece) i) [
   ])
 ]
 
+-- one replaced before is dropped as well
+pub drop-put : (i : ℕ) (d : DownloadingPiece) (ds : List DownloadingPiece) → d .piece ≡ i → filter (another i) (replaceIn d ds) ≡ filter (another i) ds
+unfolding filter replaceIn each
+drop-put i d [] p = refl
+drop-put i d (x ∷ xs) p = elim (ℕ-discrete (x .piece) i) [
+  | yes e ↦ rw (eq-eqb (x .piece) (d .piece) (e ∙ sym p), another-no i d p, another-no i x e) (drop-put i d xs p)
+  | no n ↦
+      rw (ne-eqb (x .piece) (d .piece) (λ (q : x .piece ≡ d .piece). n (q ∙ p)), another-yes i x n)
+      (ap (λ (l : List DownloadingPiece). x ∷ l) (drop-put i d xs p))
+]
+
 -- where none stood nothing changes
 pub drop-none : (i : ℕ) (ds : List DownloadingPiece) → findDlPiece i ds ≡ none → filter (another i) ds ≡ ds
 unfolding filter
