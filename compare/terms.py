@@ -32,6 +32,7 @@ OPENING, REPLAYING = "proofs.Replaying", "replaying"
 
 # words and places lent where the script lends enough
 MANY = 1000000
+ENOUGH_WORDS = 5000
 # numbers of a question's answer for each record, and which of them are a peer's flag and number
 PEER_AT = {"get_downloader": (2, 0), "get_downloaders": (2, 0), "block_peer": (2, 0), "blocks_for_piece": (4, 2)}
 WITH_PEER = ("mark_as_downloading", "mark_as_writing", "mark_as_finished", "abort_download", "mark_as_canceled")
@@ -95,9 +96,10 @@ def used_draws(step):
 
 
 def words(t, step):
-    """The lent words: those that are used, then zeros. Only used words matter, so the answer is that for the recorded words."""
+    """The lent words: those that are used, then zeros. Only used words matter, and whether they are enough, so the answer is that for the
+    recorded words; a list longer than enough is cut."""
     draws = step.call.draws
-    return t.call(t.take(REPLAY, WORDS), draws.many, t.numbers([draws[k] for k in range(used_draws(step))]))
+    return t.call(t.take(REPLAY, WORDS), min(draws.many, ENOUGH_WORDS), t.numbers([draws[k] for k in range(used_draws(step))]))
 
 
 def question(t, step):
