@@ -12,8 +12,8 @@ use Rattle.types.specs.Queue.{queueNumber, queues}
 use Rattle.types.specs.Block.{blockStateNumber, blockStates}
 use Rattle.model.specs.Lists.{bit, nth, len, every, concatMap}
 use Rattle.model.specs.Bep3.{numPieces}
-use Rattle.model.specs.State.{Piece, Block, DownloadingPiece, Picker, Listing, dirty, fresh, maxPartials, isOpen, isDirty, listOf}
-use Rattle.model.specs.State.{withPieces, withPartials, withRecentExtents, withListing, blocksInPiece}
+use Rattle.model.specs.State.{Piece, Block, DownloadingPiece, Picker, Listing, dirty, fresh, maxPartials, maxExtents, isOpen, isDirty}
+use Rattle.model.specs.State.{listOf, withPieces, withPartials, withRecentExtents, withListing, blocksInPiece}
 use Rattle.model.specs.list.Order.{withBucket}
 use Rattle.model.specs.image.WellFormed.{headOk, pieceOk, blockOk, stateOk, extentOk, placeOk}
 
@@ -303,7 +303,7 @@ getPicker = do
   ps ← getPieces h 0 (numPieces (h .totalSize) (h .pieceSize))
   ds ← getPartials h 0 0 ps
   let s = withPartials ds (withPieces ps h)
-  es ← getExtents s 5 []
+  es ← getExtents s maxExtents []
   l ← getListing s (h .listing)
   ret (withListing l (withRecentExtents es s))
 

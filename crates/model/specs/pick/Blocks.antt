@@ -13,7 +13,7 @@ use Rattle.model.specs.Lists.{least, from, range, filter, each, any, nth
 use Rattle.model.specs.Bep3.{bitAt}
 use Rattle.model.specs.State.{Block, DownloadingPiece, Picker, maxPieces, sameQueue, isOpen, sameBlockState, samePeer, hasPeer}
 use Rattle.model.specs.State.{pieceAt, piecesIn, blocksPerPiece, payloadBlocksInPiece}
-use Rattle.model.specs.Options.{onParole, prioritizePartials, alignExpandedPieces}
+use Rattle.model.specs.Options.{numCounters, onParole, prioritizePartials, alignExpandedPieces}
 use Rattle.model.specs.change.Partials.{partialOf, blockAt}
 
 -- ---- what a pick is asked
@@ -72,7 +72,7 @@ startState s a =
       backup = [];
       ignored = replicate maxPieces false;
       flags = 0;
-      loops = replicate 7 0;
+      loops = replicate numCounters 0;
     }
 
 -- no block is wanted any more
@@ -314,7 +314,8 @@ longer j now x = cond (ltb (x .longest) now) (record { longest = now; first = j 
 unfoldable pub longestFree : ℕ → ℕ → FreeRun → List Block → FreeRun
 longestFree j now x [] = longer j now x
 longestFree j now x (b ∷ bs) =
-    cond (sameBlockState (b .state) None) (longestFree (suc j) (suc now) x bs) (longestFree (suc j) 0 (longer j now x) bs)
+    let free = sameBlockState (b .state) None in
+    longestFree (suc j) (cond free (suc now) 0) (cond free x (longer j now x)) bs
 
 -- a block at work that another peer value holds
 unfoldable pub byAnother : Option ℕ → Block → Bool

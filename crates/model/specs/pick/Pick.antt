@@ -10,7 +10,7 @@ use Rattle.types.specs.declared.block.BlockState.the-variants.{Requested}
 use Rattle.types.specs.Bits.{union}
 use Rattle.model.specs.Lists.{count, from, range, rangeDown, filter, each, every, nth, setNth, len, removeNth, lastOr, reversed}
 use Rattle.model.specs.Lists.{unless, when, repeat, walk}
-use Rattle.model.specs.State.{DownloadingPiece, Picker, isOpen, sameBlockState, samePeer, listOf, withRecentExtents, pieceAt}
+use Rattle.model.specs.State.{DownloadingPiece, Picker, maxPieces, topPriority, maxPartialBlocks, isOpen, sameBlockState, samePeer, listOf, withRecentExtents, pieceAt}
 use Rattle.model.specs.State.{piecesIn, blocksPerPiece, blocksInPiece, extentStart, extentEnd}
 use Rattle.model.specs.Options.{rarestFirst, reverse, onParole, prioritizePartials, sequential, pieceExtentAffinity, partialRatio}
 use Rattle.model.specs.Options.{prioritizedPartials, rarestFirstPartials, rarestFirstPieces, reverseRarestFirst, suggestedPieces}
@@ -26,7 +26,7 @@ use Rattle.model.specs.pick.Blocks.{contiguousOver, takeSpan, addBlocksD
 -- ---- the forcing rule
 -- too many partials for the peers, or too many blocks in them
 unfoldable pub forced : ℕ → ℕ → ℕ → Bool
-forced partials b peers = ltb (peers * 3 / 2) partials || ltb 2048 (partials * b)
+forced partials b peers = ltb (peers * 3 / 2) partials || ltb maxPartialBlocks (partials * b)
 
 -- the same, of a picker and what is asked
 unfoldable pub isForced : Picker → PickRequest → Bool
@@ -123,14 +123,14 @@ unfoldable pub pickSuggested : PickRequest → PickState → PickState
 pickSuggested a w = walk (suggest a) spent (a .suggestions) w
 
 -- ---- sequential
--- the list up to the first priority that is not 7, `TOP`
+-- the list up to the first priority that is not the top one
 unfoldable pub leadingTop : Picker → List ℕ → List ℕ
 leadingTop s [] = []
-leadingTop s (i ∷ is) = cond (eqb (pieceAt s i .priority) 7) (i ∷ leadingTop s is) []
+leadingTop s (i ∷ is) = cond (eqb (pieceAt s i .priority) topPriority) (i ∷ leadingTop s is) []
 
--- pieces of priority 7 were walked before
+-- pieces of the top priority were walked before
 unfoldable pub visitBelowTop : PickRequest → ℕ → ℕ → PickState → PickState
-visitBelowTop a f i w = unless (eqb (pieceAt (w .picker) i .priority) 7) (visit a f i) w
+visitBelowTop a f i w = unless (eqb (pieceAt (w .picker) i .priority) topPriority) (visit a f i) w
 
 -- the stretch from cursor to reverse cursor, backwards under REVERSE
 unfoldable pub pickRange : PickRequest → PickState → PickState
@@ -301,7 +301,7 @@ walkOver x = x .over || spent (x .work)
 
 -- more visits than a walk can make: each lap but the last takes, sets aside or ignores something
 abbrev pub ringFuel : ℕ
-ringFuel = 4096 * 8200
+ringFuel = maxPieces * 8200
 
 -- the whole walk
 unfoldable pub ring : PickRequest → ℕ → PickState → PickState
