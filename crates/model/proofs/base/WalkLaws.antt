@@ -9,14 +9,8 @@ use lib.ListN.{length}
 use Rattle.model.specs.Lists.{unless, when, repeat, walkUntil, walk, every, len}
 use Rattle.model.proofs.base.Truths.{and-left, and-right}
 
--- ---- taking a test apart
 -- ---- choices and phases
 module _ {S : Type 0} (I : S → Type 0) where
-  -- the same of a choice that waits
-  pub fork-keeps : (b : Bool) (x y : S) → (b ≡ true → I x) → (b ≡ false → I y) → I (elim b [ true ↦ x | false ↦ y ])
-  fork-keeps true x y f g = f refl
-  fork-keeps false x y f g = g refl
-
   -- a phase that is left out where the work is done
   pub unless-keeps : (b : Bool) (f : S → S) (s : S) → I s → (b ≡ false → I (f s)) → I (unless b f s)
   unfolding unless

@@ -1,20 +1,18 @@
 -- What a piece adds to a pick, in numbers: with `left` blocks wanted of N, N less what is appended are left, a piece appends at most 255
 -- past N, and a run at most its own length more; at most 2,303 blocks are set aside. Assumes nothing.
-use mathlib.Core.Path.{_≡_, refl, sym, ap, _∙_}
+use mathlib.Core.Path.{_≡_, refl, ap, _∙_}
 use mathlib.Core.Logic.{_⊎_, inl, inr, ⊎-elim}
 use Prim.Native.Nat.{ℕ, suc, _+_, _-_, _*_, _≤_}
 use native.Mathlib.Omega.{arith}
-use mathlib.Core.Bool.{Bool, true, false, cond, not, _&&_, _||_, true≢false}
+use mathlib.Core.Bool.{Bool, true, false, cond, not, _&&_, _||_}
 use mathlib.Core.List.{List, [], _∷_, _++_}
 use mathlib.Core.Option.{Option, none, some}
 use lib.ListN.{length, take, length-append, length-take, length-drop}
 use lib.Dec.{eqb, ltb, leb}
 use borrow.Author.Tests.{eqb-true, eqb-false, eq-eqb, ne-eqb, ltb-true, leb-true, leb-false, le-leb}
-use Rattle.types.specs.declared.queue.DownloadQueue.{DownloadQueue}
-use Rattle.types.specs.declared.queue.DownloadQueue.the-variants.{Downloading, Full, Finished, ZeroPrio, Open, DownloadingReverse}
-use Rattle.types.specs.declared.queue.DownloadQueue.the-variants.{FullReverse}
+use Rattle.types.specs.declared.queue.DownloadQueue.the-variants.{Downloading}
 use Rattle.types.specs.Queue.{unreverse}
-use Rattle.model.specs.Lists.{least, from, filter, each, every, nth, len, when, walk}
+use Rattle.model.specs.Lists.{least, from, filter, each, every, len, when, branch, walk}
 use Rattle.model.specs.Bep3.{wholePieceBlocks, pieceBlocks}
 use Rattle.model.specs.State.{DownloadingPiece, Picker, sameQueue, isOpen, pieceAt, blocksPerPiece, blocksInPiece}
 use Rattle.model.specs.State.{payloadBlocksInPiece}
@@ -34,7 +32,7 @@ use Rattle.model.proofs.base.WalkLaws.{unless-keeps, when-keeps, walkUn
 use Rattle.model.proofs.pick.SpanLaws.{least-left, least-right, span-blocks}
 use Rattle.model.proofs.pick.SoundPick.{sound-sized}
 use Rattle.model.proofs.base.Truths.{and-left, and-right, true-both}
-use Rattle.model.proofs.base.Phases.{cond-arms}
+use Rattle.model.proofs.base.Phases.{cond-arms, branch-arms}
 
 -- ---- the geometry
 -- at most 256 blocks
@@ -131,17 +129,6 @@ filter-size t l n e = omega (arith, length-filter t l, count-le t l)
 free-size : (d : DownloadingPiece) (first : ℕ) → len (freeFrom d first) ≤ len (d .blocks)
 unfolding freeFrom len
 free-size d first = filter-size _ _ (length (d .blocks)) (length-each _ (from 0 (length (d .blocks))) ∙ length-from 0 (length (d .blocks)))
-
--- Open and Downloading are two
-open-apart : (q : DownloadQueue) → isOpen q ≡ true → sameQueue (unreverse q) Downloading ≡ false
-unfolding isOpen sameQueue
-open-apart Downloading h = absurd (true≢false (sym h))
-open-apart Full h = refl
-open-apart Finished h = refl
-open-apart ZeroPrio h = refl
-open-apart Open h = refl
-open-apart DownloadingReverse h = absurd (true≢false (sym h))
-open-apart FullReverse h = refl
 
 module _ (b N R : ℕ) where
   -- ---- one block
@@ -243,7 +230,7 @@ module _ (b N R : ℕ) where
   unfolding takeSpan spanStep shorter
   takeSpan-tight takes f is m w h =
       walkUntil-counts (Tight b N R) tight-more (spanStep takes) b spanHalt
-      (λ k i t g. cond-arms (Tight b N R (k + b)) (isIgnored i t) (withContiguous (shorter (t .contiguous)) t) (takes i (ignore i t))
+      (λ k i t g. branch-arms (Tight b N R (k + b)) (isIgnored i t) (λ v. withContiguous (shorter (v .contiguous)) v) (λ v. takes i (ignore i v)) t
       (λ e. tight-more k (k + b) (withContiguous (shorter (t .contiguous)) t) (omega arith) (run-tight k (shorter (t .contiguous)) t (asked-le k t g) g))
       (λ e. f k i (ignore i t) (mark-tight k i t g)))
       is m w h
@@ -277,7 +264,7 @@ module _ (b N R : ℕ) where
   new-tight a i w p h =
       let n = least (payloadBlocksInPiece (w .picker) i) (w .left) in
       let is = piecesOf (expandPiece a i w) in
-      cond-arms (Tight b N R (N + R + 255)) (contiguousIsZero (w .contiguous)) (takePiece (λ t. false) i n w) (takeSpan takePayload is w)
+      branch-arms (Tight b N R (N + R + 255)) (contiguousIsZero (w .contiguous)) (takePiece (λ t. false) i n) (takeSpan takePayload is) w
       (λ e. tight-more (len (w .out) + n) (N + R + 255) (takePiece (λ t. false) i n w)
       (omega (arith, left-le (N - 1) w h (omega arith), least-right (payloadBlocksInPiece (w .picker) i) (w .left)))
       (piece-tight (λ t. false) i n (len (w .out)) w (tight-now (N - 1) w h)))
@@ -322,8 +309,8 @@ module _ (b N R : ℕ) where
     unfolding useFree keepingContiguous
     use-tight a d held w o p h =
         let first = cond (contiguousIsZero (w .contiguous)) 0 (held .first) in
-        cond-arms (Tight b N R (N + R + 255)) (contiguousAbove (held .longest) (w .contiguous) && (held .active && not (option onParole a))) (setAside d first w)
-        (withContiguous (w .contiguous) (takeFree d first w))
+        branch-arms (Tight b N R (N + R + 255)) (contiguousAbove (held .longest) (w .contiguous) && (held .active && not (option onParole a))) (setAside d first)
+        (keepingContiguous (takeFree d first)) w
         (λ e. tight-more (N - 1) (N + R + 255) (setAside d first w) (omega arith) (aside-tight d first (N - 1) w o h))
         (λ e. run-tight (N + R + 255) (w .contiguous) (takeFree d first w) (asked-le (N - 1) w h) (free-tight d first w o p h))
 
@@ -353,20 +340,16 @@ module _ (b N R : ℕ) where
 
     -- what a piece adds
     pub blocks-tight : (a : PickRequest) (i : ℕ) (w : PickState) → 1 ≤ N → Tight b N R (N - 1) w → Tight b N R (N + R + 255) (addBlocks a i w)
-    unfolding addBlocks keepingContiguous when
+    unfolding addBlocks keepingContiguous
     blocks-tight a i w p h =
         let q = pieceAt (w .picker) i .state in
         let k = tight-more (N - 1) (N + R + 255) w (omega arith) h in
         unless-keeps (Tight b N R (N + R + 255)) (isIgnored i w)
-        (λ t. when (isOpen q) (keepingContiguous (addNewPiece a i)) (when (sameQueue (unreverse q) Downloading) (addStanding a i) t)) w k
-        (λ e. go (isOpen q) (sameQueue (unreverse q) Downloading) (open-apart q) k)
-      where
-        go : (o d : Bool) → (o ≡ true → d ≡ false) → Tight b N R (N + R + 255) w
-            → Tight b N R (N + R + 255) (when o (keepingContiguous (addNewPiece a i)) (when d (addStanding a i) w))
-        go true true f k = absurd (true≢false (f refl))
-        go true false f k = run-tight (N + R + 255) (w .contiguous) (addNewPiece a i w) (asked-le (N - 1) w h) (new-tight a i w p h)
-        go false true f k = standing-tight a i w p h
-        go false false f k = k
+        (branch (isOpen q) (keepingContiguous (addNewPiece a i)) (when (sameQueue (unreverse q) Downloading) (addStanding a i))) w k
+        (λ e. branch-arms (Tight b N R (N + R + 255)) (isOpen q) (keepingContiguous (addNewPiece a i))
+        (when (sameQueue (unreverse q) Downloading) (addStanding a i)) w
+        (λ o. run-tight (N + R + 255) (w .contiguous) (addNewPiece a i w) (asked-le (N - 1) w h) (new-tight a i w p h))
+        (λ o. when-keeps (Tight b N R (N + R + 255)) (sameQueue (unreverse q) Downloading) (addStanding a i) w k (λ g. standing-tight a i w p h)))
 
     -- the blocks set aside, appended
     pub backup-tight : (w : PickState) → 1 ≤ N → Tight b N R (N - 1) w → Tight b N R N (appendBlocks w)

@@ -7,7 +7,7 @@ use lib.ListN.{take, drop}
 use lib.Dec.{leb}
 use Rattle.types.specs.declared.queue.DownloadQueue.the-variants.{Downloading}
 use Rattle.types.specs.Queue.{unreverse}
-use Rattle.model.specs.Lists.{least, from, each, len, when, walk}
+use Rattle.model.specs.Lists.{least, from, each, len, when, branch, walk}
 use Rattle.model.specs.State.{DownloadingPiece, sameQueue, isOpen, pieceAt, blocksInPiece, payloadBlocksInPiece}
 use Rattle.model.specs.Options.{onParole, prioritizePartials, randomPieces, randLoops}
 use Rattle.model.specs.change.Partials.{partialOf}
@@ -19,7 +19,7 @@ use Rattle.model.specs.pick.Blocks.{setAside, freeStep, freeHalt, takeFr
 use Rattle.model.specs.pick.Blocks.{addPartialOf, addStanding, addBlocks, appendBlocks}
 use Rattle.model.specs.pick.Pick.{randStep, takeAll}
 use Rattle.model.proofs.base.WalkLaws.{unless-keeps, when-keeps, walkUntil-keeps}
-use Rattle.model.proofs.base.Phases.{cond-arms}
+use Rattle.model.proofs.base.Phases.{cond-arms, branch-arms}
 
 -- a block taken, another run, a mark and a partial set aside keep I
 pub record Closed (I : PickState → Type 0) : Type 0 where
@@ -44,15 +44,15 @@ module _ (I : PickState → Type 0) (k : Closed I) where
   unfolding takeSpan spanStep
   run-keeps takes f is w h =
       walkUntil-keeps I (spanStep takes) spanHalt
-      (λ i t g. cond-arms I (isIgnored i t) (withContiguous (shorter (t .contiguous)) t) (takes i (ignore i t))
+      (λ i t g. branch-arms I (isIgnored i t) (λ v. withContiguous (shorter (v .contiguous)) v) (λ v. takes i (ignore i v)) t
       (λ e. k .contiguous (shorter (t .contiguous)) t g) (λ e. f i (ignore i t) (k .marks i t g)))
       is w h
 
   new-blind : (a : PickRequest) (i : ℕ) (w : PickState) → I w → I (addNewPiece a i w)
   unfolding addNewPiece takePayload
   new-blind a i w h =
-      cond-arms I (contiguousIsZero (w .contiguous)) (takePiece (λ t. false) i (least (payloadBlocksInPiece (w .picker) i) (w .left)) w)
-      (takeSpan takePayload (piecesOf (expandPiece a i w)) w)
+      branch-arms I (contiguousIsZero (w .contiguous)) (takePiece (λ t. false) i (least (payloadBlocksInPiece (w .picker) i) (w .left)))
+      (takeSpan takePayload (piecesOf (expandPiece a i w))) w
       (λ e. piece-blind (λ t. false) i (least (payloadBlocksInPiece (w .picker) i) (w .left)) w h)
       (λ e. run-keeps takePayload (λ j t g. piece-blind contiguousMet j (payloadBlocksInPiece (t .picker) j) t g) (piecesOf (expandPiece a i w)) w h)
 
@@ -68,8 +68,8 @@ module _ (I : PickState → Type 0) (k : Closed I) where
   unfolding useFree
   use-blind a d held w h =
       let first = cond (contiguousIsZero (w .contiguous)) 0 (held .first) in
-      cond-arms I (contiguousAbove (held .longest) (w .contiguous) && (held .active && not (option onParole a))) (setAside d first w)
-      (keepingContiguous (takeFree d first) w)
+      branch-arms I (contiguousAbove (held .longest) (w .contiguous) && (held .active && not (option onParole a))) (setAside d first)
+      (keepingContiguous (takeFree d first)) w
       (λ e. k .aside d first w h) (λ e. keepingContiguous-keeps I (k .contiguous) (takeFree d first) w (free-blind d first w h))
 
   -- what a partial adds
@@ -97,12 +97,10 @@ module _ (I : PickState → Type 0) (k : Closed I) where
   blocks-keeps a i w h =
       let q = pieceAt (w .picker) i .state in
       let f = when (sameQueue (unreverse q) Downloading) (addStanding a i) in
-      unless-keeps I (isIgnored i w) (λ t. when (isOpen q) (keepingContiguous (addNewPiece a i)) (f t)) w h
-      (λ e. when-keeps I (isOpen q) (keepingContiguous (addNewPiece a i)) (f w) (standing q)
-      (λ o. keepingContiguous-keeps I (k .contiguous) (addNewPiece a i) (f w) (new-blind a i (f w) (standing q))))
-    where
-      standing : (q : _) → I (when (sameQueue (unreverse q) Downloading) (addStanding a i) w)
-      standing q = when-keeps I (sameQueue (unreverse q) Downloading) (addStanding a i) w h (λ e. standing-blind a i w h)
+      unless-keeps I (isIgnored i w) (branch (isOpen q) (keepingContiguous (addNewPiece a i)) f) w h
+      (λ e. branch-arms I (isOpen q) (keepingContiguous (addNewPiece a i)) f w
+      (λ o. keepingContiguous-keeps I (k .contiguous) (addNewPiece a i) w (new-blind a i w h))
+      (λ o. when-keeps I (sameQueue (unreverse q) Downloading) (addStanding a i) w h (λ g. standing-blind a i w h)))
 
   -- a whole piece in the random walk, where its counter and its flag keep I too
   module _ (counts : (w : PickState) → I w → I (steps 1 randLoops w)) (flags : (f : ℕ) (w : PickState) → I w → I (flagged f w)) where

@@ -18,12 +18,13 @@ use Rattle.model.specs.pick.Blocks.{PickRequest, option, PickState, star
 use Rattle.model.specs.pick.Blocks.{flagged, steps, appendBlocks}
 use Rattle.model.specs.pick.Pick.{effectiveRequest, startPick, pickPartials, partialsDone, pickSuggested, forgetExtent, pickRandom}
 use Rattle.model.specs.pick.Pick.{pickEndGame, withListUpdated, pickListed, pickMain, pickRest, pickPieces}
-use Rattle.model.proofs.base.WalkLaws.{fork-keeps, unless-keeps}
+use Rattle.model.proofs.base.WalkLaws.{unless-keeps}
 use Rattle.model.proofs.pick.FrameLaws.{Blind, backup-keeps}
 use Rattle.model.proofs.pick.PhaseLaws.{any, Kept, blind-kept, pickPartials-keeps, pickSuggested-keeps, ring-keeps, pickListed-keeps}
 use Rattle.model.proofs.pick.PhaseLaws.{pickEndGame-keeps, phases-keeps, startPick-keeps, start-more}
 use Rattle.model.proofs.pick.CounterLaws.{counter, counter-up, counter-other}
 use Rattle.model.proofs.pick.LoopFrame.{counter-drawn, counter-refreshed, counter-forgets, counter-tried, counter-found}
+use Rattle.model.proofs.base.Phases.{branch-arms}
 
 -- ---- seven counters
 loops-blind : Blind (λ w. length (w .loops) ≡ 7)
@@ -51,7 +52,7 @@ unfolding pickMain pickRandom withListUpdated withPicker
 loops-main ds a w z h =
     let I : PickState → Type 0 = λ v. length (v .loops) ≡ 7 in
     let k = loops-kept a in
-    fork-keeps I (option sequential a || option rarestFirst a) (pickListed ds a w) (pickRandom ds a w)
+    branch-arms I (option sequential a || option rarestFirst a) (pickListed ds a) (pickRandom ds a) w
     (λ e. pickListed-keeps a any I I k k (λ v g. g) loops-forgets (loops-step 1 rareLoops) (loops-step 1 reverseRareLoops) ds w z h)
     (λ e. ring-keeps a any I k (loops-step 1 randStartLoops) (draw ds (w .used) (piecesIn (w .picker) - 1)) (withPicker (w .picker) (suc (w .used)) w) h)
 
@@ -129,7 +130,7 @@ module _ (k : ℕ) (ds : List ℕ) (a : PickRequest) (w : PickState) where
       let m = counter k w in
       let I : PickState → Type 0 = λ v. m ≤ counter k v in
       let kept = rises-kept k m a in
-      fork-keeps I (option sequential a || option rarestFirst a) (pickListed ds a w) (pickRandom ds a w)
+      branch-arms I (option sequential a || option rarestFirst a) (pickListed ds a) (pickRandom ds a) w
       (λ e. pickListed-keeps a any I I kept kept (λ v g. g) (λ o v g. rw (counter-forgets k o v) g) (rises-step k m 1 rareLoops)
       (rises-step k m 1 reverseRareLoops) ds w z (rw (counter-refreshed k ds w) (omega arith)))
       (λ e. ring-keeps a any I kept (rises-step k m 1 randStartLoops) (draw ds (w .used) (piecesIn (w .picker) - 1))

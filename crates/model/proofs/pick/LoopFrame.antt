@@ -15,11 +15,12 @@ use Rattle.model.specs.pick.Blocks.{PickRequest, option, PickState, spen
 use Rattle.model.specs.pick.Blocks.{appendBlocks}
 use Rattle.model.specs.pick.Pick.{pickPartials, partialsDone, pickSuggested, forgetExtent, pickRandom, pickEndGame, withListUpdated}
 use Rattle.model.specs.pick.Pick.{pickListed, pickMain, pickRest}
-use Rattle.model.proofs.base.WalkLaws.{fork-keeps, unless-keeps}
+use Rattle.model.proofs.base.WalkLaws.{unless-keeps}
 use Rattle.model.proofs.pick.FrameLaws.{backup-keeps}
 use Rattle.model.proofs.pick.PhaseLaws.{any, pickPartials-keeps, pickSuggested-keeps, ring-keeps, pickListed-keeps}
 use Rattle.model.proofs.pick.PhaseLaws.{pickEndGame-keeps}
 use Rattle.model.proofs.pick.CounterLaws.{counter, counter-blind, counter-flag, counter-keeps, counter-kept}
+use Rattle.model.proofs.base.Phases.{branch-arms}
 
 -- ---- what draws, lists and extents leave alone
 -- a draw
@@ -83,7 +84,7 @@ module _ (k m : ℕ) (a : PickRequest) (loud : k ≡ randLoops → ⊥) where
       → counter k (pickMain ds a w) ≤ m
   unfolding pickMain
   upto-main d e f ds w z h =
-      fork-keeps (λ v. counter k v ≤ m) (option sequential a || option rarestFirst a) (pickListed ds a w) (pickRandom ds a w)
+      branch-arms (λ v. counter k v ≤ m) (option sequential a || option rarestFirst a) (pickListed ds a) (pickRandom ds a) w
       (λ q. upto-listed d e ds w z h) (λ q. upto-random f ds w h)
 
   upto-endGame : (k ≡ busyLoops → ⊥) → (ds : List ℕ) (w : PickState) → counter k w ≤ m → counter k (pickEndGame ds a w) ≤ m

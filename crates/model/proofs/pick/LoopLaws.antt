@@ -22,7 +22,7 @@ use Rattle.model.specs.pick.Pick.{withListUpdated, pickListed, pickMain,
 use Rattle.model.specs.image.Sound.{Sound}
 use Rattle.model.specs.Calls.{requestFits}
 use Rattle.model.proofs.base.Bep3Laws.{numPieces-pos}
-use Rattle.model.proofs.base.WalkLaws.{fork-keeps, unless-keeps, walk-raises}
+use Rattle.model.proofs.base.WalkLaws.{unless-keeps, walk-raises}
 use Rattle.model.proofs.pick.FrameLaws.{Blind, backup-keeps}
 use Rattle.model.proofs.pick.PhaseLaws.{any, Kept, blind-kept, kept-both, pickPartials-keeps, suggest-keeps, pickSuggested-keeps}
 use Rattle.model.proofs.pick.PhaseLaws.{rare-keeps, reverseRare-keeps, rareWalk-keeps, reverseWalk-keeps, pickListed-ends}
@@ -39,6 +39,7 @@ use Rattle.model.proofs.pick.RandLoops.{rand-loops}
 use Rattle.model.proofs.pick.RingLaws.{Ready, ring-over, ring-skips}
 use Rattle.model.proofs.pick.LoopFrame.{counter-drawn, counter-tried, counter-found, upto-partials, upto-suggested, upto-random}
 use Rattle.model.proofs.pick.LoopFrame.{upto-listed, upto-main, upto-rest}
+use Rattle.model.proofs.base.Phases.{branch-arms}
 
 -- ---- where a pick begins
 queue-size : (q : Picker) → len (inQueue Downloading q) ≤ len (q .partials)
@@ -203,7 +204,7 @@ module _ (ds : List ℕ) (s : Picker) (a : PickRequest) (h : Sound s) (f : reque
   rare-main w z g =
       let b = effectiveRequest s a in
       let k = counter-kept rareLoops 4096 b (λ e. omega arith) in
-      fork-keeps (λ v. counter rareLoops v ≤ 4096) (option sequential b || option rarestFirst b) (pickListed ds b w) (pickRandom ds b w)
+      branch-arms (λ v. counter rareLoops v ≤ 4096) (option sequential b || option rarestFirst b) (pickListed ds b) (pickRandom ds b) w
       (λ q. pickListed-ends b any (Short rareLoops) (Short rareLoops) (λ v. counter rareLoops v ≤ 4096) (short-kept rareLoops b (λ e. omega arith))
       (λ v j. j) (λ v j. omega (arith, j .1)) (short-forgets rareLoops) rare-count
       (λ v e j. reverseWalk-keeps b any (λ u. counter rareLoops u ≤ 4096) k
@@ -216,7 +217,7 @@ module _ (ds : List ℕ) (s : Picker) (a : PickRequest) (h : Sound s) (f : reque
   reverse-main w z g =
       let b = effectiveRequest s a in
       let k = counter-kept reverseRareLoops 4096 b (λ e. omega arith) in
-      fork-keeps (λ v. counter reverseRareLoops v ≤ 4096) (option sequential b || option rarestFirst b) (pickListed ds b w) (pickRandom ds b w)
+      branch-arms (λ v. counter reverseRareLoops v ≤ 4096) (option sequential b || option rarestFirst b) (pickListed ds b) (pickRandom ds b) w
       (λ q. pickListed-ends b any (Short reverseRareLoops) (Short reverseRareLoops) (λ v. counter reverseRareLoops v ≤ 4096)
       (short-kept reverseRareLoops b (λ e. omega arith)) (λ v j. j) (λ v j. omega (arith, j .1)) (short-forgets reverseRareLoops)
       (λ v e j. rareWalk-keeps b any (λ u. counter reverseRareLoops u ≤ 4096) k
@@ -327,7 +328,7 @@ module _ (ds : List ℕ) (s : Picker) (a : PickRequest) (h : Sound s) (f : reque
   unfolding pickMain
   random-main w z g =
       let b = effectiveRequest s a in
-      fork-keeps (λ v. counter randStartLoops v ≤ 33554432) (option sequential b || option rarestFirst b) (pickListed ds b w) (pickRandom ds b w)
+      branch-arms (λ v. counter randStartLoops v ≤ 33554432) (option sequential b || option rarestFirst b) (pickListed ds b) (pickRandom ds b) w
       (λ q. upto-listed randStartLoops 33554432 b (λ e. omega arith) (λ e. omega arith) (λ e. omega arith) ds w z (omega (arith, poised-zero w g))) (λ q. random-count w g)
 
   -- at most 33,554,432 steps skipped in the random walk

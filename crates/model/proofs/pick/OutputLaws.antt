@@ -17,7 +17,7 @@ use Rattle.model.specs.pick.Pick.{effectiveRequest, startPick, partialsD
 use Rattle.model.specs.pick.Pick.{withListUpdated, pickListed, pickMain, pickRest, phases, pickPieces}
 use Rattle.model.specs.image.Sound.{Sound}
 use Rattle.model.specs.Calls.{requestFits}
-use Rattle.model.proofs.base.WalkLaws.{fork-keeps, unless-keeps}
+use Rattle.model.proofs.base.WalkLaws.{unless-keeps}
 use Rattle.model.proofs.pick.PhaseLaws.{flag-spent, Kept, pickListed-keeps, ring-keeps, pickEndGame-keeps, phases-keeps}
 use Rattle.model.proofs.pick.PhaseLaws.{startPick-keeps, asked-wanted, asked-run, start-more}
 use Rattle.model.proofs.list.ListingLaws.{OnlyListing, updatePieces-only}
@@ -25,6 +25,7 @@ use Rattle.model.proofs.pick.SoundPick.{ask-fits}
 use Rattle.model.proofs.pick.BoundLaws.{small, Fits, sound-fits, Tight, tight-more, tight-unspent, mark-tight, flag-tight}
 use Rattle.model.proofs.pick.BoundLaws.{step-tight, all-tight, span-tight, downloading-tight, blocks-tight, backup-tight}
 use Rattle.model.proofs.base.Truths.{or-no-left}
+use Rattle.model.proofs.base.Phases.{branch-arms}
 
 only-of : (ds : List ℕ) (t : ℕ) (s : Picker) → OnlyListing s (updatePieces ds (drawing t s) .picker)
 unfolding drawing
@@ -75,7 +76,7 @@ module _ (b N R : ℕ) (most : N ≤ 2048) where
   unfolding pickMain pickRandom Bounded withPicker Tight
   main-bounded ds a w z h =
       let k = bounded-kept a in
-      fork-keeps Bounded (option sequential a || option rarestFirst a) (pickListed ds a w) (pickRandom ds a w)
+      branch-arms Bounded (option sequential a || option rarestFirst a) (pickListed ds a) (pickRandom ds a) w
       (λ e. pickListed-keeps a small Bounded Bounded k k (λ v g. g) forgets-bounded (counts 1 rareLoops) (counts 1 reverseRareLoops) ds w z (refreshed-bounded ds w h))
       (λ e. ring-keeps a small Bounded k (counts 1 randStartLoops) (draw ds (w .used) (piecesIn (w .picker) - 1)) (withPicker (w .picker) (suc (w .used)) w) h)
 

@@ -24,14 +24,14 @@ use Rattle.model.specs.pick.Pick.{isForced, forcedRequest, effectiveRequ
 use Rattle.model.specs.pick.Pick.{sortRarest, byRarity, orderedPartials, partialStep, partialsDone, walkPartials, pickPartials, visit}
 use Rattle.model.specs.pick.Pick.{suggest, pickSuggested, leadingTop, visitBelowTop, pickRange, pickSequential, inRange, visitOutside}
 use Rattle.model.specs.pick.Pick.{rareStep, reverseRareStep, ExtentWalk, extentStep, forgetExtent, pickExtents, pickForward}
-use Rattle.model.specs.pick.Pick.{pickRarest, onward, trace, RandomWalk, skipStep, skipDone, skip, takeAll, arrive, randomVisit}
-use Rattle.model.specs.pick.Pick.{ended, marked, lapEnds, lapFrom, lapStep, walkOver, ringFuel, ring, busyBlocks, maxEndGamePieces}
-use Rattle.model.specs.pick.Pick.{fullPartials, EndGame, noPartial, endGameTry, endGameStep, endGameDone, pickEndGame}
-use Rattle.model.specs.pick.Pick.{withListUpdated, pickListed, pickMain, pickRest, phases}
+use Rattle.model.specs.pick.Pick.{pickRarest, trace, RandomWalk, skipStep, skipDone, skip, takeAll, arrive, randomSpan, randomPiece}
+use Rattle.model.specs.pick.Pick.{randomVisit, ended, marked, lapEnds, lapFrom, lapStep, walkOver, ringFuel, ring, busyBlocks}
+use Rattle.model.specs.pick.Pick.{maxEndGamePieces, fullPartials, EndGame, noPartial, endGameTry, endGameStep, endGameDone}
+use Rattle.model.specs.pick.Pick.{pickEndGame, withListUpdated, pickListed, pickMain, pickRest, phases}
 use Rattle.model.proofs.pick.FrameLaws.{Blind, blind-closed, run-keeps, downloading-keeps, blocks-keeps, backup-keeps, all-keeps}
-use Rattle.model.proofs.base.WalkLaws.{fork-keeps, unless-keeps, when-keeps, repeat-keeps, repeat-counts, walk-keeps-in, walk-keeps}
+use Rattle.model.proofs.base.WalkLaws.{unless-keeps, when-keeps, repeat-keeps, repeat-counts, walk-keeps-in, walk-keeps}
 use Rattle.model.proofs.base.Truths.{and-left, and-right, or-no-left, or-no-right, true-both}
-use Rattle.model.proofs.base.Phases.{cond-arms}
+use Rattle.model.proofs.base.Phases.{cond-arms, branch-arms}
 
 -- ---- lists of partials
 module _ (ok : DownloadingPiece → Bool) where
@@ -202,8 +202,8 @@ module _ (a : PickRequest) (ok : DownloadingPiece → Bool) (I : PickState → T
   unfolding pickRange
   stretch-keeps w z h =
       let s = w .picker in
-      cond-arms I (option reverse a) (walk (visitBelowTop a reverseSequential) spent (rangeDown (s .cursor) (s .reverseCursor)) w)
-      (walk (visitBelowTop a sequentialPieces) spent (range (s .cursor) (s .reverseCursor)) w)
+      branch-arms I (option reverse a) (walk (visitBelowTop a reverseSequential) spent (rangeDown (s .cursor) (s .reverseCursor)))
+      (walk (visitBelowTop a sequentialPieces) spent (range (s .cursor) (s .reverseCursor))) w
       (λ e. walk-keeps I (visitBelowTop a reverseSequential) spent (below-keeps reverseSequential) (rangeDown (s .cursor) (s .reverseCursor)) w z h)
       (λ e. walk-keeps I (visitBelowTop a sequentialPieces) spent (below-keeps sequentialPieces) (range (s .cursor) (s .reverseCursor)) w z h)
 
@@ -264,15 +264,12 @@ module _ (a : PickRequest) (ok : DownloadingPiece → Bool) (I : PickState → T
 
   -- a visit in the random walk
   pub randomVisit-keeps : (start : ℕ) (x : RandomWalk) → spent (x .work) ≡ false → I (x .work) → I (randomVisit a start x .work)
-  unfolding randomVisit arrive
+  unfolding randomVisit randomSpan randomPiece arrive
   randomVisit-keeps start x z h =
       let w = x .work in
-      let s = w .picker in
       let i = x .place in
-      let span = expandPiece a i w in
-      cond-arms (λ y. I (y .work)) (contiguousAbove 1 (w .contiguous) && isOpen (pieceAt s i .state))
-      (arrive start (onward s (span .end - 1)) x (takeSpan takeAll (piecesOf span) w))
-      (arrive start (onward s i) x (addBlocks a i (flagged randomPieces w)))
+      branch-arms (λ y. I (y .work)) (contiguousAbove 1 (w .contiguous) && isOpen (pieceAt (w .picker) i .state)) (randomSpan a start)
+      (randomPiece a start) x
       (λ e. k .span i w z h)
       (λ e. k .piece i (flagged randomPieces w) (flag-spent w randomPieces z) (k .flags randomPieces w h))
 
@@ -281,7 +278,7 @@ module _ (a : PickRequest) (ok : DownloadingPiece → Bool) (I : PickState → T
   lap-keeps counts start x o h =
       let y = skip a start x in
       let g = skip-keeps counts start x (or-no-right (x .over) (spent (x .work)) o) h in
-      fork-keeps (λ v. I (v .work)) (lapEnds a y) (ended y) (randomVisit a start (marked y)) (λ e. g .1)
+      branch-arms (λ v. I (v .work)) (lapEnds a y) ended (λ v. randomVisit a start (marked v)) y (λ e. g .1)
       (λ e. randomVisit-keeps start (marked y) (g .0) (g .1))
 
   -- the random walk
@@ -306,7 +303,7 @@ module _ (a : PickRequest) (ok : DownloadingPiece → Bool) (I J Q : PickState �
   rarest-ends : (w : PickState) → spent w ≡ false → I w → Q (pickRarest a w)
   unfolding pickRarest
   rarest-ends w z h =
-      cond-arms Q (option reverse a) (walk (reverseRareStep a) spent (reversed (listOf (w .picker .listing))) w) (pickForward a w)
+      branch-arms Q (option reverse a) (walk (reverseRareStep a) spent (reversed (listOf (w .picker .listing)))) (pickForward a) w
       (λ e. downs w z h) (λ e. forward-ends w z h)
 
   -- sequential and rarest, from a refreshed list on

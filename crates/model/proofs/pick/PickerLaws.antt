@@ -14,10 +14,11 @@ use Rattle.model.specs.pick.Blocks.{PickRequest, option, PickState, star
 use Rattle.model.specs.pick.Blocks.{flagged, steps, appendBlocks}
 use Rattle.model.specs.pick.Pick.{effectiveRequest, startPick, partialsDone, forgetExtent, pickRandom, maxEndGamePieces, pickEndGame}
 use Rattle.model.specs.pick.Pick.{withListUpdated, pickListed, pickMain, pickRest, phases, pickPieces}
-use Rattle.model.proofs.base.WalkLaws.{fork-keeps, unless-keeps}
+use Rattle.model.proofs.base.WalkLaws.{unless-keeps}
 use Rattle.model.proofs.pick.FrameLaws.{Blind, backup-keeps}
 use Rattle.model.proofs.pick.PhaseLaws.{any, Kept, blind-kept, pickListed-keeps, ring-keeps, pickEndGame-keeps, phases-keeps}
 use Rattle.model.proofs.pick.PhaseLaws.{startPick-keeps, start-more}
+use Rattle.model.proofs.base.Phases.{branch-arms}
 
 -- ---- predicates of the picker and the draws alone
 -- I of the picker and the draws used
@@ -86,7 +87,7 @@ module _ (ds : List ℕ) (s : Picker) where
   main-leaves : (a : PickRequest) (w : PickState) → spent w ≡ false → Of Begun w → Of (Leaves ds s) (pickMain ds a w)
   unfolding pickMain pickRandom
   main-leaves a w z h =
-      fork-keeps (Of (Leaves ds s)) (option sequential a || option rarestFirst a) (pickListed ds a w) (pickRandom ds a w)
+      branch-arms (Of (Leaves ds s)) (option sequential a || option rarestFirst a) (pickListed ds a) (pickRandom ds a) w
       (λ e. pickListed-keeps a any (Of Fresh) (Of (Leaves ds s)) (of-kept Fresh a) (of-kept (Leaves ds s) a) fresh-leaves fresh-forgets
       (of-steps (Leaves ds s) 1 rareLoops) (of-steps (Leaves ds s) 1 reverseRareLoops) ds w z (begun-refreshed w h))
       (λ e. ring-keeps a any (Of (Leaves ds s)) (of-kept (Leaves ds s) a) (of-steps (Leaves ds s) 1 randStartLoops)

@@ -19,14 +19,14 @@ use Rattle.model.specs.pick.Pick.{effectiveRequest, startPick, forgetExt
 use Rattle.model.specs.pick.Pick.{withListUpdated, pickListed, pickMain, pickRest, pickPieces}
 use Rattle.model.specs.image.Sound.{Sound}
 use Rattle.model.specs.Calls.{requestFits}
-use Rattle.model.proofs.base.WalkLaws.{fork-keeps, unless-keeps, walkUntil-keeps}
+use Rattle.model.proofs.base.WalkLaws.{unless-keeps, walkUntil-keeps}
 use Rattle.model.proofs.pick.FrameLaws.{Closed, run-keeps, downloading-keeps, blocks-keeps}
 use Rattle.model.proofs.pick.PhaseLaws.{any, every-any, Kept, ring-keeps, pickListed-keeps, pickEndGame-keeps, phases-keeps}
 use Rattle.model.proofs.pick.PhaseLaws.{startPick-keeps, start-more}
 use Rattle.model.proofs.pick.CounterLaws.{counter, counter-step, counter-other, begin-zero}
 use Rattle.model.proofs.pick.SoundPick.{ask-fits}
 use Rattle.model.proofs.pick.OutputLaws.{pick-output}
-use Rattle.model.proofs.base.Phases.{cond-arms}
+use Rattle.model.proofs.base.Phases.{cond-arms, branch-arms}
 
 -- no more counted than appended
 unfoldable Counted : PickState → Type 0
@@ -96,7 +96,7 @@ counted-main : (ds : List ℕ) (a : PickRequest) (w : PickState) → spent w ≡
 unfolding pickMain pickRandom
 counted-main ds a w z h =
     let k = counted-kept a in
-    fork-keeps Counted (option sequential a || option rarestFirst a) (pickListed ds a w) (pickRandom ds a w)
+    branch-arms Counted (option sequential a || option rarestFirst a) (pickListed ds a) (pickRandom ds a) w
     (λ e. pickListed-keeps a any Counted Counted k k (λ v g. g) counted-forgets (counted-step 1 rareLoops (λ q. omega arith))
     (counted-step 1 reverseRareLoops (λ q. omega arith)) ds w z (counted-refreshed ds w h))
     (λ e. ring-keeps a any Counted k (counted-step 1 randStartLoops (λ q. omega arith)) (draw ds (w .used) (piecesIn (w .picker) - 1))

@@ -11,7 +11,7 @@ use lib.ListN.{length, getD, set, length-append, length-set}
 use lib.Seq.{getD-set-other}
 use lib.Dec.{eqb, leb}
 use borrow.Author.Tests.{eq-eqb, ne-eqb, leb-false}
-use Rattle.model.specs.Lists.{bit, count, from, each, nth, setNth, len, any, member, walk, walkUntil}
+use Rattle.model.specs.Lists.{bit, count, from, each, nth, setNth, len, any, member, branch, walk, walkUntil}
 use Rattle.model.specs.State.{DownloadingPiece, blocksInPiece}
 use Rattle.model.specs.Options.{randomPieces, randLoops}
 use Rattle.model.specs.pick.Blocks.{PickRequest, Contiguous, PieceBlock, PickState, spent, withOut, withContiguous, withBackup}
@@ -23,7 +23,7 @@ use Rattle.model.proofs.pick.FrameLaws.{Closed, run-keeps, blocks-keeps
 use Rattle.model.proofs.base.Counts.{count-le}
 use Rattle.model.proofs.pick.BoundLaws.{Tight, tight-unspent}
 use Rattle.model.proofs.base.Truths.{and-left, and-right, true-both}
-use Rattle.model.proofs.base.Phases.{cond-arms}
+use Rattle.model.proofs.base.Phases.{cond-arms, branch-arms}
 
 -- ---- the number that rises
 -- blocks set aside count up to 2,048, since none is set aside beyond that
@@ -230,7 +230,7 @@ visit-rises i u w l e h g =
 run-step-grows : (u : PickState) (x : ℕ) (w : PickState) → Grows u w → Grows u (spanStep takeAll x w)
 unfolding spanStep
 run-step-grows u x w h =
-    cond-arms (Grows u) (isIgnored x w) (withContiguous (shorter (w .contiguous)) w) (takeAll x (ignore x w))
+    branch-arms (Grows u) (isIgnored x w) (λ v. withContiguous (shorter (v .contiguous)) v) (λ v. takeAll x (ignore x v)) w
     (λ e. grows-run u (shorter (w .contiguous)) w h) (λ e. all-grow u x (ignore x w) (grows-mark u x w h))
 
 -- another piece's mark stays
@@ -245,12 +245,12 @@ other-unmarked i x w n h = rw (all-marks x (ignore x w)) (getD-set-other (w .ign
 run-step-other : (i x : ℕ) (w : PickState) → (i ≡ x → ⊥) → isIgnored i w ≡ false → isIgnored i (spanStep takeAll x w) ≡ false
 unfolding spanStep
 run-step-other i x w n h =
-    cond-arms (λ v. isIgnored i v ≡ false) (isIgnored x w) (withContiguous (shorter (w .contiguous)) w) (takeAll x (ignore x w))
+    branch-arms (λ v. isIgnored i v ≡ false) (isIgnored x w) (λ v. withContiguous (shorter (v .contiguous)) v) (λ v. takeAll x (ignore x v)) w
     (λ e. run-unmarked i (shorter (w .contiguous)) w h) (λ e. other-unmarked i x w n h)
 
 -- where the run ends no block is wanted
 run-halt-spent : (x : ℕ) (w : PickState) → spanHalt x w ≡ true → spent (spanStep takeAll x w) ≡ true
-unfolding spanHalt spanStep contiguousMet
+unfolding spanHalt spanStep branch contiguousMet
 run-halt-spent x w h =
     let v = withContiguous (shorter (w .contiguous)) w in
     let e = and-left (isIgnored x w) (contiguousMet v) h in
@@ -263,7 +263,7 @@ module _ (i : ℕ) (u : PickState) (inside : i < 4096) (some : 1 ≤ blocksInPie
   Coming ys w = Grows u w × ((weight (trace u) + 2 ≤ weight (trace w)) ⊎ ((isIgnored i w ≡ false) × (member i ys ≡ true)))
 
   coming-here : (w : PickState) → Grows u w → isIgnored i w ≡ false → weight (trace u) + 2 ≤ weight (trace (spanStep takeAll i w))
-  unfolding spanStep
+  unfolding spanStep branch
   coming-here w g e =
       rw e (omega (arith, rises-weight (trace u) (trace w) (g .rises), visit-rises i u w inside e (rw (g .picker) some) g))
 

@@ -9,7 +9,7 @@ use Rattle.types.specs.declared.queue.DownloadQueue.the-variants.{Downloading}
 use Rattle.types.specs.declared.block.BlockState.the-variants.{None, Requested}
 use Rattle.types.specs.Queue.{unreverse}
 use Rattle.types.specs.Bits.{meets, union}
-use Rattle.model.specs.Lists.{least, from, range, filter, each, any, nth, setNth, len, unless, when, walk, walkUntil}
+use Rattle.model.specs.Lists.{least, from, range, filter, each, any, nth, setNth, len, unless, when, branch, walk, walkUntil}
 use Rattle.model.specs.Bep3.{bitAt}
 use Rattle.model.specs.State.{Block, DownloadingPiece, Picker, maxPieces, sameQueue, isOpen, sameBlockState, samePeer, hasPeer}
 use Rattle.model.specs.State.{pieceAt, piecesIn, blocksPerPiece, payloadBlocksInPiece}
@@ -272,7 +272,7 @@ takePiece ends i n w = walk (took i) ends (from 0 n) w
 
 -- a piece of a run: an ignored one only shortens it; another is ignored from here on, and its blocks are taken
 unfoldable pub spanStep : (ℕ → PickState → PickState) → ℕ → PickState → PickState
-spanStep takes k w = cond (isIgnored k w) (withContiguous (shorter (w .contiguous)) w) (takes k (ignore k w))
+spanStep takes k w = branch (isIgnored k w) (λ v. withContiguous (shorter (v .contiguous)) v) (λ v. takes k (ignore k v)) w
 
 -- at an ignored piece the run may end
 unfoldable pub spanHalt : ℕ → PickState → Bool
@@ -289,9 +289,9 @@ takePayload k w = takePiece contiguousMet k (payloadBlocksInPiece (w .picker) k)
 -- blocks of an Open piece: without a run as many as are wanted, else the whole run around it
 unfoldable pub addNewPiece : PickRequest → ℕ → PickState → PickState
 addNewPiece a i w =
-    cond (contiguousIsZero (w .contiguous))
-    (takePiece (λ t. false) i (least (payloadBlocksInPiece (w .picker) i) (w .left)) w)
-    (takeSpan takePayload (piecesOf (expandPiece a i w)) w)
+    branch (contiguousIsZero (w .contiguous))
+    (takePiece (λ t. false) i (least (payloadBlocksInPiece (w .picker) i) (w .left)))
+    (takeSpan takePayload (piecesOf (expandPiece a i w))) w
 
 -- ---- partials
 -- who works on a partial: `exclusive`, only this peer; `active`, another peer has a request; the longest run of free blocks, and its start
@@ -363,8 +363,8 @@ keepingContiguous f w = withContiguous (w .contiguous) (f w)
 unfoldable pub useFree : PickRequest → DownloadingPiece → RequestedFrom → PickState → PickState
 useFree a d h w =
     let first = cond (contiguousIsZero (w .contiguous)) 0 (h .first) in
-    cond (contiguousAbove (h .longest) (w .contiguous) && (h .active && not (option onParole a))) (setAside d first w)
-    (keepingContiguous (takeFree d first) w)
+    branch (contiguousAbove (h .longest) (w .contiguous) && (h .active && not (option onParole a))) (setAside d first)
+    (keepingContiguous (takeFree d first)) w
 
 -- what a partial adds: none that the peer lacks, that is locked or, on parole, that another touched
 unfoldable pub addBlocksDownloading : PickRequest → DownloadingPiece → PickState → PickState
@@ -386,7 +386,7 @@ unfoldable pub addBlocks : PickRequest → ℕ → PickState → PickState
 addBlocks a i w =
     let q = pieceAt (w .picker) i .state in
     unless (isIgnored i w)
-    (λ t. when (isOpen q) (keepingContiguous (addNewPiece a i)) (when (sameQueue (unreverse q) Downloading) (addStanding a i) t)) w
+    (branch (isOpen q) (keepingContiguous (addNewPiece a i)) (when (sameQueue (unreverse q) Downloading) (addStanding a i))) w
 
 -- ---- backup blocks
 -- as many as are wanted of the blocks set aside

@@ -8,10 +8,10 @@ use lib.Dec.{eqb, ltb, leb}
 use Rattle.types.specs.declared.queue.DownloadQueue.the-variants.{Downloading, Full}
 use Rattle.types.specs.declared.block.BlockState.the-variants.{Requested}
 use Rattle.types.specs.Bits.{union}
-use Rattle.model.specs.Lists.{count, from, range, rangeDown, filter, each, every, nth, setNth, len, removeNth, lastOr, reversed}
-use Rattle.model.specs.Lists.{unless, when, repeat, walk}
-use Rattle.model.specs.State.{DownloadingPiece, Picker, maxPieces, topPriority, maxPartialBlocks, isOpen, sameBlockState, samePeer, listOf, withRecentExtents, pieceAt}
-use Rattle.model.specs.State.{piecesIn, blocksPerPiece, blocksInPiece, extentStart, extentEnd}
+use Rattle.model.specs.Lists.{count, from, range, rangeDown, filter, every, nth, setNth, len, removeNth, lastOr, reversed, unless}
+use Rattle.model.specs.Lists.{when, branch, repeat, walk}
+use Rattle.model.specs.State.{DownloadingPiece, Picker, maxPieces, topPriority, maxPartialBlocks, isOpen, sameBlockState, samePeer}
+use Rattle.model.specs.State.{listOf, withRecentExtents, pieceAt, piecesIn, blocksPerPiece, blocksInPiece, extentStart, extentEnd}
 use Rattle.model.specs.Options.{rarestFirst, reverse, onParole, prioritizePartials, sequential, pieceExtentAffinity, partialRatio}
 use Rattle.model.specs.Options.{prioritizedPartials, rarestFirstPartials, rarestFirstPieces, reverseRarestFirst, suggestedPieces}
 use Rattle.model.specs.Options.{prioSequentialPieces, sequentialPieces, randomPieces, preferContiguous, reverseSequential, backup1}
@@ -136,9 +136,9 @@ visitBelowTop a f i w = unless (eqb (pieceAt (w .picker) i .priority) topPriorit
 unfoldable pub pickRange : PickRequest → PickState → PickState
 pickRange a w =
     let s = w .picker in
-    cond (option reverse a)
-    (walk (visitBelowTop a reverseSequential) spent (rangeDown (s .cursor) (s .reverseCursor)) w)
-    (walk (visitBelowTop a sequentialPieces) spent (range (s .cursor) (s .reverseCursor)) w)
+    branch (option reverse a)
+    (walk (visitBelowTop a reverseSequential) spent (rangeDown (s .cursor) (s .reverseCursor)))
+    (walk (visitBelowTop a sequentialPieces) spent (range (s .cursor) (s .reverseCursor))) w
 
 -- top pieces of the list, then the stretch
 unfoldable pub pickSequential : PickRequest → PickState → PickState
@@ -204,7 +204,7 @@ pickForward a w =
 -- the list, backwards under REVERSE
 unfoldable pub pickRarest : PickRequest → PickState → PickState
 pickRarest a w =
-    cond (option reverse a) (walk (reverseRareStep a) spent (reversed (listOf (w .picker .listing))) w) (pickForward a w)
+    branch (option reverse a) (walk (reverseRareStep a) spent (reversed (listOf (w .picker .listing)))) (pickForward a) w
 
 -- ---- random: round the torrent from a drawn piece
 unfoldable pub standsOpen : PickRequest → ℕ → PickState → Bool
@@ -264,16 +264,24 @@ takeAll k w = walk (randStep k) contiguousOver (from 0 (blocksInPiece (w .picker
 unfoldable pub arrive : ℕ → ℕ → RandomWalk → PickState → RandomWalk
 arrive start i x w = record { work = w; place = i; back = false; seen = x .seen; over = eqb i start }
 
--- a whole run from an Open piece where one is wanted, else the piece
+-- a whole run around the piece, and on behind it
+unfoldable pub randomSpan : PickRequest → ℕ → RandomWalk → RandomWalk
+randomSpan a start x =
+    let w = x .work in
+    let span = expandPiece a (x .place) w in
+    arrive start (onward (w .picker) (span .end - 1)) x (takeSpan takeAll (piecesOf span) w)
+
+-- what the piece adds, and on to the next
+unfoldable pub randomPiece : PickRequest → ℕ → RandomWalk → RandomWalk
+randomPiece a start x =
+    let w = x .work in
+    arrive start (onward (w .picker) (x .place)) x (addBlocks a (x .place) (flagged randomPieces w))
+
+-- a run from an Open piece where one is wanted, else the piece
 unfoldable pub randomVisit : PickRequest → ℕ → RandomWalk → RandomWalk
 randomVisit a start x =
     let w = x .work in
-    let s = w .picker in
-    let i = x .place in
-    let span = expandPiece a i w in
-    cond (contiguousAbove 1 (w .contiguous) && isOpen (pieceAt s i .state))
-    (arrive start (onward s (span .end - 1)) x (takeSpan takeAll (piecesOf span) w))
-    (arrive start (onward s i) x (addBlocks a i (flagged randomPieces w)))
+    branch (contiguousAbove 1 (w .contiguous) && isOpen (pieceAt (w .picker) (x .place) .state)) (randomSpan a start) (randomPiece a start) x
 
 -- the walk is over
 unfoldable pub ended : RandomWalk → RandomWalk
@@ -289,7 +297,7 @@ lapEnds a x = not (standsOpen a (x .place) (x .work)) || (x .back && sameTrace (
 
 -- the end, or a visit
 unfoldable pub lapFrom : PickRequest → ℕ → RandomWalk → RandomWalk
-lapFrom a start x = elim (lapEnds a x) [ true ↦ ended x | false ↦ randomVisit a start (marked x) ]
+lapFrom a start x = branch (lapEnds a x) ended (λ y. randomVisit a start (marked y)) x
 
 -- skipping, then a visit
 unfoldable pub lapStep : PickRequest → ℕ → RandomWalk → RandomWalk
@@ -384,7 +392,7 @@ pickListed ds a w =
 
 -- sequential and rarest, or random
 unfoldable pub pickMain : List ℕ → PickRequest → PickState → PickState
-pickMain ds a w = elim (option sequential a || option rarestFirst a) [ true ↦ pickListed ds a w | false ↦ pickRandom ds a w ]
+pickMain ds a w = branch (option sequential a || option rarestFirst a) (pickListed ds a) (pickRandom ds a) w
 
 -- backup blocks, then the end game
 unfoldable pub pickRest : List ℕ → PickRequest → PickState → PickState
