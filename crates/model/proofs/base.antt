@@ -3,3 +3,4 @@ pub mod Truths
 pub mod Phases
 pub mod Counts
 pub mod WalkLaws
+pub mod SortLaws

@@ -1,3 +1,4 @@
+pub mod ScanLaws
 pub mod FrameLaws
 pub mod PhaseLaws
 pub mod CounterLaws

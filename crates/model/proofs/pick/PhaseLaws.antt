@@ -9,7 +9,7 @@ use mathlib.Core.Option.{Option, none}
 use lib.Dec.{eqb, ltb}
 use borrow.Author.Tests.{ne-eqb, leb-false, lt-leb}
 use Rattle.types.specs.declared.queue.DownloadQueue.the-variants.{Downloading}
-use Rattle.model.specs.Lists.{from, range, rangeDown, filter, every, nth, len, reversed, unless, when, walk}
+use Rattle.model.specs.Lists.{from, range, rangeDown, filter, every, nth, len, reversed, unless, when, walk, sortBy}
 use Rattle.model.specs.State.{DownloadingPiece, Picker, isOpen, listOf, pieceAt, piecesIn, extentStart, extentEnd}
 use Rattle.model.specs.Options.{reverse, prioritizePartials, sequential, pieceExtentAffinity, partialRatio, preferContiguous}
 use Rattle.model.specs.Options.{prioritizedPartials, rarestFirstPartials, rarestFirstPieces, reverseRarestFirst, suggestedPieces}
@@ -20,18 +20,20 @@ use Rattle.model.specs.change.Partials.{inQueue}
 use Rattle.model.specs.pick.Blocks.{PickRequest, option, PickState, startState, spent, withOut, withPicker, ignore, flagged, steps}
 use Rattle.model.specs.pick.Blocks.{contiguousAbove, isPieceFree, expandPiece, piecesOf, pieceBlock, takeSpan, addBlocksDownloading}
 use Rattle.model.specs.pick.Blocks.{addBlocks, appendBlocks}
-use Rattle.model.specs.pick.Pick.{isForced, forcedRequest, effectiveRequest, startPick, usable, rarestFirstBefore, insertRarest}
-use Rattle.model.specs.pick.Pick.{sortRarest, byRarity, orderedPartials, partialStep, partialsDone, walkPartials, pickPartials, visit}
-use Rattle.model.specs.pick.Pick.{suggest, pickSuggested, leadingTop, visitBelowTop, pickRange, pickSequential, inRange, visitOutside}
-use Rattle.model.specs.pick.Pick.{rareStep, reverseRareStep, ExtentWalk, extentStep, forgetExtent, pickExtents, pickForward}
-use Rattle.model.specs.pick.Pick.{pickRarest, trace, RandomWalk, skipStep, skipDone, skip, takeAll, arrive, randomSpan, randomPiece}
-use Rattle.model.specs.pick.Pick.{randomVisit, ended, marked, lapEnds, lapFrom, lapStep, walkOver, ringFuel, ring, busyBlocks}
-use Rattle.model.specs.pick.Pick.{maxEndGamePieces, fullPartials, EndGame, noPartial, endGameTry, endGameStep, endGameDone}
-use Rattle.model.specs.pick.Pick.{pickEndGame, withListUpdated, pickListed, pickMain, pickRest, phases}
+use Rattle.model.specs.pick.Pick.{isForced, forcedRequest, effectiveRequest, startPick, usable, byRarity, orderedPartials}
+use Rattle.model.specs.pick.Pick.{partialStep, partialsDone, walkPartials, pickPartials, visit, suggest, pickSuggested, leadingTop}
+use Rattle.model.specs.pick.Pick.{visitBelowTop, pickRange, pickSequential, inRange, visitOutside, rareStep, reverseRareStep}
+use Rattle.model.specs.pick.Pick.{ExtentWalk, extentStep, forgetExtent, pickExtents, pickForward, pickRarest, trace, RandomWalk}
+use Rattle.model.specs.pick.Pick.{skipStep, skipDone, skip, takeAll, arrive, randomSpan, randomPiece, randomVisit, ended, marked}
+use Rattle.model.specs.pick.Pick.{lapEnds, lapFrom, lapStep, walkOver, ringFuel, ring, busyBlocks, maxEndGamePieces, fullPartials}
+use Rattle.model.specs.pick.Pick.{EndGame, noPartial, endGameTry, endGameStep, endGameDone, pickEndGame, withListUpdated, pickListed}
+use Rattle.model.specs.pick.Pick.{pickMain, pickRest, phases, scanPartials, partialCompareRarestFirst, pickScanned}
 use Rattle.model.proofs.pick.FrameLaws.{Blind, blind-closed, run-keeps, downloading-keeps, blocks-keeps, backup-keeps, all-keeps}
 use Rattle.model.proofs.base.WalkLaws.{unless-keeps, when-keeps, repeat-keeps, repeat-counts, walk-keeps-in, walk-keeps}
 use Rattle.model.proofs.base.Truths.{and-left, and-right, or-no-left, or-no-right, true-both}
 use Rattle.model.proofs.base.Phases.{cond-arms, branch-arms}
+use Rattle.model.proofs.base.SortLaws.{every-sort}
+use Rattle.model.proofs.pick.ScanLaws.{scan-work, scan-partials}
 
 -- ---- lists of partials
 module _ (ok : DownloadingPiece → Bool) where
@@ -44,26 +46,16 @@ module _ (ok : DownloadingPiece → Bool) where
       cond-arms (λ l. every ok l ≡ true) (t d) (d ∷ filter t ds) (filter t ds)
       (λ e. true-both (ok d) (every ok (filter t ds)) (and-left (ok d) (every ok ds) h) r) (λ e. r)
 
-  every-insert : (s : Picker) (d : DownloadingPiece) (es : List DownloadingPiece) → ok d ≡ true → every ok es ≡ true → every ok (insertRarest s d es) ≡ true
-  unfolding every insertRarest
-  every-insert s d [] o h = true-both (ok d) true o refl
-  every-insert s d (e ∷ es) o h =
-      cond-arms (λ l. every ok l ≡ true) (rarestFirstBefore s d e) (d ∷ e ∷ es) (e ∷ insertRarest s d es)
-      (λ q. true-both (ok d) (every ok (e ∷ es)) o h)
-      (λ q. true-both (ok e) (every ok (insertRarest s d es)) (and-left (ok e) (every ok es) h) (every-insert s d es o (and-right (ok e) (every ok es) h)))
+  every-ordered : (a : PickRequest) (s : Picker) (ds : List DownloadingPiece) → every ok ds ≡ true → every ok (orderedPartials a s ds) ≡ true
+  unfolding orderedPartials
+  every-ordered a s ds h =
+      cond-arms (λ l. every ok l ≡ true) (byRarity a) (sortBy (partialCompareRarestFirst s) ds) ds
+      (λ e. every-sort (partialCompareRarestFirst s) ok ds h) (λ e. h)
 
-  every-sort : (s : Picker) (ds es : List DownloadingPiece) → every ok ds ≡ true → every ok es ≡ true → every ok (sortRarest s ds es) ≡ true
-  unfolding every sortRarest
-  every-sort s [] es h g = g
-  every-sort s (d ∷ ds) es h g =
-      every-sort s ds (insertRarest s d es) (and-right (ok d) (every ok ds) h) (every-insert s d es (and-left (ok d) (every ok ds) h) g)
-
-  every-ordered : (a : PickRequest) (s : Picker) → every ok (s .partials) ≡ true → every ok (orderedPartials a s) ≡ true
-  unfolding orderedPartials inQueue every
-  every-ordered a s h =
-      let ds = filter (usable a s) (inQueue Downloading s) in
-      let o = every-filter (usable a s) (inQueue Downloading s) (every-filter _ (s .partials) h) in
-      cond-arms (λ l. every ok l ≡ true) (byRarity a) (sortRarest s ds []) ds (λ e. every-sort s ds [] o refl) (λ e. o)
+  every-scanned : (a : PickRequest) (w : PickState) → every ok (w .picker .partials) ≡ true → every ok (scanPartials a w .partials) ≡ true
+  unfolding inQueue
+  every-scanned a w h =
+      rw (scan-partials a w) (every-filter (usable a (w .picker)) (inQueue Downloading (w .picker)) (every-filter _ (w .picker .partials) h))
 
 -- ---- where blocks are wanted
 -- more than are set aside
@@ -145,29 +137,31 @@ kept-both a ok I J k l = record {
 
 module _ (a : PickRequest) (ok : DownloadingPiece → Bool) (I : PickState → Type 0) (k : Kept a ok I) where
   -- ---- partials
-  walkPartials-keeps : (w : PickState) → partialsDone w ≡ false → I w → I (walkPartials a w)
+  walkPartials-keeps : (ds : List DownloadingPiece) (w : PickState) → every ok ds ≡ true → partialsDone w ≡ false → I w → I (walkPartials a ds w)
   unfolding walkPartials partialStep
-  walkPartials-keeps w d h =
-      let v = walk (partialStep a) partialsDone (orderedPartials a (w .picker)) w in
+  walkPartials-keeps ds w q d h =
+      let v = walk (partialStep a) partialsDone ds w in
       let g : I v =
       walk-keeps-in I (partialStep a) ok partialsDone
       (λ x t o e j. k .partial x (flagged prioritizedPartials t) o (flag-spent t prioritizedPartials (unspent t e)) (k .flags prioritizedPartials t j))
-      (orderedPartials a (w .picker)) w (every-ordered ok a (w .picker) (k .ready w h)) d h in
+      ds w q d h in
       unless-keeps I (spent v) appendBlocks v g (λ e. k .backup v e g)
 
   -- the partials' phase, where counting the partials keeps I
   pub pickPartials-keeps : (w : PickState) → partialsDone w ≡ false → I w → I (steps (len (inQueue Downloading (w .picker))) partialLoops w)
       → I (pickPartials a w)
-  unfolding pickPartials
+  unfolding pickPartials pickScanned
   pickPartials-keeps w d h i =
       let n = len (inQueue Downloading (w .picker)) in
-      let v = steps n partialLoops w in
-      let m = step-more w n partialLoops d in
-      let g = when-keeps (λ u. (partialsDone u ≡ false) × I u) (byRarity a) (flagged rarestFirstPartials) v (m, i)
-      (λ q. (flag-more v rarestFirstPartials m, k .flags rarestFirstPartials v i)) in
-      when-keeps I (option prioritizePartials a)
-      (λ u. walkPartials a (when (byRarity a) (flagged rarestFirstPartials) (steps (len (inQueue Downloading (u .picker))) partialLoops u)))
-      w h (λ e. walkPartials-keeps (when (byRarity a) (flagged rarestFirstPartials) v) (g .0) (g .1))
+      let x = scanPartials a w in
+      let v = x .work in
+      let m : partialsDone v ≡ false = rw (scan-work a w) (step-more w n partialLoops d) in
+      let j : I v = rw (scan-work a w) i in
+      let g = when-keeps (λ u. (partialsDone u ≡ false) × I u) (byRarity a) (flagged rarestFirstPartials) v (m, j)
+      (λ q. (flag-more v rarestFirstPartials m, k .flags rarestFirstPartials v j)) in
+      when-keeps I (option prioritizePartials a) (λ u. pickScanned a (scanPartials a u)) w h
+      (λ e. walkPartials-keeps (orderedPartials a (v .picker) (x .partials)) (when (byRarity a) (flagged rarestFirstPartials) v)
+      (every-ordered ok a (v .picker) (x .partials) (every-scanned ok a w (k .ready w h))) (g .0) (g .1))
 
   -- ---- walks over pieces
   -- a free piece visited

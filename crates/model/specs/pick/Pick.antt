@@ -9,7 +9,7 @@ use Rattle.types.specs.declared.queue.DownloadQueue.the-variants.{Downloading, 
 use Rattle.types.specs.declared.block.BlockState.the-variants.{Requested}
 use Rattle.types.specs.Bits.{union}
 use Rattle.model.specs.Lists.{count, from, range, rangeDown, filter, every, nth, setNth, len, removeNth, lastOr, reversed, unless}
-use Rattle.model.specs.Lists.{when, branch, repeat, walk}
+use Rattle.model.specs.Lists.{when, branch, repeat, walk, forEach, sortBy}
 use Rattle.model.specs.State.{DownloadingPiece, Picker, maxPieces, topPriority, maxPartialBlocks, isOpen, sameBlockState, samePeer}
 use Rattle.model.specs.State.{listOf, withRecentExtents, pieceAt, piecesIn, blocksPerPiece, blocksInPiece, extentStart, extentEnd}
 use Rattle.model.specs.Options.{rarestFirst, reverse, onParole, prioritizePartials, sequential, pieceExtentAffinity, partialRatio}
@@ -57,35 +57,39 @@ startPick s a =
     (when (ltb 0 (effectiveRequest s a .contiguous)) (flagged preferContiguous) (startState s (effectiveRequest s a)))
 
 -- ---- partials
+-- a partial to pick from: its piece is free for the peer, and it is not locked
 unfoldable pub usable : PickRequest → Picker → DownloadingPiece → Bool
 usable a s d = isPieceFree a s (d .piece) && not (d .locked)
 
--- d before e: smaller count first, then more progress
-unfoldable pub rarestFirstBefore : Picker → DownloadingPiece → DownloadingPiece → Bool
-rarestFirstBefore s d e =
+-- the walk that finds them: what the pick has come to, and those found, by rising piece
+pub record PartialScan : Type 0 where
+  pub work : PickState
+  pub partials : List DownloadingPiece
+
+-- one partial: a step is counted, and it is kept where it can be picked from
+unfoldable pub scanStep : PickRequest → DownloadingPiece → PartialScan → PartialScan
+scanStep a d x =
+    let s = x .work .picker in
+    record { work = steps 1 partialLoops (x .work); partials = cond (usable a s d) (x .partials ++ (d ∷ [])) (x .partials) }
+
+-- the whole Downloading queue
+unfoldable pub scanPartials : PickRequest → PickState → PartialScan
+scanPartials a w = forEach (scanStep a) (inQueue Downloading (w .picker)) (record { work = w; partials = [] })
+
+-- `partial_compare_rarest_first`, as a test: d goes before e where fewer peers have it or, of as many, where it is closer to complete
+unfoldable pub partialCompareRarestFirst : Picker → DownloadingPiece → DownloadingPiece → Bool
+partialCompareRarestFirst s d e =
     let m = pieceAt s (d .piece) .peerCount in
     let n = pieceAt s (e .piece) .peerCount in
     ltb m n || (eqb m n && ltb (progress e) (progress d))
-
--- d behind all that it does not go before
-unfoldable pub insertRarest : Picker → DownloadingPiece → List DownloadingPiece → List DownloadingPiece
-insertRarest s d [] = d ∷ []
-insertRarest s d (e ∷ es) = cond (rarestFirstBefore s d e) (d ∷ e ∷ es) (e ∷ insertRarest s d es)
-
--- equals stay by rising piece
-unfoldable pub sortRarest : Picker → List DownloadingPiece → List DownloadingPiece → List DownloadingPiece
-sortRarest s [] es = es
-sortRarest s (d ∷ ds) es = sortRarest s ds (insertRarest s d es)
 
 -- RAREST_FIRST, and not on parole
 unfoldable pub byRarity : PickRequest → Bool
 byRarity a = option rarestFirst a && not (option onParole a)
 
--- the partials that may be picked from, in their order
-unfoldable pub orderedPartials : PickRequest → Picker → List DownloadingPiece
-orderedPartials a s =
-    let ds = filter (usable a s) (inQueue Downloading s) in
-    cond (byRarity a) (sortRarest s ds []) ds
+-- the partials found in the order of the pick; equals stay by rising piece
+unfoldable pub orderedPartials : PickRequest → Picker → List DownloadingPiece → List DownloadingPiece
+orderedPartials a s ds = cond (byRarity a) (sortBy (partialCompareRarestFirst s) ds) ds
 
 -- one partial
 unfoldable pub partialStep : PickRequest → DownloadingPiece → PickState → PickState
@@ -95,19 +99,20 @@ partialStep a d w = addBlocksDownloading a d (flagged prioritizedPartials w)
 unfoldable pub partialsDone : PickState → Bool
 partialsDone w = leb (w .left) (len (w .backup))
 
--- the partials in turn, then the blocks set aside
-unfoldable pub walkPartials : PickRequest → PickState → PickState
-walkPartials a w =
-    let v = walk (partialStep a) partialsDone (orderedPartials a (w .picker)) w in
+-- partials in turn, then the blocks set aside
+unfoldable pub walkPartials : PickRequest → List DownloadingPiece → PickState → PickState
+walkPartials a ds w =
+    let v = walk (partialStep a) partialsDone ds w in
     unless (spent v) appendBlocks v
+
+-- those found, in their order
+unfoldable pub pickScanned : PickRequest → PartialScan → PickState
+pickScanned a x =
+    walkPartials a (orderedPartials a (x .work .picker) (x .partials)) (when (byRarity a) (flagged rarestFirstPartials) (x .work))
 
 -- the first phase, where partials come first
 unfoldable pub pickPartials : PickRequest → PickState → PickState
-pickPartials a w =
-    when (option prioritizePartials a)
-    (λ v. walkPartials a
-    (when (byRarity a) (flagged rarestFirstPartials) (steps (len (inQueue Downloading (v .picker))) partialLoops v)))
-    w
+pickPartials a w = when (option prioritizePartials a) (λ v. pickScanned a (scanPartials a v)) w
 
 -- ---- walks over pieces
 -- a free piece adds its blocks
