@@ -1,4 +1,5 @@
 pub mod ScanLaws
+pub mod AsideLaws
 pub mod FrameLaws
 pub mod PhaseLaws
 pub mod CounterLaws

@@ -1,18 +1,18 @@
 -- What a piece adds to a pick, in numbers: with `left` blocks wanted of N, N less what is appended are left, a piece appends at most 255
 -- past N, and a run at most its own length more; at most 2,303 blocks are set aside. Assumes nothing.
-use mathlib.Core.Path.{_≡_, refl, ap, _∙_}
+use mathlib.Core.Path.{_≡_, refl}
 use mathlib.Core.Logic.{_⊎_, inl, inr, ⊎-elim}
 use Prim.Native.Nat.{ℕ, suc, _+_, _-_, _*_, _≤_}
 use native.Mathlib.Omega.{arith}
 use mathlib.Core.Bool.{Bool, true, false, cond, not, _&&_, _||_}
 use mathlib.Core.List.{List, [], _∷_, _++_}
 use mathlib.Core.Option.{Option, none, some}
-use lib.ListN.{length, take, length-append, length-take, length-drop}
+use lib.ListN.{length, take, length-append, length-take}
 use lib.Dec.{eqb, ltb, leb}
-use borrow.Author.Tests.{eqb-true, eqb-false, eq-eqb, ne-eqb, ltb-true, leb-true, leb-false, le-leb}
+use borrow.Author.Tests.{eqb-true, eqb-false, eq-eqb, ne-eqb, ltb-true, leb-true, le-leb}
 use Rattle.types.specs.declared.queue.DownloadQueue.the-variants.{Downloading}
 use Rattle.types.specs.Queue.{unreverse}
-use Rattle.model.specs.Lists.{least, from, filter, each, every, len, when, branch, walk}
+use Rattle.model.specs.Lists.{least, from, each, every, len, when, branch, walk}
 use Rattle.model.specs.Bep3.{wholePieceBlocks, pieceBlocks}
 use Rattle.model.specs.State.{DownloadingPiece, Picker, sameQueue, isOpen, pieceAt, blocksPerPiece, blocksInPiece}
 use Rattle.model.specs.State.{payloadBlocksInPiece}
@@ -20,19 +20,20 @@ use Rattle.model.specs.Options.{onParole, prioritizePartials, randomPiec
 use Rattle.model.specs.change.Partials.{findDlPiece, partialOf}
 use Rattle.model.specs.pick.Blocks.{PickRequest, option, hasBit, Contiguous, PickState, spent, withOut, withContiguous, withBackup}
 use Rattle.model.specs.pick.Blocks.{ignore, flagged, steps, isIgnored, contiguousIsZero, contiguousAbove, shorter, expandPiece}
-use Rattle.model.specs.pick.Blocks.{piecesOf, pieceBlock, took, tookPast, contiguousMet, contiguousOver, takePiece, spanStep}
-use Rattle.model.specs.pick.Blocks.{spanHalt, takeSpan, takePayload, addNewPiece, RequestedFrom, requestedFrom, freeFrom, setAside}
-use Rattle.model.specs.pick.Blocks.{freeStep, freeHalt, takeFree, keepingContiguous, useFree, addBlocksDownloading, addPartialOf}
-use Rattle.model.specs.pick.Blocks.{addStanding, addBlocks, appendBlocks}
+use Rattle.model.specs.pick.Blocks.{piecesOf, pieceBlock, took, contiguousMet, contiguousOver, takePiece, spanStep, takeSpan}
+use Rattle.model.specs.pick.Blocks.{takePayload, addNewPiece, RequestedFrom, requestedFrom, freeFrom, setAside, freeHalt, takeFree}
+use Rattle.model.specs.pick.Blocks.{keepingContiguous, useFree, addBlocksDownloading, addPartialOf, addStanding, addBlocks}
+use Rattle.model.specs.pick.Blocks.{appendBlocks, PieceBlock}
 use Rattle.model.specs.pick.Pick.{randStep, takeAll}
 use Rattle.model.specs.image.Sound.{partialsFrom, Sound}
 use Rattle.model.proofs.base.Bep3Laws.{blocksPerPiece-pos, blocksPerPiece-le, blocksInPiece-le}
-use Rattle.model.proofs.base.Counts.{length-from, length-filter, count-le}
-use Rattle.model.proofs.base.WalkLaws.{unless-keeps, when-keeps, walkUntil-counts, walk-counts}
+use Rattle.model.proofs.base.Counts.{length-from}
+use Rattle.model.proofs.base.WalkLaws.{unless-keeps, when-keeps, walkUntil-counts, walk-counts, forEach-counts}
 use Rattle.model.proofs.pick.SpanLaws.{least-left, least-right, span-blocks}
 use Rattle.model.proofs.pick.SoundPick.{sound-sized}
 use Rattle.model.proofs.base.Truths.{and-left, and-right, true-both}
-use Rattle.model.proofs.base.Phases.{cond-arms, branch-arms}
+use Rattle.model.proofs.base.Phases.{branch-arms}
+use Rattle.model.proofs.pick.AsideLaws.{aside-arms, free-size, added-most}
 
 -- ---- the geometry
 -- at most 256 blocks
@@ -117,19 +118,6 @@ unfoldable pub Tight : ℕ → ℕ → ℕ → ℕ → PickState → Type 0
 Tight b N R m w =
     Fits b (w .picker .totalSize) (w .picker .pieceSize) (w .picker .partials) × Lean N R m (w .left) (len (w .out)) (len (w .backup)) (w .contiguous .asked)
 
-length-each : {A B : Type 0} (f : A → B) (l : List A) → length (each f l) ≡ length l
-unfolding each
-length-each f [] = refl
-length-each f (x ∷ l) = ap suc (length-each f l)
-
--- a filter leaves no more
-pub filter-size : {A : Type 0} (t : A → Bool) (l : List A) (n : ℕ) → length l ≡ n → length (filter t l) ≤ n
-filter-size t l n e = omega (arith, length-filter t l, count-le t l)
-
-free-size : (d : DownloadingPiece) (first : ℕ) → len (freeFrom d first) ≤ len (d .blocks)
-unfolding freeFrom len
-free-size d first = filter-size _ _ (length (d .blocks)) (length-each _ (from 0 (length (d .blocks))) ∙ length-from 0 (length (d .blocks)))
-
 module _ (b N R : ℕ) where
   -- ---- one block
   -- a greater bound
@@ -161,12 +149,6 @@ module _ (b N R : ℕ) where
   took-tight : (m i j : ℕ) (w : PickState) → Tight b N R m w → Tight b N R (m + 1) (took i j w)
   unfolding Tight took withOut shorter len
   took-tight m i j w h =
-      let e = length-append (w .out) (pieceBlock i j ∷ []) in
-      (h .0, record { rest = omega (arith, h .1 .rest); few = omega (arith, h .1 .few); backup = h .1 .backup; contiguous = h .1 .contiguous })
-
-  past-tight : (m i j : ℕ) (w : PickState) → Tight b N R m w → Tight b N R (m + 1) (tookPast i j w)
-  unfolding Tight tookPast withOut len
-  past-tight m i j w h =
       let e = length-append (w .out) (pieceBlock i j ∷ []) in
       (h .0, record { rest = omega (arith, h .1 .rest); few = omega (arith, h .1 .few); backup = h .1 .backup; contiguous = h .1 .contiguous })
 
@@ -229,7 +211,7 @@ module _ (b N R : ℕ) where
       → (is : List ℕ) (m : ℕ) (w : PickState) → Tight b N R m w → Tight b N R (m + len is * b) (takeSpan takes is w)
   unfolding takeSpan spanStep shorter
   takeSpan-tight takes f is m w h =
-      walkUntil-counts (Tight b N R) tight-more (spanStep takes) b spanHalt
+      forEach-counts (Tight b N R) tight-more (spanStep takes) b
       (λ k i t g. branch-arms (Tight b N R (k + b)) (isIgnored i t) (λ v. withContiguous (shorter (v .contiguous)) v) (λ v. takes i (ignore i v)) t
       (λ e. tight-more k (k + b) (withContiguous (shorter (t .contiguous)) t) (omega arith) (run-tight k (shorter (t .contiguous)) t (asked-le k t g) g))
       (λ e. f k i (ignore i t) (mark-tight k i t g)))
@@ -276,40 +258,30 @@ module _ (b N R : ℕ) where
   small-le d o = leb-true (len (d .blocks)) 256 o
 
   free-tight : (d : DownloadingPiece) (first : ℕ) (w : PickState) → small d ≡ true → 1 ≤ N → Tight b N R (N - 1) w → Tight b N R (N + R + 255) (takeFree d first w)
-  unfolding takeFree freeStep
+  unfolding takeFree
   free-tight d first w o p h =
       tight-more (N - 1 + len (freeFrom d first) * 1) (N + R + 255) (takeFree d first w) (omega (arith, free-size d first, small-le d o))
-      (walkUntil-counts (Tight b N R) tight-more (freeStep (d .piece)) 1 (freeHalt (d .piece))
-      (λ k j t g. cond-arms (Tight b N R (k + 1)) (contiguousAbove 0 (t .contiguous)) (took (d .piece) j t) (tookPast (d .piece) j t)
-      (λ e. took-tight k (d .piece) j t g) (λ e. past-tight k (d .piece) j t g))
+      (walkUntil-counts (Tight b N R) tight-more (took (d .piece)) 1 (freeHalt (d .piece)) (λ k j t g. took-tight k (d .piece) j t g)
       (freeFrom d first) (N - 1) w h)
+
+  -- other blocks set aside, few enough
+  backup-tight-by : (m : ℕ) (bs : List PieceBlock) (w : PickState) → len bs ≤ 2303 → Tight b N R m w → Tight b N R m (withBackup bs w)
+  unfolding Tight withBackup
+  backup-tight-by m bs w l h = (h .0, record { rest = h .1 .rest; few = h .1 .few; backup = l; contiguous = h .1 .contiguous })
 
   module _ (most : N ≤ 2048) where
     aside-tight : (d : DownloadingPiece) (first m : ℕ) (w : PickState) → small d ≡ true → Tight b N R m w → Tight b N R m (setAside d first w)
-    unfolding setAside withBackup Tight len
     aside-tight d first m w o h =
-        let bs = w .backup ++ each (pieceBlock (d .piece)) (freeFrom d first) in
-        let e1 = length-append (w .backup) (each (pieceBlock (d .piece)) (freeFrom d first)) in
-        let e2 = length-each (pieceBlock (d .piece)) (freeFrom d first) in
-        let l = free-size d first in
-        let k = small-le d o in
-        cond-arms (Tight b N R m) (leb (w .left) (len (w .backup))) w (withBackup bs w) (λ e. h)
-        (λ e. (
-          h .0,
-          record {
-            rest = h .1 .rest;
-            few = h .1 .few;
-            backup = let g = leb-false (w .left) (len (w .backup)) e in omega (arith, h .1 .rest);
-            contiguous = h .1 .contiguous;
-          },
-        ))
+        aside-arms (Tight b N R m) d first w h
+        (λ e. backup-tight-by m (w .backup ++ each (pieceBlock (d .piece)) (freeFrom d first)) w
+        (added-most d first w e (omega (arith, tight-left m w h)) (small-le d o)) h)
 
-    use-tight : (a : PickRequest) (d : DownloadingPiece) (held : RequestedFrom) (w : PickState) → small d ≡ true → 1 ≤ N → Tight b N R (N - 1) w
-        → Tight b N R (N + R + 255) (useFree a d held w)
+    use-tight : (d : DownloadingPiece) (held : RequestedFrom) (w : PickState) → small d ≡ true → 1 ≤ N → Tight b N R (N - 1) w
+        → Tight b N R (N + R + 255) (useFree d held w)
     unfolding useFree keepingContiguous
-    use-tight a d held w o p h =
+    use-tight d held w o p h =
         let first = cond (contiguousIsZero (w .contiguous)) 0 (held .first) in
-        branch-arms (Tight b N R (N + R + 255)) (contiguousAbove (held .longest) (w .contiguous) && (held .active && not (option onParole a))) (setAside d first)
+        branch-arms (Tight b N R (N + R + 255)) (contiguousAbove (held .longest) (w .contiguous) && held .active) (setAside d first)
         (keepingContiguous (takeFree d first)) w
         (λ e. tight-more (N - 1) (N + R + 255) (setAside d first w) (omega arith) (aside-tight d first (N - 1) w o h))
         (λ e. run-tight (N + R + 255) (w .contiguous) (takeFree d first w) (asked-le (N - 1) w h) (free-tight d first w o p h))
@@ -321,7 +293,7 @@ module _ (b N R : ℕ) where
     downloading-tight a d w o p h =
         let held = requestedFrom (a .peer) d in
         when-keeps (Tight b N R (N + R + 255)) (hasBit a (d .piece) && (not (d .locked) && (not (option onParole a) || held .exclusive)))
-        (useFree a d held) w (tight-more (N - 1) (N + R + 255) w (omega arith) h) (λ e. use-tight a d held w o p h)
+        (useFree d held) w (tight-more (N - 1) (N + R + 255) w (omega arith) h) (λ e. use-tight d held w o p h)
 
     partial-small : (m i : ℕ) (d : DownloadingPiece) (w : PickState) → Tight b N R m w → partialOf (w .picker) i ≡ some d → small d ≡ true
     unfolding Tight partialOf
@@ -358,14 +330,13 @@ module _ (b N R : ℕ) where
         let n = least (len (w .backup)) (w .left) in
         let e1 = length-append (w .out) (take n (w .backup)) in
         let e2 = length-take n (w .backup) in
-        let e3 = length-drop n (w .backup) in
         let l1 = least-left (len (w .backup)) (w .left) in
         let l2 = least-right (len (w .backup)) (w .left) in (
           h .0,
           record {
             rest = omega (arith, h .1 .rest);
             few = omega (arith, h .1 .rest, h .1 .few);
-            backup = omega (arith, h .1 .backup);
+            backup = omega arith;
             contiguous = h .1 .contiguous;
           },
         )

@@ -3,29 +3,27 @@ use Prim.Native.Nat.{ℕ, _-_}
 use mathlib.Core.Bool.{Bool, false, cond, not, _&&_, _||_}
 use mathlib.Core.List.{List, [], _∷_, _++_}
 use mathlib.Core.Option.{Option, none, some}
-use lib.ListN.{take, drop}
-use lib.Dec.{leb}
+use lib.ListN.{take}
 use Rattle.types.specs.declared.queue.DownloadQueue.the-variants.{Downloading}
 use Rattle.types.specs.Queue.{unreverse}
-use Rattle.model.specs.Lists.{least, from, each, len, when, branch, walk}
+use Rattle.model.specs.Lists.{least, from, len, when, branch, walk, forEach}
 use Rattle.model.specs.State.{DownloadingPiece, sameQueue, isOpen, pieceAt, blocksInPiece, payloadBlocksInPiece}
 use Rattle.model.specs.Options.{onParole, prioritizePartials, randomPieces, randLoops}
 use Rattle.model.specs.change.Partials.{partialOf}
 use Rattle.model.specs.pick.Blocks.{PickRequest, option, hasBit, Contiguous, PieceBlock, PickState, withOut, withContiguous}
 use Rattle.model.specs.pick.Blocks.{withBackup, ignore, flagged, steps, isIgnored, contiguousIsZero, contiguousAbove, shorter}
-use Rattle.model.specs.pick.Blocks.{expandPiece, piecesOf, pieceBlock, took, tookPast, contiguousMet, contiguousOver, takePiece}
-use Rattle.model.specs.pick.Blocks.{spanStep, spanHalt, takeSpan, takePayload, addNewPiece, RequestedFrom, requestedFrom, freeFrom}
-use Rattle.model.specs.pick.Blocks.{setAside, freeStep, freeHalt, takeFree, keepingContiguous, useFree, addBlocksDownloading}
-use Rattle.model.specs.pick.Blocks.{addPartialOf, addStanding, addBlocks, appendBlocks}
+use Rattle.model.specs.pick.Blocks.{expandPiece, piecesOf, pieceBlock, took, contiguousMet, contiguousOver, takePiece, spanStep}
+use Rattle.model.specs.pick.Blocks.{takeSpan, takePayload, addNewPiece, RequestedFrom, requestedFrom, freeFrom, setAside, freeHalt}
+use Rattle.model.specs.pick.Blocks.{takeFree, keepingContiguous, useFree, addBlocksDownloading, addPartialOf, addStanding, addBlocks}
+use Rattle.model.specs.pick.Blocks.{appendBlocks, enoughAside, putAside}
 use Rattle.model.specs.pick.Pick.{randStep, takeAll}
-use Rattle.model.proofs.base.WalkLaws.{unless-keeps, when-keeps, walkUntil-keeps}
-use Rattle.model.proofs.base.Phases.{cond-arms, branch-arms}
+use Rattle.model.proofs.base.WalkLaws.{unless-keeps, when-keeps, walkUntil-keeps, forEach-keeps}
+use Rattle.model.proofs.base.Phases.{branch-arms}
 
 -- a block taken, another run, a mark and a partial set aside keep I
 pub record Closed (I : PickState → Type 0) : Type 0 where
   pub contiguous : (r : Contiguous) (w : PickState) → I w → I (withContiguous r w)
   pub takes : (i j : ℕ) (w : PickState) → I w → I (took i j w)
-  pub past : (i j : ℕ) (w : PickState) → I w → I (tookPast i j w)
   pub marks : (i : ℕ) (w : PickState) → I w → I (ignore i w)
   pub aside : (d : DownloadingPiece) (first : ℕ) (w : PickState) → I w → I (setAside d first w)
 
@@ -43,7 +41,7 @@ module _ (I : PickState → Type 0) (k : Closed I) where
   pub run-keeps : (takes : ℕ → PickState → PickState) → ((i : ℕ) (w : PickState) → I w → I (takes i w)) → (is : List ℕ) (w : PickState) → I w → I (takeSpan takes is w)
   unfolding takeSpan spanStep
   run-keeps takes f is w h =
-      walkUntil-keeps I (spanStep takes) spanHalt
+      forEach-keeps I (spanStep takes)
       (λ i t g. branch-arms I (isIgnored i t) (λ v. withContiguous (shorter (v .contiguous)) v) (λ v. takes i (ignore i v)) t
       (λ e. k .contiguous (shorter (t .contiguous)) t g) (λ e. f i (ignore i t) (k .marks i t g)))
       is w h
@@ -57,19 +55,14 @@ module _ (I : PickState → Type 0) (k : Closed I) where
       (λ e. run-keeps takePayload (λ j t g. piece-blind contiguousMet j (payloadBlocksInPiece (t .picker) j) t g) (piecesOf (expandPiece a i w)) w h)
 
   free-blind : (d : DownloadingPiece) (first : ℕ) (w : PickState) → I w → I (takeFree d first w)
-  unfolding takeFree freeStep
-  free-blind d first w h =
-      walkUntil-keeps I (freeStep (d .piece)) (freeHalt (d .piece))
-      (λ j t g. cond-arms I (contiguousAbove 0 (t .contiguous)) (took (d .piece) j t) (tookPast (d .piece) j t)
-      (λ e. k .takes (d .piece) j t g) (λ e. k .past (d .piece) j t g))
-      (freeFrom d first) w h
+  unfolding takeFree
+  free-blind d first w h = walkUntil-keeps I (took (d .piece)) (freeHalt (d .piece)) (k .takes (d .piece)) (freeFrom d first) w h
 
-  use-blind : (a : PickRequest) (d : DownloadingPiece) (held : RequestedFrom) (w : PickState) → I w → I (useFree a d held w)
+  use-blind : (d : DownloadingPiece) (held : RequestedFrom) (w : PickState) → I w → I (useFree d held w)
   unfolding useFree
-  use-blind a d held w h =
+  use-blind d held w h =
       let first = cond (contiguousIsZero (w .contiguous)) 0 (held .first) in
-      branch-arms I (contiguousAbove (held .longest) (w .contiguous) && (held .active && not (option onParole a))) (setAside d first)
-      (keepingContiguous (takeFree d first)) w
+      branch-arms I (contiguousAbove (held .longest) (w .contiguous) && held .active) (setAside d first) (keepingContiguous (takeFree d first)) w
       (λ e. k .aside d first w h) (λ e. keepingContiguous-keeps I (k .contiguous) (takeFree d first) w (free-blind d first w h))
 
   -- what a partial adds
@@ -77,8 +70,8 @@ module _ (I : PickState → Type 0) (k : Closed I) where
   unfolding addBlocksDownloading
   downloading-keeps a d w h =
       let held = requestedFrom (a .peer) d in
-      when-keeps I (hasBit a (d .piece) && (not (d .locked) && (not (option onParole a) || held .exclusive))) (useFree a d held) w h
-      (λ e. use-blind a d held w h)
+      when-keeps I (hasBit a (d .piece) && (not (d .locked) && (not (option onParole a) || held .exclusive))) (useFree d held) w h
+      (λ e. use-blind d held w h)
 
   partial-blind : (a : PickRequest) (o : Option DownloadingPiece) (w : PickState) → I w → I (addPartialOf a o w)
   unfolding addPartialOf
@@ -118,14 +111,14 @@ pub record Blind (I : PickState → Type 0) : Type 0 where
 
 module _ (I : PickState → Type 0) (k : Blind I) where
   pub blind-closed : Closed I
-  unfolding withContiguous took tookPast setAside
+  unfolding withContiguous took setAside putAside
   blind-closed = record {
     contiguous = λ r w h. k .out (w .left) r (w .out) w h;
     takes = λ i j w h. k .out (w .left - 1) (shorter (w .contiguous)) (w .out ++ (pieceBlock i j ∷ [])) w h;
-    past = λ i j w h. k .out (w .left - 1) (w .contiguous) (w .out ++ (pieceBlock i j ∷ [])) w h;
     marks = k .marks;
-    aside = λ d first w h. let bs = w .backup ++ each (pieceBlock (d .piece)) (freeFrom d first) in
-        cond-arms I (leb (w .left) (len (w .backup))) w (withBackup bs w) (λ e. h) (λ e. k .backup bs w h);
+    aside = λ d first w h.
+        unless-keeps I (enoughAside w) (forEach (putAside (d .piece)) (freeFrom d first)) w h
+        (λ e. forEach-keeps I (putAside (d .piece)) (λ j t g. k .backup (t .backup ++ (pieceBlock (d .piece) j ∷ [])) t g) (freeFrom d first) w h);
   }
 
   -- the blocks set aside, appended
@@ -133,5 +126,5 @@ module _ (I : PickState → Type 0) (k : Blind I) where
   unfolding appendBlocks
   backup-keeps w h =
       let n = least (len (w .backup)) (w .left) in
-      k .backup (drop n (w .backup)) (withOut (w .left - n) (w .contiguous) (w .out ++ take n (w .backup)) w)
+      k .backup [] (withOut (w .left - n) (w .contiguous) (w .out ++ take n (w .backup)) w)
       (k .out (w .left - n) (w .contiguous) (w .out ++ take n (w .backup)) w h)

@@ -15,9 +15,9 @@ use Rattle.model.specs.Options.{randStartLoops, randLoops, busyLoops}
 use Rattle.model.specs.list.Order.{draw}
 use Rattle.model.specs.change.Partials.{inQueue}
 use Rattle.model.specs.pick.Blocks.{PickRequest, option, PickState, startState, spent, withOut, withBackup, withPicker, ignore}
-use Rattle.model.specs.pick.Blocks.{flagged, steps, appendBlocks}
-use Rattle.model.specs.pick.Pick.{effectiveRequest, startPick, pickPartials, partialsDone, pickSuggested, forgetExtent, pickRandom}
-use Rattle.model.specs.pick.Pick.{pickEndGame, withListUpdated, pickListed, pickMain, pickRest, pickPieces}
+use Rattle.model.specs.pick.Blocks.{flagged, steps, appendBlocks, enoughAside}
+use Rattle.model.specs.pick.Pick.{effectiveRequest, startPick, pickPartials, pickSuggested, forgetExtent, pickRandom, pickEndGame}
+use Rattle.model.specs.pick.Pick.{withListUpdated, pickListed, pickMain, pickRest, pickPieces}
 use Rattle.model.proofs.base.WalkLaws.{unless-keeps}
 use Rattle.model.proofs.pick.FrameLaws.{Blind, backup-keeps}
 use Rattle.model.proofs.pick.PhaseLaws.{any, Kept, blind-kept, pickPartials-keeps, pickSuggested-keeps, ring-keeps, pickListed-keeps}
@@ -111,7 +111,7 @@ module _ (k m : ℕ) where
 -- each phase leaves a counter where it was, or higher
 module _ (k : ℕ) (ds : List ℕ) (a : PickRequest) (w : PickState) where
   -- partials
-  pub partials-rise : partialsDone w ≡ false → counter k w ≤ counter k (pickPartials a w)
+  pub partials-rise : enoughAside w ≡ false → counter k w ≤ counter k (pickPartials a w)
   partials-rise d =
       let m = counter k w in
       pickPartials-keeps a any (λ v. m ≤ counter k v) (rises-kept k m a) w d (omega arith)

@@ -12,9 +12,9 @@ use Rattle.model.specs.Options.{rareLoops, randStartLoops, randLoops, bu
 use Rattle.model.specs.list.Order.{draw}
 use Rattle.model.specs.change.Partials.{inQueue}
 use Rattle.model.specs.pick.Blocks.{PickRequest, option, PickState, spent, withOut, withPicker, flagged, steps, pieceBlock}
-use Rattle.model.specs.pick.Blocks.{appendBlocks}
-use Rattle.model.specs.pick.Pick.{pickPartials, partialsDone, pickSuggested, forgetExtent, pickRandom, pickEndGame, withListUpdated}
-use Rattle.model.specs.pick.Pick.{pickListed, pickMain, pickRest}
+use Rattle.model.specs.pick.Blocks.{appendBlocks, enoughAside}
+use Rattle.model.specs.pick.Pick.{pickPartials, pickSuggested, forgetExtent, pickRandom, pickEndGame, withListUpdated, pickListed}
+use Rattle.model.specs.pick.Pick.{pickMain, pickRest}
 use Rattle.model.proofs.base.WalkLaws.{unless-keeps}
 use Rattle.model.proofs.pick.FrameLaws.{backup-keeps}
 use Rattle.model.proofs.pick.PhaseLaws.{any, pickPartials-keeps, pickSuggested-keeps, ring-keeps, pickListed-keeps}
@@ -56,7 +56,7 @@ module _ (k m : ℕ) (a : PickRequest) (loud : k ≡ randLoops → ⊥) where
   upto-step n c d w h = counter-keeps k m n c w d h
 
   -- partials
-  pub upto-partials : (k ≡ partialLoops → ⊥) → (w : PickState) → partialsDone w ≡ false → counter k w ≤ m → counter k (pickPartials a w) ≤ m
+  pub upto-partials : (k ≡ partialLoops → ⊥) → (w : PickState) → enoughAside w ≡ false → counter k w ≤ m → counter k (pickPartials a w) ≤ m
   upto-partials d w e h =
       pickPartials-keeps a any (λ v. counter k v ≤ m) (counter-kept k m a loud) w e h (upto-step (len (inQueue Downloading (w .picker))) partialLoops d w h)
 

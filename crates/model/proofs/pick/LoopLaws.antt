@@ -15,10 +15,10 @@ use Rattle.model.specs.Options.{randStartLoops, randLoops, busyLoops}
 use Rattle.model.specs.list.Order.{drawing, rank, draw, updatePieces}
 use Rattle.model.specs.change.Partials.{inQueue}
 use Rattle.model.specs.pick.Blocks.{PickRequest, option, PickState, startState, spent, withOut, withBackup, withPicker, ignore}
-use Rattle.model.specs.pick.Blocks.{flagged, steps, appendBlocks}
-use Rattle.model.specs.pick.Pick.{effectiveRequest, startPick, pickPartials, partialsDone, suggest, pickSuggested, rareStep}
-use Rattle.model.specs.pick.Pick.{reverseRareStep, forgetExtent, trace, lapStep, walkOver, ringFuel, pickRandom, pickEndGame}
-use Rattle.model.specs.pick.Pick.{withListUpdated, pickListed, pickMain, pickRest, pickPieces}
+use Rattle.model.specs.pick.Blocks.{flagged, steps, appendBlocks, enoughAside}
+use Rattle.model.specs.pick.Pick.{effectiveRequest, startPick, pickPartials, suggest, pickSuggested, rareStep, reverseRareStep}
+use Rattle.model.specs.pick.Pick.{forgetExtent, trace, lapStep, walkOver, ringFuel, pickRandom, pickEndGame, withListUpdated}
+use Rattle.model.specs.pick.Pick.{pickListed, pickMain, pickRest, pickPieces}
 use Rattle.model.specs.image.Sound.{Sound}
 use Rattle.model.specs.Calls.{requestFits}
 use Rattle.model.proofs.base.Bep3Laws.{numPieces-pos}
@@ -33,13 +33,14 @@ use Rattle.model.proofs.pick.CounterLaws.{counter-kept}
 use Rattle.model.proofs.list.ListedLaws.{listed-length-le}
 use Rattle.model.proofs.list.ListingLaws.{updatePieces-listed}
 use Rattle.model.proofs.pick.SoundPick.{Fitting, ask-fits, sound-sized}
-use Rattle.model.proofs.pick.BoundLaws.{filter-size, Tight, small, step-tight}
+use Rattle.model.proofs.pick.BoundLaws.{Tight, small, step-tight}
 use Rattle.model.proofs.pick.OutputLaws.{bounded-kept, start-bounded}
 use Rattle.model.proofs.pick.RandLoops.{rand-loops}
 use Rattle.model.proofs.pick.RingLaws.{Ready, ring-over, ring-skips}
 use Rattle.model.proofs.pick.LoopFrame.{counter-drawn, counter-tried, counter-found, upto-partials, upto-suggested, upto-random}
 use Rattle.model.proofs.pick.LoopFrame.{upto-listed, upto-main, upto-rest}
 use Rattle.model.proofs.base.Phases.{branch-arms}
+use Rattle.model.proofs.pick.AsideLaws.{filter-size}
 
 -- ---- where a pick begins
 queue-size : (q : Picker) → len (inQueue Downloading q) ≤ len (q .partials)
@@ -113,7 +114,7 @@ module _ (ds : List ℕ) (s : Picker) (a : PickRequest) (h : Sound s) (f : reque
   fits : Fitting a
   fits = ask-fits s a f
 
-  more : partialsDone (startPick s a) ≡ false
+  more : enoughAside (startPick s a) ≡ false
   more = start-more s a (fits .some)
 
   few-partials : (q : Picker) → q ≡ s → len (inQueue Downloading q) ≤ 512

@@ -12,9 +12,9 @@ use Rattle.model.specs.Options.{onParole, sequential, rarestFirst, backu
 use Rattle.model.specs.Options.{randStartLoops}
 use Rattle.model.specs.list.Order.{drawing, draw, updatePieces}
 use Rattle.model.specs.pick.Blocks.{PickRequest, option, PickState, startState, spent, withOut, withPicker, flagged, steps}
-use Rattle.model.specs.pick.Blocks.{pieceBlock, appendBlocks}
-use Rattle.model.specs.pick.Pick.{effectiveRequest, startPick, partialsDone, forgetExtent, takeAll, pickRandom, pickEndGame}
-use Rattle.model.specs.pick.Pick.{withListUpdated, pickListed, pickMain, pickRest, phases, pickPieces}
+use Rattle.model.specs.pick.Blocks.{pieceBlock, appendBlocks, enoughAside}
+use Rattle.model.specs.pick.Pick.{effectiveRequest, startPick, forgetExtent, takeAll, pickRandom, pickEndGame, withListUpdated}
+use Rattle.model.specs.pick.Pick.{pickListed, pickMain, pickRest, phases, pickPieces}
 use Rattle.model.specs.image.Sound.{Sound}
 use Rattle.model.specs.Calls.{requestFits}
 use Rattle.model.proofs.base.WalkLaws.{unless-keeps}
@@ -108,7 +108,7 @@ module _ (b N R : ℕ) (most : N ≤ 2048) where
       unless-keeps Final (spent v || option onParole a) (pickEndGame ds a) v (bounded-final v g)
       (λ e. endGame-final ds a v (or-no-left (spent v) (option onParole a) e) g)
 
-  phases-final : (ds : List ℕ) (a : PickRequest) (w : PickState) → partialsDone w ≡ false → Bounded w → Final (phases ds a w)
+  phases-final : (ds : List ℕ) (a : PickRequest) (w : PickState) → enoughAside w ≡ false → Bounded w → Final (phases ds a w)
   unfolding Bounded
   phases-final ds a w d h =
       phases-keeps ds a small Bounded Bounded Final (bounded-kept a) (λ n v g. counts n partialLoops v g) (λ v g. counts 1 suggestLoops v g)

@@ -19,15 +19,15 @@ use Rattle.model.specs.list.Order.{draw}
 use Rattle.model.specs.change.Partials.{inQueue}
 use Rattle.model.specs.pick.Blocks.{PickRequest, option, PickState, startState, spent, withOut, withPicker, ignore, flagged, steps}
 use Rattle.model.specs.pick.Blocks.{contiguousAbove, isPieceFree, expandPiece, piecesOf, pieceBlock, takeSpan, addBlocksDownloading}
-use Rattle.model.specs.pick.Blocks.{addBlocks, appendBlocks}
+use Rattle.model.specs.pick.Blocks.{addBlocks, appendBlocks, enoughAside}
 use Rattle.model.specs.pick.Pick.{isForced, forcedRequest, effectiveRequest, startPick, usable, byRarity, orderedPartials}
-use Rattle.model.specs.pick.Pick.{partialStep, partialsDone, walkPartials, pickPartials, visit, suggest, pickSuggested, leadingTop}
-use Rattle.model.specs.pick.Pick.{visitBelowTop, pickRange, pickSequential, inRange, visitOutside, rareStep, reverseRareStep}
-use Rattle.model.specs.pick.Pick.{ExtentWalk, extentStep, forgetExtent, pickExtents, pickForward, pickRarest, trace, RandomWalk}
-use Rattle.model.specs.pick.Pick.{skipStep, skipDone, skip, takeAll, arrive, randomSpan, randomPiece, randomVisit, ended, marked}
-use Rattle.model.specs.pick.Pick.{lapEnds, lapFrom, lapStep, walkOver, ringFuel, ring, busyBlocks, maxEndGamePieces, fullPartials}
-use Rattle.model.specs.pick.Pick.{EndGame, noPartial, endGameTry, endGameStep, endGameDone, pickEndGame, withListUpdated, pickListed}
-use Rattle.model.specs.pick.Pick.{pickMain, pickRest, phases, scanPartials, partialCompareRarestFirst, pickScanned}
+use Rattle.model.specs.pick.Pick.{partialStep, walkPartials, pickPartials, visit, suggest, pickSuggested, leadingTop, visitBelowTop}
+use Rattle.model.specs.pick.Pick.{pickRange, pickSequential, inRange, visitOutside, rareStep, reverseRareStep, ExtentWalk, extentStep}
+use Rattle.model.specs.pick.Pick.{forgetExtent, pickExtents, pickForward, pickRarest, trace, RandomWalk, skipStep, skipDone, skip}
+use Rattle.model.specs.pick.Pick.{takeAll, arrive, randomSpan, randomPiece, randomVisit, ended, marked, lapEnds, lapFrom, lapStep}
+use Rattle.model.specs.pick.Pick.{walkOver, ringFuel, ring, busyBlocks, maxEndGamePieces, fullPartials, EndGame, noPartial}
+use Rattle.model.specs.pick.Pick.{endGameTry, endGameStep, endGameDone, pickEndGame, withListUpdated, pickListed, pickMain, pickRest}
+use Rattle.model.specs.pick.Pick.{phases, scanPartials, partialCompareRarestFirst, pickScanned}
 use Rattle.model.proofs.pick.FrameLaws.{Blind, blind-closed, run-keeps, downloading-keeps, blocks-keeps, backup-keeps, all-keeps}
 use Rattle.model.proofs.base.WalkLaws.{unless-keeps, when-keeps, repeat-keeps, repeat-counts, walk-keeps-in, walk-keeps}
 use Rattle.model.proofs.base.Truths.{and-left, and-right, or-no-left, or-no-right, true-both}
@@ -59,8 +59,8 @@ module _ (ok : DownloadingPiece → Bool) where
 
 -- ---- where blocks are wanted
 -- more than are set aside
-unspent : (w : PickState) → partialsDone w ≡ false → spent w ≡ false
-unfolding partialsDone spent
+unspent : (w : PickState) → enoughAside w ≡ false → spent w ≡ false
+unfolding enoughAside spent
 unspent w h = ne-eqb (w .left) 0 (λ e. let l = leb-false (w .left) (len (w .backup)) h in omega arith)
 
 -- flags and counters change nothing of that
@@ -79,12 +79,12 @@ module _ (w : PickState) where
   unfolding spent withListUpdated withPicker
   refreshed-spent ds h = h
 
-  flag-more : (f : ℕ) → partialsDone w ≡ false → partialsDone (flagged f w) ≡ false
-  unfolding partialsDone flagged
+  flag-more : (f : ℕ) → enoughAside w ≡ false → enoughAside (flagged f w) ≡ false
+  unfolding enoughAside flagged
   flag-more f h = h
 
-  step-more : (n c : ℕ) → partialsDone w ≡ false → partialsDone (steps n c w) ≡ false
-  unfolding partialsDone steps
+  step-more : (n c : ℕ) → enoughAside w ≡ false → enoughAside (steps n c w) ≡ false
+  unfolding enoughAside steps
   step-more n c h = h
 
 -- what a pick does where blocks are wanted keeps I; `ok` holds of every partial
@@ -137,27 +137,27 @@ kept-both a ok I J k l = record {
 
 module _ (a : PickRequest) (ok : DownloadingPiece → Bool) (I : PickState → Type 0) (k : Kept a ok I) where
   -- ---- partials
-  walkPartials-keeps : (ds : List DownloadingPiece) (w : PickState) → every ok ds ≡ true → partialsDone w ≡ false → I w → I (walkPartials a ds w)
+  walkPartials-keeps : (ds : List DownloadingPiece) (w : PickState) → every ok ds ≡ true → enoughAside w ≡ false → I w → I (walkPartials a ds w)
   unfolding walkPartials partialStep
   walkPartials-keeps ds w q d h =
-      let v = walk (partialStep a) partialsDone ds w in
+      let v = walk (partialStep a) enoughAside ds w in
       let g : I v =
-      walk-keeps-in I (partialStep a) ok partialsDone
+      walk-keeps-in I (partialStep a) ok enoughAside
       (λ x t o e j. k .partial x (flagged prioritizedPartials t) o (flag-spent t prioritizedPartials (unspent t e)) (k .flags prioritizedPartials t j))
       ds w q d h in
       unless-keeps I (spent v) appendBlocks v g (λ e. k .backup v e g)
 
   -- the partials' phase, where counting the partials keeps I
-  pub pickPartials-keeps : (w : PickState) → partialsDone w ≡ false → I w → I (steps (len (inQueue Downloading (w .picker))) partialLoops w)
+  pub pickPartials-keeps : (w : PickState) → enoughAside w ≡ false → I w → I (steps (len (inQueue Downloading (w .picker))) partialLoops w)
       → I (pickPartials a w)
   unfolding pickPartials pickScanned
   pickPartials-keeps w d h i =
       let n = len (inQueue Downloading (w .picker)) in
       let x = scanPartials a w in
       let v = x .work in
-      let m : partialsDone v ≡ false = rw (scan-work a w) (step-more w n partialLoops d) in
+      let m : enoughAside v ≡ false = rw (scan-work a w) (step-more w n partialLoops d) in
       let j : I v = rw (scan-work a w) i in
-      let g = when-keeps (λ u. (partialsDone u ≡ false) × I u) (byRarity a) (flagged rarestFirstPartials) v (m, j)
+      let g = when-keeps (λ u. (enoughAside u ≡ false) × I u) (byRarity a) (flagged rarestFirstPartials) v (m, j)
       (λ q. (flag-more v rarestFirstPartials m, k .flags rarestFirstPartials v j)) in
       when-keeps I (option prioritizePartials a) (λ u. pickScanned a (scanPartials a u)) w h
       (λ e. walkPartials-keeps (orderedPartials a (v .picker) (x .partials)) (when (byRarity a) (flagged rarestFirstPartials) v)
@@ -184,8 +184,9 @@ module _ (a : PickRequest) (ok : DownloadingPiece → Bool) (I : PickState → T
   unfolding suggest steps
   suggest-keeps i w z h =
       let v = steps 1 suggestLoops w in
-      when-keeps I (isPieceFree a (w .picker) i) (λ u. ignore i (visit a suggestedPieces i u)) v h
-      (λ e. k .marks i (visit a suggestedPieces i v) (visit-keeps suggestedPieces i v (step-spent w 1 suggestLoops z) h))
+      when-keeps I (isPieceFree a (w .picker) i) (λ u. ignore i (addBlocks a i (flagged suggestedPieces u))) v h
+      (λ e. k .marks i (addBlocks a i (flagged suggestedPieces v))
+      (k .piece i (flagged suggestedPieces v) (flag-spent v suggestedPieces (step-spent w 1 suggestLoops z)) (k .flags suggestedPieces v h)))
 
   -- the suggestions' phase
   pub pickSuggested-keeps : ((w : PickState) → I w → I (steps 1 suggestLoops w)) → (w : PickState) → spent w ≡ false → I w → I (pickSuggested a w)
@@ -369,7 +370,7 @@ phases-ends ds a H G J Q to-g suggested to-j main to-q rest w h =
 module _ (ds : List ℕ) (a : PickRequest) (ok : DownloadingPiece → Bool) (H J Q : PickState → Type 0) (k : Kept a ok H)
     (counts : (n : ℕ) (w : PickState) → H w → H (steps n partialLoops w)) (suggests : (w : PickState) → H w → H (steps 1 suggestLoops w)) where
   -- partials and suggestions keep H
-  pub beforeMain-keeps : (w : PickState) → partialsDone w ≡ false → H w → H (beforeMain a w)
+  pub beforeMain-keeps : (w : PickState) → enoughAside w ≡ false → H w → H (beforeMain a w)
   unfolding beforeMain
   beforeMain-keeps w d h =
       let p = pickPartials a w in
@@ -379,7 +380,7 @@ module _ (ds : List ℕ) (a : PickRequest) (ok : DownloadingPiece → Bool) (H J
   -- the main walk leads from H to J, backup blocks and end game from J to Q
   pub phases-keeps : ((w : PickState) → H w → J w) → ((w : PickState) → spent w ≡ false → H w → J (pickMain ds a w))
       → ((w : PickState) → J w → Q w) → ((w : PickState) → spent w ≡ false → J w → Q (pickRest ds a w))
-      → (w : PickState) → partialsDone w ≡ false → H w → Q (phases ds a w)
+      → (w : PickState) → enoughAside w ≡ false → H w → Q (phases ds a w)
   phases-keeps into main out rest w d h =
       phases-ends ds a H H J Q (λ v g. g) (pickSuggested-keeps a ok H k suggests) into main out rest w
       (pickPartials-keeps a ok H k w d h (counts (len (inQueue Downloading (w .picker))) w h))
@@ -409,11 +410,11 @@ module _ (s : Picker) (a : PickRequest) where
   unfolding effectiveRequest forcedRequest
   asked-suggestions = cond-arms (λ b. b .suggestions ≡ a .suggestions) (isForced s a) (forcedRequest a) a (λ e. refl) (λ e. refl)
 
-  begin-more : 1 ≤ effectiveRequest s a .wanted → partialsDone (startState s (effectiveRequest s a)) ≡ false
-  unfolding partialsDone startState len
+  begin-more : 1 ≤ effectiveRequest s a .wanted → enoughAside (startState s (effectiveRequest s a)) ≡ false
+  unfolding enoughAside startState len
   begin-more h = lt-leb (effectiveRequest s a .wanted) 0 h
 
   -- at the start more blocks are wanted than are set aside
-  pub start-more : 1 ≤ a .wanted → partialsDone (startPick s a) ≡ false
+  pub start-more : 1 ≤ a .wanted → enoughAside (startPick s a) ≡ false
   start-more h =
-      startPick-keeps (λ w. partialsDone w ≡ false) (λ f w g. flag-more w f g) (begin-more (rw asked-wanted h))
+      startPick-keeps (λ w. enoughAside w ≡ false) (λ f w g. flag-more w f g) (begin-more (rw asked-wanted h))

@@ -11,8 +11,8 @@ use Rattle.model.specs.Options.{onParole, sequential, rarestFirst, backu
 use Rattle.model.specs.Options.{randStartLoops, randLoops}
 use Rattle.model.specs.list.Order.{drawing, draw, updatePieces}
 use Rattle.model.specs.pick.Blocks.{PickRequest, option, PickState, startState, spent, withOut, withBackup, withPicker, ignore}
-use Rattle.model.specs.pick.Blocks.{flagged, steps, appendBlocks}
-use Rattle.model.specs.pick.Pick.{effectiveRequest, startPick, partialsDone, forgetExtent, pickRandom, maxEndGamePieces, pickEndGame}
+use Rattle.model.specs.pick.Blocks.{flagged, steps, appendBlocks, enoughAside}
+use Rattle.model.specs.pick.Pick.{effectiveRequest, startPick, forgetExtent, pickRandom, maxEndGamePieces, pickEndGame}
 use Rattle.model.specs.pick.Pick.{withListUpdated, pickListed, pickMain, pickRest, phases, pickPieces}
 use Rattle.model.proofs.base.WalkLaws.{unless-keeps}
 use Rattle.model.proofs.pick.FrameLaws.{Blind, backup-keeps}
@@ -119,7 +119,7 @@ module _ (ds : List ℕ) (s : Picker) where
       unless-keeps (Of (Left ds s 201)) (spent v || option onParole a) (pickEndGame ds a) v (leaves-left 201 v g) (λ e. endGame-leaves a v g)
 
   -- what a pick leaves, where it has begun and blocks are wanted
-  phases-leave : (a : PickRequest) (w : PickState) → partialsDone w ≡ false → Of Begun w → Of (Left ds s 201) (phases ds a w)
+  phases-leave : (a : PickRequest) (w : PickState) → enoughAside w ≡ false → Of Begun w → Of (Left ds s 201) (phases ds a w)
   phases-leave a w d h =
       phases-keeps ds a any (Of Begun) (Of (Leaves ds s)) (Of (Left ds s 201)) (of-kept Begun a)
       (λ n v g. of-steps Begun n partialLoops v g) (of-steps Begun 1 suggestLoops)

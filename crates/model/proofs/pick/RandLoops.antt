@@ -5,16 +5,15 @@ use native.Mathlib.Omega.{arith}
 use mathlib.Core.Bool.{true, false, _||_}
 use mathlib.Core.List.{List, [], _∷_, _++_}
 use mathlib.Core.Option.{Option, none, some}
-use lib.Dec.{leb}
 use lib.ListN.{take, length-append}
-use Rattle.model.specs.Lists.{least, from, each, len, walk}
+use Rattle.model.specs.Lists.{least, from, len, walk}
 use Rattle.model.specs.State.{Picker, piecesIn, blocksInPiece}
 use Rattle.model.specs.Options.{onParole, sequential, rarestFirst, backup1, endGame, randomPieces, partialLoops, suggestLoops}
 use Rattle.model.specs.Options.{reverseRareLoops, rareLoops, randStartLoops, randLoops, busyLoops}
 use Rattle.model.specs.list.Order.{draw}
 use Rattle.model.specs.pick.Blocks.{PickRequest, option, PickState, startState, spent, withOut, withContiguous, withBackup}
-use Rattle.model.specs.pick.Blocks.{withPicker, ignore, flagged, steps, expandPiece, piecesOf, pieceBlock, took, tookPast}
-use Rattle.model.specs.pick.Blocks.{contiguousOver, freeFrom, setAside, appendBlocks}
+use Rattle.model.specs.pick.Blocks.{withPicker, ignore, flagged, steps, expandPiece, piecesOf, pieceBlock, took, contiguousOver}
+use Rattle.model.specs.pick.Blocks.{appendBlocks}
 use Rattle.model.specs.pick.Pick.{effectiveRequest, startPick, forgetExtent, randStep, takeAll, pickRandom, pickEndGame}
 use Rattle.model.specs.pick.Pick.{withListUpdated, pickListed, pickMain, pickRest, pickPieces}
 use Rattle.model.specs.image.Sound.{Sound}
@@ -26,7 +25,8 @@ use Rattle.model.proofs.pick.PhaseLaws.{startPick-keeps, start-more}
 use Rattle.model.proofs.pick.CounterLaws.{counter, counter-step, counter-other, begin-zero}
 use Rattle.model.proofs.pick.SoundPick.{ask-fits}
 use Rattle.model.proofs.pick.OutputLaws.{pick-output}
-use Rattle.model.proofs.base.Phases.{cond-arms, branch-arms}
+use Rattle.model.proofs.base.Phases.{branch-arms}
+use Rattle.model.proofs.pick.AsideLaws.{aside-arms}
 
 -- no more counted than appended
 unfoldable Counted : PickState → Type 0
@@ -34,14 +34,12 @@ Counted w = counter randLoops w ≤ len (w .out)
 
 -- ---- a piece
 counted-closed : Closed Counted
-unfolding Counted counter len withContiguous took tookPast withOut ignore setAside withBackup
+unfolding Counted counter len withContiguous took withOut ignore withBackup
 counted-closed = record {
   contiguous = λ r w h. h;
   takes = λ i j w h. omega (arith, length-append (w .out) (pieceBlock i j ∷ []));
-  past = λ i j w h. omega (arith, length-append (w .out) (pieceBlock i j ∷ []));
   marks = λ i w h. h;
-  aside = λ d first w h.
-      cond-arms Counted (leb (w .left) (len (w .backup))) w (withBackup (w .backup ++ each (pieceBlock (d .piece)) (freeFrom d first)) w) (λ e. h) (λ e. h);
+  aside = λ d first w h. aside-arms Counted d first w h (λ e. h);
 }
 
 counted-flag : (f : ℕ) (w : PickState) → Counted w → Counted (flagged f w)

@@ -298,8 +298,7 @@ module _ (n start b N R : ℕ) (start-in : start < n) (n-most : n ≤ 4096) (N-m
         (λ q y. elim (decLe start i) [
           | yes l ↦ inl (nearer q f (far-on n start start-in i (x .end - 1) (omega arith) r (λ p. absurd (omega arith))))
           | no l ↦ elim (decLe start (x .end - 1)) [
-            | yes p ↦ inr (⊎-elim (λ u. absurd (true≢false (sym u ∙ y))) (λ u. u)
-                (run-rises i w in-marks (h .work .torrent .blocks i (h .inside)) is (member-span (w .picker) i (around .0) x o) (h .unmarked) g))
+            | yes p ↦ inr (run-rises i w in-marks (h .work .torrent .blocks i (h .inside)) is (member-span (w .picker) i (around .0) x o) (h .unmarked) g)
             | no p ↦ inl (nearer q f (far-on n start start-in i (x .end - 1) (omega arith) r (λ u. omega arith)))
           ]
         ])

@@ -3,13 +3,13 @@ use Prim.Native.Nat.{ℕ, zero, suc, _+_, _-_, _/_, _%_}
 use mathlib.Core.Bool.{Bool, true, false, cond, not, _&&_, _||_}
 use mathlib.Core.List.{List, [], _∷_, _++_}
 use mathlib.Core.Option.{Option, none, some}
-use lib.ListN.{take, drop, replicate}
+use lib.ListN.{take, replicate}
 use lib.Dec.{eqb, ltb, leb}
 use Rattle.types.specs.declared.queue.DownloadQueue.the-variants.{Downloading}
 use Rattle.types.specs.declared.block.BlockState.the-variants.{None, Requested}
 use Rattle.types.specs.Queue.{unreverse}
 use Rattle.types.specs.Bits.{meets, union}
-use Rattle.model.specs.Lists.{least, from, range, filter, each, any, nth, setNth, len, unless, when, branch, walk, walkUntil}
+use Rattle.model.specs.Lists.{least, from, range, filter, each, any, nth, setNth, len, unless, when, branch, walk, walkUntil, forEach}
 use Rattle.model.specs.Bep3.{bitAt}
 use Rattle.model.specs.State.{Block, DownloadingPiece, Picker, maxPieces, sameQueue, isOpen, sameBlockState, samePeer, hasPeer}
 use Rattle.model.specs.State.{pieceAt, piecesIn, blocksPerPiece, payloadBlocksInPiece}
@@ -254,10 +254,6 @@ pieceBlock i j = record { piece = i; block = j }
 unfoldable pub took : ℕ → ℕ → PickState → PickState
 took i j w = withOut (w .left - 1) (shorter (w .contiguous)) (w .out ++ (pieceBlock i j ∷ [])) w
 
--- the same, past the run
-unfoldable pub tookPast : ℕ → ℕ → PickState → PickState
-tookPast i j w = withOut (w .left - 1) (w .contiguous) (w .out ++ (pieceBlock i j ∷ [])) w
-
 -- exactly the run has been given, and no block is wanted
 unfoldable pub contiguousMet : PickState → Bool
 contiguousMet w = contiguousIsZero (w .contiguous) && spent w
@@ -274,13 +270,9 @@ takePiece ends i n w = walk (took i) ends (from 0 n) w
 unfoldable pub spanStep : (ℕ → PickState → PickState) → ℕ → PickState → PickState
 spanStep takes k w = branch (isIgnored k w) (λ v. withContiguous (shorter (v .contiguous)) v) (λ v. takes k (ignore k v)) w
 
--- at an ignored piece the run may end
-unfoldable pub spanHalt : ℕ → PickState → Bool
-spanHalt k w = isIgnored k w && contiguousMet (withContiguous (shorter (w .contiguous)) w)
-
--- the pieces of a run in turn
+-- the pieces of a run in turn. The Rust leaves at an ignored piece where run and N are met: that can only be the last
 unfoldable pub takeSpan : (ℕ → PickState → PickState) → List ℕ → PickState → PickState
-takeSpan takes ks w = walkUntil (spanStep takes) spanHalt ks w
+takeSpan takes ks w = forEach (spanStep takes) ks w
 
 -- ---- new pieces
 unfoldable pub takePayload : ℕ → PickState → PickState
@@ -337,40 +329,42 @@ unfoldable pub freeFrom : DownloadingPiece → ℕ → List ℕ
 freeFrom d first =
     filter (λ j. sameBlockState (blockAt d j .state) None) (each (λ k. (k + first) % len (d .blocks)) (from 0 (len (d .blocks))))
 
--- the free blocks kept as backup, unless as many as are wanted are there already
+-- as many blocks are set aside as are wanted
+unfoldable pub enoughAside : PickState → Bool
+enoughAside w = leb (w .left) (len (w .backup))
+
+-- block j of piece i set aside
+unfoldable pub putAside : ℕ → ℕ → PickState → PickState
+putAside i j w = withBackup (w .backup ++ (pieceBlock i j ∷ [])) w
+
+-- the free blocks set aside, unless enough are there already
 unfoldable pub setAside : DownloadingPiece → ℕ → PickState → PickState
-setAside d first w =
-    cond (leb (w .left) (len (w .backup))) w
-    (withBackup (w .backup ++ each (pieceBlock (d .piece)) (freeFrom d first)) w)
+setAside d first w = unless (enoughAside w) (forEach (putAside (d .piece)) (freeFrom d first)) w
 
--- a free block taken: towards the run while it lasts
-unfoldable pub freeStep : ℕ → ℕ → PickState → PickState
-freeStep i j w = cond (contiguousAbove 0 (w .contiguous)) (took i j w) (tookPast i j w)
-
--- past the run the last wanted block ends it
+-- the last wanted block ends the walk, once the run is over
 unfoldable pub freeHalt : ℕ → ℕ → PickState → Bool
-freeHalt i j w = not (contiguousAbove 0 (w .contiguous)) && spent (tookPast i j w)
+freeHalt i j w = not (contiguousAbove 0 (w .contiguous)) && spent (took i j w)
 
--- the free blocks taken
+-- the free blocks taken. The Rust's copy of the run stays at 0 once it is there; it only asks whether it is above
 unfoldable pub takeFree : DownloadingPiece → ℕ → PickState → PickState
-takeFree d first w = walkUntil (freeStep (d .piece)) (freeHalt (d .piece)) (freeFrom d first) w
+takeFree d first w = walkUntil (took (d .piece)) (freeHalt (d .piece)) (freeFrom d first) w
 
 -- the pick's own run stays as it is
 unfoldable pub keepingContiguous : (PickState → PickState) → PickState → PickState
 keepingContiguous f w = withContiguous (w .contiguous) (f w)
 
--- set aside where the run does not fit and another peer is at work; else taken
-unfoldable pub useFree : PickRequest → DownloadingPiece → RequestedFrom → PickState → PickState
-useFree a d h w =
+-- set aside where the run does not fit and another peer is at work; else taken. The Rust asks here for a peer on parole, too:
+-- such a peer comes here only where no other is at work
+unfoldable pub useFree : DownloadingPiece → RequestedFrom → PickState → PickState
+useFree d h w =
     let first = cond (contiguousIsZero (w .contiguous)) 0 (h .first) in
-    branch (contiguousAbove (h .longest) (w .contiguous) && (h .active && not (option onParole a))) (setAside d first)
-    (keepingContiguous (takeFree d first)) w
+    branch (contiguousAbove (h .longest) (w .contiguous) && h .active) (setAside d first) (keepingContiguous (takeFree d first)) w
 
 -- what a partial adds: none that the peer lacks, that is locked or, on parole, that another touched
 unfoldable pub addBlocksDownloading : PickRequest → DownloadingPiece → PickState → PickState
 addBlocksDownloading a d w =
     let h = requestedFrom (a .peer) d in
-    when (hasBit a (d .piece) && (not (d .locked) && (not (option onParole a) || h .exclusive))) (useFree a d h) w
+    when (hasBit a (d .piece) && (not (d .locked) && (not (option onParole a) || h .exclusive))) (useFree d h) w
 
 -- ---- a piece
 unfoldable pub addPartialOf : PickRequest → Option DownloadingPiece → PickState → PickState
@@ -389,8 +383,9 @@ addBlocks a i w =
     (branch (isOpen q) (keepingContiguous (addNewPiece a i)) (when (sameQueue (unreverse q) Downloading) (addStanding a i))) w
 
 -- ---- backup blocks
--- as many as are wanted of the blocks set aside
+-- `append_blocks`: as many as are wanted of the blocks set aside, and none is set aside from here on. The Rust leaves there those that
+-- are not wanted: then N is spent, and the pick is over
 unfoldable pub appendBlocks : PickState → PickState
 appendBlocks w =
     let n = least (len (w .backup)) (w .left) in
-    withBackup (drop n (w .backup)) (withOut (w .left - n) (w .contiguous) (w .out ++ take n (w .backup)) w)
+    withBackup [] (withOut (w .left - n) (w .contiguous) (w .out ++ take n (w .backup)) w)

@@ -21,7 +21,7 @@ use Rattle.model.specs.list.Order.{drawing, draw, updatePieces}
 use Rattle.model.specs.change.Partials.{blockAt, progress, inQueue}
 use Rattle.model.specs.pick.Blocks.{PickRequest, option, hasBit, PickState, startState, spent, withOut, withPicker, ignore, flagged}
 use Rattle.model.specs.pick.Blocks.{steps, isIgnored, contiguousAbove, isPieceFree, expandPiece, piecesOf, pieceBlock, took}
-use Rattle.model.specs.pick.Blocks.{contiguousOver, takeSpan, addBlocksDownloading, addBlocks, appendBlocks}
+use Rattle.model.specs.pick.Blocks.{contiguousOver, takeSpan, addBlocksDownloading, addBlocks, appendBlocks, enoughAside}
 
 -- ---- the forcing rule
 -- too many partials for the peers, or too many blocks in them
@@ -95,14 +95,10 @@ orderedPartials a s ds = cond (byRarity a) (sortBy (partialCompareRarestFirst s)
 unfoldable pub partialStep : PickRequest → DownloadingPiece → PickState → PickState
 partialStep a d w = addBlocksDownloading a d (flagged prioritizedPartials w)
 
--- N spent, or as many blocks set aside as are wanted
-unfoldable pub partialsDone : PickState → Bool
-partialsDone w = leb (w .left) (len (w .backup))
-
--- partials in turn, then the blocks set aside
+-- partials in turn, until N is spent or enough blocks are set aside; then these
 unfoldable pub walkPartials : PickRequest → List DownloadingPiece → PickState → PickState
 walkPartials a ds w =
-    let v = walk (partialStep a) partialsDone ds w in
+    let v = walk (partialStep a) enoughAside ds w in
     unless (spent v) appendBlocks v
 
 -- those found, in their order
@@ -121,7 +117,7 @@ visit a f i w = when (isPieceFree a (w .picker) i) (λ v. addBlocks a i (flagged
 
 -- ---- suggestions
 unfoldable pub suggest : PickRequest → ℕ → PickState → PickState
-suggest a i w = when (isPieceFree a (w .picker) i) (λ v. ignore i (visit a suggestedPieces i v)) (steps 1 suggestLoops w)
+suggest a i w = when (isPieceFree a (w .picker) i) (λ v. ignore i (addBlocks a i (flagged suggestedPieces v))) (steps 1 suggestLoops w)
 
 -- the second phase
 unfoldable pub pickSuggested : PickRequest → PickState → PickState
