@@ -4,3 +4,4 @@ pub mod Phases
 pub mod Counts
 pub mod WalkLaws
 pub mod SortLaws
+pub mod WalkLists

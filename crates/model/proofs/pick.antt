@@ -15,3 +15,4 @@ pub mod RandLoops
 pub mod LoopFrame
 pub mod LoopCount
 pub mod LoopLaws
+pub mod LeftOutLaws
