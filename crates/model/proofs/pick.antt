@@ -1,5 +1,6 @@
 pub mod ScanLaws
 pub mod AsideLaws
+pub mod FoundLaws
 pub mod FrameLaws
 pub mod PhaseLaws
 pub mod CounterLaws
@@ -16,3 +17,4 @@ pub mod LoopFrame
 pub mod LoopCount
 pub mod LoopLaws
 pub mod LeftOutLaws
+pub mod AddLaws

@@ -1,15 +1,14 @@
 -- What a piece adds to a pick, in numbers: with `left` blocks wanted of N, N less what is appended are left, a piece appends at most 255
 -- past N, and a run at most its own length more; at most 2,303 blocks are set aside. Assumes nothing.
 use mathlib.Core.Path.{_≡_, refl}
-use mathlib.Core.Logic.{_⊎_, inl, inr, ⊎-elim}
-use Prim.Native.Nat.{ℕ, suc, _+_, _-_, _*_, _≤_}
+use Prim.Native.Nat.{ℕ, _+_, _-_, _*_, _≤_}
 use native.Mathlib.Omega.{arith}
 use mathlib.Core.Bool.{Bool, true, false, cond, not, _&&_, _||_}
 use mathlib.Core.List.{List, [], _∷_, _++_}
 use mathlib.Core.Option.{Option, none, some}
 use lib.ListN.{length, take, length-append, length-take}
-use lib.Dec.{eqb, ltb, leb}
-use borrow.Author.Tests.{eqb-true, eqb-false, eq-eqb, ne-eqb, ltb-true, leb-true, le-leb}
+use lib.Dec.{leb}
+use borrow.Author.Tests.{eqb-false, leb-true, le-leb}
 use Rattle.types.specs.declared.queue.DownloadQueue.the-variants.{Downloading}
 use Rattle.types.specs.Queue.{unreverse}
 use Rattle.model.specs.Lists.{least, from, each, every, len, when, branch, walk}
@@ -25,15 +24,15 @@ use Rattle.model.specs.pick.Blocks.{takePayload, addNewPiece, RequestedF
 use Rattle.model.specs.pick.Blocks.{keepingContiguous, useFree, addBlocksDownloading, addPartialOf, addStanding, addBlocks}
 use Rattle.model.specs.pick.Blocks.{appendBlocks, PieceBlock}
 use Rattle.model.specs.pick.Pick.{randStep, takeAll}
-use Rattle.model.specs.image.Sound.{partialsFrom, Sound}
+use Rattle.model.specs.image.Sound.{Sound}
 use Rattle.model.proofs.base.Bep3Laws.{blocksPerPiece-pos, blocksPerPiece-le, blocksInPiece-le}
 use Rattle.model.proofs.base.Counts.{length-from}
 use Rattle.model.proofs.base.WalkLaws.{unless-keeps, when-keeps, walkUntil-counts, walk-counts, forEach-counts}
 use Rattle.model.proofs.pick.SpanLaws.{least-left, least-right, span-blocks}
 use Rattle.model.proofs.pick.SoundPick.{sound-sized}
-use Rattle.model.proofs.base.Truths.{and-left, and-right, true-both}
 use Rattle.model.proofs.base.Phases.{branch-arms}
-use Rattle.model.proofs.pick.AsideLaws.{aside-arms, free-size, added-most}
+use Rattle.model.proofs.pick.AsideLaws.{aside-arms, free-size, added-most, mostAside}
+use Rattle.model.proofs.pick.FoundLaws.{every-found, found-every}
 
 -- ---- the geometry
 -- at most 256 blocks
@@ -47,42 +46,6 @@ pub record Fits (b totalSize pieceSize : ℕ) (ds : List DownloadingPiece) : Typ
   pub most : b ≤ 256
   pub piece : (i : ℕ) → pieceBlocks totalSize pieceSize i ≤ b
   pub partials : every small ds ≡ true
-
-nothing : {C : Type 0} (d : DownloadingPiece) → none ≡ some d → C
-nothing d e = let z : _≡_ {A = ℕ} 0 1 = cc in absurd (omega arith)
-
--- the first partial is the one found, or the rest has it
-first-or-rest : (b : Bool) (c d : DownloadingPiece) (o : Option DownloadingPiece) → cond b (some c) o ≡ some d → ((b ≡ true) × (c ≡ d)) ⊎ ((b ≡ false) × (o ≡ some d))
-first-or-rest true c d o e = let p : c ≡ d = cc in inl (refl, p)
-first-or-rest false c d o e = inr (refl, e)
-
-found-from : (lo i : ℕ) (d : DownloadingPiece) (ds : List DownloadingPiece) → partialsFrom lo ds ≡ true → findDlPiece i ds ≡ some d → lo ≤ i
-unfolding partialsFrom findDlPiece
-found-from lo i d [] h g = nothing d g
-found-from lo i d (e ∷ ds) h g =
-    let l = ltb-true lo (suc (e .piece)) (and-left (ltb lo (suc (e .piece))) (partialsFrom (suc (e .piece)) ds) h) in
-    let r = and-right (ltb lo (suc (e .piece))) (partialsFrom (suc (e .piece)) ds) h in
-    ⊎-elim (λ x. let q = eqb-true (e .piece) i (x .0) in omega arith) (λ x. let q = found-from (suc (e .piece)) i d ds r (x .1) in omega arith)
-    (first-or-rest (eqb (e .piece) i) e d (findDlPiece i ds) g)
-
--- what holds of each partial that is found holds of every partial
-every-found : (ok : DownloadingPiece → Bool) (lo : ℕ) (ds : List DownloadingPiece) → partialsFrom lo ds ≡ true
-    → ((i : ℕ) (d : DownloadingPiece) → findDlPiece i ds ≡ some d → ok d ≡ true) → every ok ds ≡ true
-unfolding partialsFrom findDlPiece every
-every-found ok lo [] h f = refl
-every-found ok lo (d ∷ ds) h f =
-    let r = and-right (ltb lo (suc (d .piece))) (partialsFrom (suc (d .piece)) ds) h in
-    true-both (ok d) (every ok ds) (f (d .piece) d (rw (eq-eqb (d .piece) (d .piece) refl)))
-    (every-found ok (suc (d .piece)) ds r
-    (λ i e g. let l = found-from (suc (d .piece)) i e ds r g in f i e (rw (ne-eqb (d .piece) i (λ q. omega arith)) g)))
-
--- and the other way
-found-every : (ok : DownloadingPiece → Bool) (ds : List DownloadingPiece) → every ok ds ≡ true → (i : ℕ) (d : DownloadingPiece) → findDlPiece i ds ≡ some d → ok d ≡ true
-unfolding findDlPiece every
-found-every ok [] h i d e = nothing d e
-found-every ok (c ∷ ds) h i d e =
-    ⊎-elim (λ x. rw (x .1) at (and-left (ok c) (every ok ds) h)) (λ x. found-every ok ds (and-right (ok c) (every ok ds) h) i d (x .1))
-    (first-or-rest (eqb (c .piece) i) c d (findDlPiece i ds) e)
 
 sound-small : (s : Picker) → Sound s → (i : ℕ) (d : DownloadingPiece) → findDlPiece i (s .partials) ≡ some d → small d ≡ true
 unfolding small partialOf blocksInPiece
@@ -110,7 +73,7 @@ sound-fits s h =
 pub record Lean (N R m left taken aside asked : ℕ) : Type 0 where
   pub rest : left ≡ N - taken
   pub few : taken ≤ m
-  pub backup : aside ≤ 2303
+  pub backup : aside ≤ mostAside
   pub contiguous : asked ≤ R
 
 -- the geometry and the accounting of a work
@@ -265,7 +228,7 @@ module _ (b N R : ℕ) where
       (freeFrom d first) (N - 1) w h)
 
   -- other blocks set aside, few enough
-  backup-tight-by : (m : ℕ) (bs : List PieceBlock) (w : PickState) → len bs ≤ 2303 → Tight b N R m w → Tight b N R m (withBackup bs w)
+  backup-tight-by : (m : ℕ) (bs : List PieceBlock) (w : PickState) → len bs ≤ mostAside → Tight b N R m w → Tight b N R m (withBackup bs w)
   unfolding Tight withBackup
   backup-tight-by m bs w l h = (h .0, record { rest = h .1 .rest; few = h .1 .few; backup = l; contiguous = h .1 .contiguous })
 

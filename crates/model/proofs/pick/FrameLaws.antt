@@ -1,12 +1,12 @@
 -- What a piece adds to a pick keeps every predicate that each block taken, each mark and each partial set aside keeps. Assumes nothing.
 use Prim.Native.Nat.{ℕ, _-_}
-use mathlib.Core.Bool.{Bool, false, cond, not, _&&_, _||_}
+use mathlib.Core.Bool.{Bool, false, cond, not, _&&_, _||_, true}
 use mathlib.Core.List.{List, [], _∷_, _++_}
 use mathlib.Core.Option.{Option, none, some}
 use lib.ListN.{take}
 use Rattle.types.specs.declared.queue.DownloadQueue.the-variants.{Downloading}
 use Rattle.types.specs.Queue.{unreverse}
-use Rattle.model.specs.Lists.{least, from, len, when, branch, walk, forEach}
+use Rattle.model.specs.Lists.{least, from, len, when, branch, walk, forEach, every}
 use Rattle.model.specs.State.{DownloadingPiece, sameQueue, isOpen, pieceAt, blocksInPiece, payloadBlocksInPiece}
 use Rattle.model.specs.Options.{onParole, prioritizePartials, randomPieces, randLoops}
 use Rattle.model.specs.change.Partials.{partialOf}
@@ -19,20 +19,33 @@ use Rattle.model.specs.pick.Blocks.{appendBlocks, enoughAside, putAside}
 use Rattle.model.specs.pick.Pick.{randStep, takeAll}
 use Rattle.model.proofs.base.WalkLaws.{unless-keeps, when-keeps, walkUntil-keeps, forEach-keeps}
 use Rattle.model.proofs.base.Phases.{branch-arms}
+use mathlib.Core.Path.{_≡_, refl}
+use Rattle.model.proofs.pick.FoundLaws.{found-every}
 
--- a block taken, another run, a mark and a partial set aside keep I
-pub record Closed (I : PickState → Type 0) : Type 0 where
+-- any partial
+unfoldable pub anyPartial : DownloadingPiece → Bool
+anyPartial d = true
+
+-- all partials are that
+pub every-any : (ds : List DownloadingPiece) → every anyPartial ds ≡ true
+unfolding every anyPartial
+every-any [] = refl
+every-any (d ∷ ds) = every-any ds
+
+-- a block taken, another run, a mark and a partial set aside keep I; `ok` holds of every partial
+pub record Closed (ok : DownloadingPiece → Bool) (I : PickState → Type 0) : Type 0 where
+  pub ready : (w : PickState) → I w → every ok (w .picker .partials) ≡ true
   pub contiguous : (r : Contiguous) (w : PickState) → I w → I (withContiguous r w)
   pub takes : (i j : ℕ) (w : PickState) → I w → I (took i j w)
   pub marks : (i : ℕ) (w : PickState) → I w → I (ignore i w)
-  pub aside : (d : DownloadingPiece) (first : ℕ) (w : PickState) → I w → I (setAside d first w)
+  pub aside : (d : DownloadingPiece) (first : ℕ) (w : PickState) → ok d ≡ true → I w → I (setAside d first w)
 
 -- work that leaves the run as it was
 pub keepingContiguous-keeps : (I : PickState → Type 0) → ((r : Contiguous) (w : PickState) → I w → I (withContiguous r w)) → (f : PickState → PickState) (w : PickState) → I (f w) → I (keepingContiguous f w)
 unfolding keepingContiguous
 keepingContiguous-keeps I runs f w h = runs (w .contiguous) (f w) h
 
-module _ (I : PickState → Type 0) (k : Closed I) where
+module _ (ok : DownloadingPiece → Bool) (I : PickState → Type 0) (k : Closed ok I) where
   piece-blind : (ends : PickState → Bool) (i n : ℕ) (w : PickState) → I w → I (takePiece ends i n w)
   unfolding takePiece walk
   piece-blind ends i n w h = walkUntil-keeps I (took i) (λ x t. ends (took i x t)) (k .takes i) (from 0 n) w h
@@ -58,31 +71,31 @@ module _ (I : PickState → Type 0) (k : Closed I) where
   unfolding takeFree
   free-blind d first w h = walkUntil-keeps I (took (d .piece)) (freeHalt (d .piece)) (k .takes (d .piece)) (freeFrom d first) w h
 
-  use-blind : (d : DownloadingPiece) (held : RequestedFrom) (w : PickState) → I w → I (useFree d held w)
+  use-blind : (d : DownloadingPiece) (held : RequestedFrom) (w : PickState) → ok d ≡ true → I w → I (useFree d held w)
   unfolding useFree
-  use-blind d held w h =
+  use-blind d held w o h =
       let first = cond (contiguousIsZero (w .contiguous)) 0 (held .first) in
       branch-arms I (contiguousAbove (held .longest) (w .contiguous) && held .active) (setAside d first) (keepingContiguous (takeFree d first)) w
-      (λ e. k .aside d first w h) (λ e. keepingContiguous-keeps I (k .contiguous) (takeFree d first) w (free-blind d first w h))
+      (λ e. k .aside d first w o h) (λ e. keepingContiguous-keeps I (k .contiguous) (takeFree d first) w (free-blind d first w h))
 
   -- what a partial adds
-  pub downloading-keeps : (a : PickRequest) (d : DownloadingPiece) (w : PickState) → I w → I (addBlocksDownloading a d w)
+  pub downloading-keeps : (a : PickRequest) (d : DownloadingPiece) (w : PickState) → ok d ≡ true → I w → I (addBlocksDownloading a d w)
   unfolding addBlocksDownloading
-  downloading-keeps a d w h =
+  downloading-keeps a d w o h =
       let held = requestedFrom (a .peer) d in
       when-keeps I (hasBit a (d .piece) && (not (d .locked) && (not (option onParole a) || held .exclusive))) (useFree d held) w h
-      (λ e. use-blind d held w h)
+      (λ e. use-blind d held w o h)
 
-  partial-blind : (a : PickRequest) (o : Option DownloadingPiece) (w : PickState) → I w → I (addPartialOf a o w)
-  unfolding addPartialOf
-  partial-blind a none w h = h
-  partial-blind a (some d) w h = downloading-keeps a d w h
+  partial-blind : (a : PickRequest) (i : ℕ) (o : Option DownloadingPiece) (w : PickState) → partialOf (w .picker) i ≡ o → I w → I (addPartialOf a o w)
+  unfolding addPartialOf partialOf
+  partial-blind a i none w e h = h
+  partial-blind a i (some d) w e h = downloading-keeps a d w (found-every ok (w .picker .partials) (k .ready w h) i d e) h
 
   standing-blind : (a : PickRequest) (i : ℕ) (w : PickState) → I w → I (addStanding a i w)
   unfolding addStanding
   standing-blind a i w h =
       unless-keeps I (option prioritizePartials a) (addPartialOf a (partialOf (w .picker) i)) w h
-      (λ e. partial-blind a (partialOf (w .picker) i) w h)
+      (λ e. partial-blind a i (partialOf (w .picker) i) w refl h)
 
   -- what a piece adds
   pub blocks-keeps : (a : PickRequest) (i : ℕ) (w : PickState) → I w → I (addBlocks a i w)
@@ -110,13 +123,14 @@ pub record Blind (I : PickState → Type 0) : Type 0 where
   pub marks : (i : ℕ) (w : PickState) → I w → I (ignore i w)
 
 module _ (I : PickState → Type 0) (k : Blind I) where
-  pub blind-closed : Closed I
+  pub blind-closed : Closed anyPartial I
   unfolding withContiguous took setAside putAside
   blind-closed = record {
+    ready = λ w h. every-any (w .picker .partials);
     contiguous = λ r w h. k .out (w .left) r (w .out) w h;
     takes = λ i j w h. k .out (w .left - 1) (shorter (w .contiguous)) (w .out ++ (pieceBlock i j ∷ [])) w h;
     marks = k .marks;
-    aside = λ d first w h.
+    aside = λ d first w o h.
         unless-keeps I (enoughAside w) (forEach (putAside (d .piece)) (freeFrom d first)) w h
         (λ e. forEach-keeps I (putAside (d .piece)) (λ j t g. k .backup (t .backup ++ (pieceBlock (d .piece) j ∷ [])) t g) (freeFrom d first) w h);
   }

@@ -26,6 +26,7 @@ use Rattle.model.proofs.pick.BoundLaws.{small, Fits, sound-fits, Tight,
 use Rattle.model.proofs.pick.BoundLaws.{step-tight, all-tight, span-tight, downloading-tight, blocks-tight, backup-tight}
 use Rattle.model.proofs.base.Truths.{or-no-left}
 use Rattle.model.proofs.base.Phases.{branch-arms}
+use Rattle.model.proofs.pick.AsideLaws.{mostAside}
 
 only-of : (ds : List ℕ) (t : ℕ) (s : Picker) → OnlyListing s (updatePieces ds (drawing t s) .picker)
 unfolding drawing
@@ -82,7 +83,7 @@ module _ (b N R : ℕ) (most : N ≤ 2048) where
 
   -- what a pick comes to in the end
   Final : PickState → Type 0
-  Final w = (len (w .out) ≤ N + R + 255) × (len (w .backup) ≤ 2303)
+  Final w = (len (w .out) ≤ N + R + 255) × (len (w .backup) ≤ mostAside)
 
   bounded-final : (w : PickState) → Bounded w → Final w
   unfolding Bounded Final Tight
@@ -134,7 +135,7 @@ module _ (ds : List ℕ) (s : Picker) (a : PickRequest) (h : Sound s) (f : reque
       startPick-keeps s a (Tight (blocksPerPiece s) (a .wanted) (a .contiguous) (a .wanted + a .contiguous + 255))
       (flag-tight (blocksPerPiece s) (a .wanted) (a .contiguous) (a .wanted + a .contiguous + 255)) begin-bounded
 
-  final : (len (pickPieces ds s a .out) ≤ a .wanted + a .contiguous + 255) × (len (pickPieces ds s a .backup) ≤ 2303)
+  final : (len (pickPieces ds s a .out) ≤ a .wanted + a .contiguous + 255) × (len (pickPieces ds s a .backup) ≤ mostAside)
   unfolding pickPieces Final Bounded
   final =
       phases-final (blocksPerPiece s) (a .wanted) (a .contiguous) (ask-fits s a f .wanted) ds (effectiveRequest s a) (startPick s a) (start-more s a (ask-fits s a f .some)) start-bounded
@@ -144,5 +145,5 @@ module _ (ds : List ℕ) (s : Picker) (a : PickRequest) (h : Sound s) (f : reque
   pick-output = final .0
 
   -- and at most 2,303 blocks are set aside
-  pub pick-backup : len (pickPieces ds s a .backup) ≤ 2303
+  pub pick-backup : len (pickPieces ds s a .backup) ≤ mostAside
   pick-backup = final .1

@@ -29,6 +29,7 @@ use Rattle.model.specs.pick.Pick.{walkOver, ringFuel, ring, busyBlocks, 
 use Rattle.model.specs.pick.Pick.{endGameTry, endGameStep, endGameDone, pickEndGame, withListUpdated, pickListed, pickMain, pickRest}
 use Rattle.model.specs.pick.Pick.{phases, scanPartials, partialCompareRarestFirst, pickScanned}
 use Rattle.model.proofs.pick.FrameLaws.{Blind, blind-closed, run-keeps, downloading-keeps, blocks-keeps, backup-keeps, all-keeps}
+use Rattle.model.proofs.pick.FrameLaws.{anyPartial, Closed}
 use Rattle.model.proofs.base.WalkLaws.{unless-keeps, when-keeps, repeat-keeps, repeat-counts, walk-keeps-in, walk-keeps}
 use Rattle.model.proofs.base.Truths.{and-left, and-right, or-no-left, or-no-right, true-both}
 use Rattle.model.proofs.base.Phases.{cond-arms, branch-arms}
@@ -97,34 +98,27 @@ pub record Kept (a : PickRequest) (ok : DownloadingPiece → Bool) (I : PickStat
   pub span : (i : ℕ) (w : PickState) → spent w ≡ false → I w → I (takeSpan takeAll (piecesOf (expandPiece a i w)) w)
   pub backup : (w : PickState) → spent w ≡ false → I w → I (appendBlocks w)
 
--- any partial
-unfoldable pub any : DownloadingPiece → Bool
-any d = true
-
--- all partials are that
-pub every-any : (ds : List DownloadingPiece) → every any ds ≡ true
-unfolding every any
-every-any [] = refl
-every-any (d ∷ ds) = every-any ds
+-- a predicate that each block and each mark keeps
+pub closed-kept : (a : PickRequest) (ok : DownloadingPiece → Bool) (I : PickState → Type 0) → Closed ok I → ((f : ℕ) (w : PickState) → I w → I (flagged f w))
+    → ((w : PickState) → I w → I (steps 1 randLoops w)) → ((w : PickState) → I w → I (appendBlocks w)) → Kept a ok I
+closed-kept a ok I c flags counts backup = record {
+  ready = c .ready;
+  flags = flags;
+  marks = c .marks;
+  partial = λ d w o z h. downloading-keeps ok I c a d w o h;
+  piece = λ i w z h. blocks-keeps ok I c a i w h;
+  span = λ i w z h. run-keeps ok I c takeAll (all-keeps ok I c counts flags) (piecesOf (expandPiece a i w)) w h;
+  backup = λ w z h. backup w h;
+}
 
 -- a predicate that does not look at the blocks
 pub blind-kept : (a : PickRequest) (I : PickState → Type 0) → Blind I → ((f : ℕ) (w : PickState) → I w → I (flagged f w)) → ((w : PickState) → I w → I (steps 1 randLoops w))
-    → Kept a any I
-blind-kept a I k flags counts =
-    let c = blind-closed I k in
-    record {
-      ready = λ w h. every-any (w .picker .partials);
-      flags = flags;
-      marks = k .marks;
-      partial = λ d w o z h. downloading-keeps I c a d w h;
-      piece = λ i w z h. blocks-keeps I c a i w h;
-      span = λ i w z h. run-keeps I c takeAll (all-keeps I c counts flags) (piecesOf (expandPiece a i w)) w h;
-      backup = λ w z h. backup-keeps I k w h;
-    }
+    → Kept a anyPartial I
+blind-kept a I k flags counts = closed-kept a anyPartial I (blind-closed I k) flags counts (backup-keeps I k)
 
 -- two predicates at once
-pub kept-both : (a : PickRequest) (ok : DownloadingPiece → Bool) (I J : PickState → Type 0) → Kept a ok I → Kept a any J → Kept a ok (λ w. I w × J w)
-unfolding any
+pub kept-both : (a : PickRequest) (ok : DownloadingPiece → Bool) (I J : PickState → Type 0) → Kept a ok I → Kept a anyPartial J → Kept a ok (λ w. I w × J w)
+unfolding anyPartial
 kept-both a ok I J k l = record {
   ready = λ w h. k .ready w (h .0);
   flags = λ f w h. (k .flags f w (h .0), l .flags f w (h .1));

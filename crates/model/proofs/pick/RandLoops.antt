@@ -19,9 +19,9 @@ use Rattle.model.specs.pick.Pick.{withListUpdated, pickListed, pickMain,
 use Rattle.model.specs.image.Sound.{Sound}
 use Rattle.model.specs.Calls.{requestFits}
 use Rattle.model.proofs.base.WalkLaws.{unless-keeps, walkUntil-keeps}
-use Rattle.model.proofs.pick.FrameLaws.{Closed, run-keeps, downloading-keeps, blocks-keeps}
-use Rattle.model.proofs.pick.PhaseLaws.{any, every-any, Kept, ring-keeps, pickListed-keeps, pickEndGame-keeps, phases-keeps}
-use Rattle.model.proofs.pick.PhaseLaws.{startPick-keeps, start-more}
+use Rattle.model.proofs.pick.FrameLaws.{Closed, run-keeps, downloading-keeps, blocks-keeps, anyPartial, every-any}
+use Rattle.model.proofs.pick.PhaseLaws.{Kept, ring-keeps, pickListed-keeps, pickEndGame-keeps, phases-keeps, startPick-keeps}
+use Rattle.model.proofs.pick.PhaseLaws.{start-more}
 use Rattle.model.proofs.pick.CounterLaws.{counter, counter-step, counter-other, begin-zero}
 use Rattle.model.proofs.pick.SoundPick.{ask-fits}
 use Rattle.model.proofs.pick.OutputLaws.{pick-output}
@@ -33,13 +33,14 @@ unfoldable Counted : PickState → Type 0
 Counted w = counter randLoops w ≤ len (w .out)
 
 -- ---- a piece
-counted-closed : Closed Counted
+counted-closed : Closed anyPartial Counted
 unfolding Counted counter len withContiguous took withOut ignore withBackup
 counted-closed = record {
+  ready = λ w h. every-any (w .picker .partials);
   contiguous = λ r w h. h;
   takes = λ i j w h. omega (arith, length-append (w .out) (pieceBlock i j ∷ []));
   marks = λ i w h. h;
-  aside = λ d first w h. aside-arms Counted d first w h (λ e. h);
+  aside = λ d first w o h. aside-arms Counted d first w h (λ e. h);
 }
 
 counted-flag : (f : ℕ) (w : PickState) → Counted w → Counted (flagged f w)
@@ -66,14 +67,14 @@ unfolding Counted counter appendBlocks withBackup withOut len
 counted-backup w h = let n = least (len (w .backup)) (w .left) in omega (arith, length-append (w .out) (take n (w .backup)))
 
 -- ---- the phases
-counted-kept : (a : PickRequest) → Kept a any Counted
+counted-kept : (a : PickRequest) → Kept a anyPartial Counted
 counted-kept a = record {
   ready = λ w h. every-any (w .picker .partials);
   flags = counted-flag;
   marks = counted-closed .marks;
-  partial = λ d w o z h. downloading-keeps Counted counted-closed a d w h;
-  piece = λ i w z h. blocks-keeps Counted counted-closed a i w h;
-  span = λ i w z h. run-keeps Counted counted-closed takeAll counted-all (piecesOf (expandPiece a i w)) w h;
+  partial = λ d w o z h. downloading-keeps anyPartial Counted counted-closed a d w o h;
+  piece = λ i w z h. blocks-keeps anyPartial Counted counted-closed a i w h;
+  span = λ i w z h. run-keeps anyPartial Counted counted-closed takeAll counted-all (piecesOf (expandPiece a i w)) w h;
   backup = λ w z h. counted-backup w h;
 }
 
@@ -95,9 +96,9 @@ unfolding pickMain pickRandom
 counted-main ds a w z h =
     let k = counted-kept a in
     branch-arms Counted (option sequential a || option rarestFirst a) (pickListed ds a) (pickRandom ds a) w
-    (λ e. pickListed-keeps a any Counted Counted k k (λ v g. g) counted-forgets (counted-step 1 rareLoops (λ q. omega arith))
+    (λ e. pickListed-keeps a anyPartial Counted Counted k k (λ v g. g) counted-forgets (counted-step 1 rareLoops (λ q. omega arith))
     (counted-step 1 reverseRareLoops (λ q. omega arith)) ds w z (counted-refreshed ds w h))
-    (λ e. ring-keeps a any Counted k (counted-step 1 randStartLoops (λ q. omega arith)) (draw ds (w .used) (piecesIn (w .picker) - 1))
+    (λ e. ring-keeps a anyPartial Counted k (counted-step 1 randStartLoops (λ q. omega arith)) (draw ds (w .used) (piecesIn (w .picker) - 1))
     (withPicker (w .picker) (suc (w .used)) w) (counted-drawn w h))
 
 counted-found : (i j : ℕ) (w : PickState) → Counted w
@@ -127,7 +128,7 @@ module _ (ds : List ℕ) (s : Picker) (a : PickRequest) (h : Sound s) (f : reque
   unfolding pickPieces
   counted =
       let b = effectiveRequest s a in
-      phases-keeps ds b any Counted Counted Counted (counted-kept b) (λ n w g. counted-step n partialLoops (λ q. omega arith) w g)
+      phases-keeps ds b anyPartial Counted Counted Counted (counted-kept b) (λ n w g. counted-step n partialLoops (λ q. omega arith) w g)
       (counted-step 1 suggestLoops (λ q. omega arith)) (λ w g. g) (counted-main ds b) (λ w g. g) (counted-rest ds b) (startPick s a)
       (start-more s a (ask-fits s a f .some)) (startPick-keeps s a Counted counted-flag (counted-begin s b))
 

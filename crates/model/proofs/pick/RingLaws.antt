@@ -20,7 +20,7 @@ use Rattle.model.specs.pick.Pick.{ring}
 use Rattle.model.specs.image.Sound.{Sound}
 use Rattle.model.proofs.base.Bep3Laws.{blocksInPiece-pos}
 use Rattle.model.proofs.base.WalkLaws.{repeat-ends, repeat-enough, repeat-keeps}
-use Rattle.model.proofs.pick.FrameLaws.{blind-closed, run-keeps, blocks-keeps, all-keeps}
+use Rattle.model.proofs.pick.FrameLaws.{blind-closed, run-keeps, blocks-keeps, all-keeps, anyPartial}
 use Rattle.model.proofs.pick.PhaseLaws.{step-spent, flag-spent}
 use Rattle.model.proofs.pick.SoundPick.{sound-sized}
 use Rattle.model.proofs.pick.SpanLaws.{Around, span-around}
@@ -261,7 +261,7 @@ module _ (n start b N R : ℕ) (start-in : start < n) (n-most : n ≤ 4096) (N-m
         (blocks-grow w a i (flagged randomPieces w) (grows-flag w randomPieces w (running-self (z .seen) w (h .work))))
         (k .piece i (flagged randomPieces w) (flag-spent w randomPieces (h .more)) (k .flags randomPieces w (h .work .tight)))
         (f .0)
-        (blocks-keeps (λ v. counter randStartLoops v ≤ m) (blind-closed (λ v. counter randStartLoops v ≤ m) (counter-blind randStartLoops m)) a i
+        (blocks-keeps anyPartial (λ v. counter randStartLoops v ≤ m) (blind-closed (λ v. counter randStartLoops v ≤ m) (counter-blind randStartLoops m)) a i
         (flagged randomPieces w) (counter-flag randStartLoops m randomPieces w (omega arith)))
         (λ q e. ⊎-elim (λ p. absurd (q p)) (λ p. inl (omega arith)) (f .1))
         (h .inside)
@@ -292,8 +292,8 @@ module _ (n start b N R : ℕ) (start-in : start < n) (n-most : n ≤ 4096) (N-m
         let c = blind-closed (λ v. counter randStartLoops v ≤ m) (counter-blind randStartLoops m) in
         let in-marks : i < 4096 = omega (arith, h .inside) in
         arrives (onward (w .picker) (x .end - 1)) z (takeSpan takeAll is w) (h .work) (run-grow w is w g) (k .span i w (h .more) (h .work .tight)) (f .0)
-        (run-keeps (λ v. counter randStartLoops v ≤ m) c takeAll
-        (all-keeps (λ v. counter randStartLoops v ≤ m) c (λ v q. counter-keeps randStartLoops m 1 randLoops v (λ p. omega arith) q) (counter-flag randStartLoops m))
+        (run-keeps anyPartial (λ v. counter randStartLoops v ≤ m) c takeAll
+        (all-keeps anyPartial (λ v. counter randStartLoops v ≤ m) c (λ v q. counter-keeps randStartLoops m 1 randLoops v (λ p. omega arith) q) (counter-flag randStartLoops m))
         is w (omega arith))
         (λ q y. elim (decLe start i) [
           | yes l ↦ inl (nearer q f (far-on n start start-in i (x .end - 1) (omega arith) r (λ p. absurd (omega arith))))

@@ -19,7 +19,7 @@ use Rattle.model.specs.pick.Blocks.{ignore, flagged, steps, isIgnored, s
 use Rattle.model.specs.pick.Blocks.{freeFrom, setAside, addBlocks, enoughAside}
 use Rattle.model.specs.pick.Pick.{Trace, trace, sameTrace, randStep, takeAll}
 use Rattle.model.proofs.base.WalkLaws.{unless-keeps, walkUntil-keeps, forEach-ends}
-use Rattle.model.proofs.pick.FrameLaws.{Closed, run-keeps, blocks-keeps, all-keeps}
+use Rattle.model.proofs.pick.FrameLaws.{Closed, run-keeps, blocks-keeps, all-keeps, anyPartial, every-any}
 use Rattle.model.proofs.base.Counts.{count-le}
 use Rattle.model.proofs.pick.BoundLaws.{Tight, tight-unspent}
 use Rattle.model.proofs.base.Truths.{true-both}
@@ -146,8 +146,14 @@ module _ (u : PickState) where
       let e = aside-same d first w in
       grows-by w (setAside d first w) (aside-rises d first w (h .left)) (omega (arith, e .0)) (ap length (e .1)) (e .2) h
 
-  grows-closed : Closed (Grows u)
-  grows-closed = record { contiguous = grows-run; takes = grows-took; marks = grows-mark; aside = grows-aside }
+  grows-closed : Closed anyPartial (Grows u)
+  grows-closed = record {
+    ready = λ w h. every-any (w .picker .partials);
+    contiguous = grows-run;
+    takes = grows-took;
+    marks = grows-mark;
+    aside = λ d first w o h. grows-aside d first w h;
+  }
 
   -- a flag
   pub grows-flag : (f : ℕ) (w : PickState) → Grows u w → Grows u (flagged f w)
@@ -161,15 +167,15 @@ module _ (u : PickState) where
 
   -- what a piece adds
   pub blocks-grow : (a : PickRequest) (i : ℕ) (w : PickState) → Grows u w → Grows u (addBlocks a i w)
-  blocks-grow a i w h = blocks-keeps (Grows u) grows-closed a i w h
+  blocks-grow a i w h = blocks-keeps anyPartial (Grows u) grows-closed a i w h
 
   -- a whole piece in the random walk
   pub all-grow : (i : ℕ) (w : PickState) → Grows u w → Grows u (takeAll i w)
-  all-grow i w h = all-keeps (Grows u) grows-closed (grows-step 1 randLoops) grows-flag i w h
+  all-grow i w h = all-keeps anyPartial (Grows u) grows-closed (grows-step 1 randLoops) grows-flag i w h
 
   -- a run of them
   pub run-grow : (is : List ℕ) (w : PickState) → Grows u w → Grows u (takeSpan takeAll is w)
-  run-grow is w h = run-keeps (Grows u) grows-closed takeAll all-grow is w h
+  run-grow is w h = run-keeps anyPartial (Grows u) grows-closed takeAll all-grow is w h
 
 -- ---- a run in the random walk ignores its piece and takes a block of it
 -- the marks stay while blocks are taken
