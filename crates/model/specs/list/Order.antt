@@ -46,8 +46,8 @@ rank s i = rankOf (bucket (s .seeds) (pieceAt s i))
 unfoldable pub draw : List ℕ → ℕ → ℕ → ℕ
 draw ds t limit = nth 0 ds t % suc limit
 
--- ---- where a rank's group stands
--- its first place, and its size; x is of the rank
+-- ---- where a rank's group stands; x is of the rank
+-- its first place: how many are of lower rank
 unfoldable pub groupStart : (ℕ → ℕ) → ℕ → List ℕ → ℕ
 groupStart b x l = count (λ y. ltb (b y) (b x)) l
 
@@ -106,7 +106,7 @@ added b ds t x l = placed b (groupStart b x l + draw ds t (groupSize b x l)) x l
 unfoldable pub addDraws : (ℕ → ℕ) → ℕ → List ℕ → ℕ
 addDraws b x l = bit (ltb 0 (groupSize b x l))
 
--- the last place of x's group, and a drawn one of it
+-- the last place of x's group
 unfoldable pub groupLast : (ℕ → ℕ) → ℕ → List ℕ → ℕ
 groupLast b x l = groupStart b x l + groupSize b x l - 1
 

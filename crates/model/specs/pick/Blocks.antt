@@ -17,8 +17,8 @@ use Rattle.model.specs.Options.{numCounters, onParole, prioritizePartial
 use Rattle.model.specs.change.Partials.{partialOf, blockAt}
 
 -- ---- what a pick is asked
--- the arguments of `pick_pieces`: `wanted` is document 01's N, `contiguous` its P, the blocks wanted in a row; `peers` is how many peers there
--- are, `peer` the one that is asked; `bits` and `bytes` are its bitfield
+-- the arguments of `pick_pieces`: `wanted` is document 01's N, `contiguous` its P, the blocks wanted in a row; `peers` is how many peers
+-- there are, `peer` the one that is asked; `bits` and `bytes` are its bitfield
 pub record PickRequest : Type 0 where
   pub options : ℕ
   pub wanted : ℕ
@@ -291,8 +291,8 @@ addNewPiece a i w =
     (takeSpan takePayload (piecesOf (expandPiece a i w))) w
 
 -- ---- partials
--- who works on a partial, as `requested_from` answers: `exclusive`, no other peer's block; `active`, another peer has a request (the Rust has
--- the opposite, `exclusive_active`); the longest run of free blocks, and its first
+-- who works on a partial, as `requested_from` answers: `exclusive`, no other peer's block; `active`, another peer has a request (the Rust
+-- has the opposite, `exclusive_active`); the longest run of free blocks, and its first
 pub record RequestedFrom : Type 0 where
   pub exclusive : Bool
   pub active : Bool
@@ -366,7 +366,7 @@ useFree d h w =
     let first = cond (contiguousIsZero (w .contiguous)) 0 (h .first) in
     branch (contiguousAbove (h .longest) (w .contiguous) && h .active) (setAside d first) (keepingContiguous (takeFree d first)) w
 
--- `add_blocks_downloading`: what a partial adds; nothing where the peer lacks it, where it is locked or, on parole, where another touched it
+-- `add_blocks_downloading`: what a partial adds; nothing where the peer lacks it, it is locked or, on parole, another touched it
 unfoldable pub addBlocksDownloading : PickRequest → DownloadingPiece → PickState → PickState
 addBlocksDownloading a d w =
     let h = requestedFrom (a .peer) d in
