@@ -379,8 +379,8 @@ endGameDone x = x .found || eqb (len (x .pieces)) 0
 -- the end game
 unfoldable pub pickEndGame : (draws : List ℕ) → PickRequest → PickState → PickState
 pickEndGame draws a w =
-    let x : EndGame = record { work = w; pieces = fullPartials a (w .picker); found = false } in
-    repeat maxEndGamePieces (endGameStep draws a) endGameDone x .work
+    repeat maxEndGamePieces (endGameStep draws a) endGameDone
+    (record { work = w; pieces = fullPartials a (w .picker); found = false }) .work
 
 -- ---- the pick
 -- `update_pieces`, where the list is dirty
