@@ -18,3 +18,4 @@ pub mod LoopCount
 pub mod LoopLaws
 pub mod LeftOutLaws
 pub mod AddLaws
+pub mod WalkedLaws
