@@ -11,7 +11,7 @@ use lib.Dec.{leb}
 use borrow.Author.Tests.{eqb-false, leb-true, le-leb}
 use Rattle.types.specs.declared.queue.DownloadQueue.the-variants.{Downloading}
 use Rattle.types.specs.Queue.{unreverse}
-use Rattle.model.specs.Lists.{least, from, each, every, len, when, branch, walk}
+use Rattle.model.specs.Lists.{least, from, each, every, len, when, branch, walk, forEach}
 use Rattle.model.specs.Bep3.{wholePieceBlocks, pieceBlocks}
 use Rattle.model.specs.State.{DownloadingPiece, Picker, sameQueue, isOpen, pieceAt, blocksPerPiece, blocksInPiece}
 use Rattle.model.specs.State.{payloadBlocksInPiece}
@@ -19,8 +19,8 @@ use Rattle.model.specs.Options.{onParole, prioritizePartials, randomPiec
 use Rattle.model.specs.change.Partials.{findDlPiece, partialOf}
 use Rattle.model.specs.pick.Blocks.{PickRequest, option, hasBit, Contiguous, PickState, spent, withOut, withContiguous, withBackup}
 use Rattle.model.specs.pick.Blocks.{ignore, flagged, steps, isIgnored, contiguousIsZero, contiguousAbove, shorter, expandPiece}
-use Rattle.model.specs.pick.Blocks.{piecesOf, pieceBlock, took, contiguousMet, contiguousOver, takePiece, spanStep, takeSpan}
-use Rattle.model.specs.pick.Blocks.{takePayload, addNewPiece, RequestedFrom, requestedFrom, freeFrom, setAside, freeHalt, takeFree}
+use Rattle.model.specs.pick.Blocks.{piecesOf, pieceBlock, took, contiguousMet, contiguousOver, spanStep, takeSpan, takePayload}
+use Rattle.model.specs.pick.Blocks.{addNewPiece, RequestedFrom, requestedFrom, freeFrom, setAside, freeHalt, takeFree}
 use Rattle.model.specs.pick.Blocks.{keepingContiguous, useFree, addBlocksDownloading, addPartialOf, addStanding, addBlocks}
 use Rattle.model.specs.pick.Blocks.{appendBlocks, PieceBlock}
 use Rattle.model.specs.pick.Pick.{randStep, takeAll}
@@ -139,11 +139,11 @@ module _ (b N R : ℕ) where
   step-tight m n c w h = h
 
   -- ---- a piece, and a run of pieces
-  piece-tight : (ends : PickState → Bool) (i n m : ℕ) (w : PickState) → Tight b N R m w → Tight b N R (m + n) (takePiece ends i n w)
-  unfolding takePiece len
-  piece-tight ends i n m w h =
-      tight-more (m + length (from 0 n) * 1) (m + n) (walk (took i) ends (from 0 n) w) (omega (arith, length-from 0 n))
-      (walk-counts (Tight b N R) tight-more (took i) 1 ends (λ k j t g. took-tight k i j t g) (from 0 n) m w h)
+  counted-tight : (i n m : ℕ) (w : PickState) → Tight b N R m w → Tight b N R (m + n) (forEach (took i) (from 0 n) w)
+  unfolding len
+  counted-tight i n m w h =
+      tight-more (m + length (from 0 n) * 1) (m + n) (forEach (took i) (from 0 n) w) (omega (arith, length-from 0 n))
+      (forEach-counts (Tight b N R) tight-more (took i) 1 (λ k j t g. took-tight k i j t g) (from 0 n) m w h)
 
   payload-le : (m i : ℕ) (w : PickState) → Tight b N R m w → payloadBlocksInPiece (w .picker) i ≤ b
   unfolding Tight payloadBlocksInPiece blocksInPiece
@@ -154,10 +154,11 @@ module _ (b N R : ℕ) where
   blocks-le m i w h = h .0 .piece i
 
   payload-tight : (m i : ℕ) (w : PickState) → Tight b N R m w → Tight b N R (m + b) (takePayload i w)
-  unfolding takePayload
+  unfolding takePayload len
   payload-tight m i w h =
       let n = payloadBlocksInPiece (w .picker) i in
-      tight-more (m + n) (m + b) (takePiece contiguousMet i n w) (omega (arith, payload-le m i w h)) (piece-tight contiguousMet i n m w h)
+      tight-more (m + length (from 0 n) * 1) (m + b) (walk (took i) contiguousMet (from 0 n) w) (omega (arith, length-from 0 n, payload-le m i w h))
+      (walk-counts (Tight b N R) tight-more (took i) 1 contiguousMet (λ k j t g. took-tight k i j t g) (from 0 n) m w h)
 
   -- all blocks of a piece, at most b
   pub all-tight : (m i : ℕ) (w : PickState) → Tight b N R m w → Tight b N R (m + b) (takeAll i w)
@@ -209,10 +210,10 @@ module _ (b N R : ℕ) where
   new-tight a i w p h =
       let n = least (payloadBlocksInPiece (w .picker) i) (w .left) in
       let is = piecesOf (expandPiece a i w) in
-      branch-arms (Tight b N R (N + R + 255)) (contiguousIsZero (w .contiguous)) (takePiece (λ t. false) i n) (takeSpan takePayload is) w
-      (λ e. tight-more (len (w .out) + n) (N + R + 255) (takePiece (λ t. false) i n w)
+      branch-arms (Tight b N R (N + R + 255)) (contiguousIsZero (w .contiguous)) (forEach (took i) (from 0 n)) (takeSpan takePayload is) w
+      (λ e. tight-more (len (w .out) + n) (N + R + 255) (forEach (took i) (from 0 n) w)
       (omega (arith, left-le (N - 1) w h (omega arith), least-right (payloadBlocksInPiece (w .picker) i) (w .left)))
-      (piece-tight (λ t. false) i n (len (w .out)) w (tight-now (N - 1) w h)))
+      (counted-tight i n (len (w .out)) w (tight-now (N - 1) w h)))
       (λ e. span-tight a takePayload payload-tight i w p h)
 
   -- ---- partials

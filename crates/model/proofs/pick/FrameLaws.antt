@@ -1,6 +1,6 @@
 -- What a piece adds to a pick keeps every predicate that each block taken, each mark and each partial set aside keeps. Assumes nothing.
 use Prim.Native.Nat.{ℕ, _-_}
-use mathlib.Core.Bool.{Bool, false, cond, not, _&&_, _||_, true}
+use mathlib.Core.Bool.{Bool, cond, not, _&&_, _||_, true}
 use mathlib.Core.List.{List, [], _∷_, _++_}
 use mathlib.Core.Option.{Option, none, some}
 use lib.ListN.{take}
@@ -12,9 +12,9 @@ use Rattle.model.specs.Options.{onParole, prioritizePartials, randomPiec
 use Rattle.model.specs.change.Partials.{partialOf}
 use Rattle.model.specs.pick.Blocks.{PickRequest, option, hasBit, Contiguous, PieceBlock, PickState, withOut, withContiguous}
 use Rattle.model.specs.pick.Blocks.{withBackup, ignore, flagged, steps, isIgnored, contiguousIsZero, contiguousAbove, shorter}
-use Rattle.model.specs.pick.Blocks.{expandPiece, piecesOf, pieceBlock, took, contiguousMet, contiguousOver, takePiece, spanStep}
-use Rattle.model.specs.pick.Blocks.{takeSpan, takePayload, addNewPiece, RequestedFrom, requestedFrom, freeFrom, setAside, freeHalt}
-use Rattle.model.specs.pick.Blocks.{takeFree, keepingContiguous, useFree, addBlocksDownloading, addPartialOf, addStanding, addBlocks}
+use Rattle.model.specs.pick.Blocks.{expandPiece, piecesOf, pieceBlock, took, contiguousMet, contiguousOver, spanStep, takeSpan}
+use Rattle.model.specs.pick.Blocks.{takePayload, addNewPiece, RequestedFrom, requestedFrom, freeFrom, setAside, freeHalt, takeFree}
+use Rattle.model.specs.pick.Blocks.{keepingContiguous, useFree, addBlocksDownloading, addPartialOf, addStanding, addBlocks}
 use Rattle.model.specs.pick.Blocks.{appendBlocks, enoughAside, putAside}
 use Rattle.model.specs.pick.Pick.{randStep, takeAll}
 use Rattle.model.proofs.base.WalkLaws.{unless-keeps, when-keeps, walkUntil-keeps, forEach-keeps}
@@ -46,9 +46,10 @@ unfolding keepingContiguous
 keepingContiguous-keeps I runs f w h = runs (w .contiguous) (f w) h
 
 module _ (ok : DownloadingPiece → Bool) (I : PickState → Type 0) (k : Closed ok I) where
-  piece-blind : (ends : PickState → Bool) (i n : ℕ) (w : PickState) → I w → I (takePiece ends i n w)
-  unfolding takePiece walk
-  piece-blind ends i n w h = walkUntil-keeps I (took i) (λ x t. ends (took i x t)) (k .takes i) (from 0 n) w h
+  payload-blind : (i : ℕ) (w : PickState) → I w → I (takePayload i w)
+  unfolding takePayload walk
+  payload-blind i w h =
+      walkUntil-keeps I (took i) (λ j t. contiguousMet (took i j t)) (k .takes i) (from 0 (payloadBlocksInPiece (w .picker) i)) w h
 
   -- a run of pieces
   pub run-keeps : (takes : ℕ → PickState → PickState) → ((i : ℕ) (w : PickState) → I w → I (takes i w)) → (is : List ℕ) (w : PickState) → I w → I (takeSpan takes is w)
@@ -60,12 +61,13 @@ module _ (ok : DownloadingPiece → Bool) (I : PickState → Type 0) (k : Closed
       is w h
 
   new-blind : (a : PickRequest) (i : ℕ) (w : PickState) → I w → I (addNewPiece a i w)
-  unfolding addNewPiece takePayload
+  unfolding addNewPiece
   new-blind a i w h =
-      branch-arms I (contiguousIsZero (w .contiguous)) (takePiece (λ t. false) i (least (payloadBlocksInPiece (w .picker) i) (w .left)))
+      let js = from 0 (least (payloadBlocksInPiece (w .picker) i) (w .left)) in
+      branch-arms I (contiguousIsZero (w .contiguous)) (forEach (took i) js)
       (takeSpan takePayload (piecesOf (expandPiece a i w))) w
-      (λ e. piece-blind (λ t. false) i (least (payloadBlocksInPiece (w .picker) i) (w .left)) w h)
-      (λ e. run-keeps takePayload (λ j t g. piece-blind contiguousMet j (payloadBlocksInPiece (t .picker) j) t g) (piecesOf (expandPiece a i w)) w h)
+      (λ e. forEach-keeps I (took i) (k .takes i) js w h)
+      (λ e. run-keeps takePayload payload-blind (piecesOf (expandPiece a i w)) w h)
 
   free-blind : (d : DownloadingPiece) (first : ℕ) (w : PickState) → I w → I (takeFree d first w)
   unfolding takeFree

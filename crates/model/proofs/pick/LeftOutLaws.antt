@@ -17,9 +17,9 @@ use Rattle.model.specs.State.{payloadBlocksInPiece}
 use Rattle.model.specs.Options.{onParole, suggestLoops, suggestedPieces, randLoops, randomPieces}
 use Rattle.model.specs.pick.Blocks.{PickRequest, option, hasBit, Contiguous, PickState, spent, withOut, withContiguous, withBackup}
 use Rattle.model.specs.pick.Blocks.{ignore, flagged, steps, isIgnored, contiguousIsZero, contiguousAbove, shorter, wholePieces}
-use Rattle.model.specs.pick.Blocks.{isPieceFree, spanOf, expandPiece, piecesOf, took, contiguousMet, contiguousOver, takePiece}
-use Rattle.model.specs.pick.Blocks.{spanStep, takeSpan, takePayload, RequestedFrom, byAnother, requestedFrom, setAside, freeHalt}
-use Rattle.model.specs.pick.Blocks.{takeFree, keepingContiguous, useFree, addBlocksDownloading, appendBlocks, PieceBlock, addBlocks}
+use Rattle.model.specs.pick.Blocks.{isPieceFree, spanOf, expandPiece, piecesOf, took, contiguousMet, contiguousOver, spanStep}
+use Rattle.model.specs.pick.Blocks.{takeSpan, takePayload, RequestedFrom, byAnother, requestedFrom, setAside, freeHalt, takeFree}
+use Rattle.model.specs.pick.Blocks.{keepingContiguous, useFree, addBlocksDownloading, appendBlocks, PieceBlock, addBlocks}
 use Rattle.model.specs.pick.Pick.{visit, suggest, randStep, takeAll}
 use Rattle.model.proofs.base.Counts.{length-from}
 use Rattle.model.proofs.base.WalkLaws.{walk-counts}
@@ -130,7 +130,7 @@ module _ (s : Picker) (asked : ℕ) where
   -- a piece of at most b blocks
   module _ (b : ℕ) (some : 1 ≤ b) (whole : (i : ℕ) → blocksInPiece s i ≤ b) where
     payload-towards : (m i : ℕ) (w : PickState) → Towards s asked m w → Towards s asked (m + b) (takePayload i w)
-    unfolding takePayload takePiece len payloadBlocksInPiece
+    unfolding takePayload len payloadBlocksInPiece
     payload-towards m i w h =
         let n = payloadBlocksInPiece (w .picker) i in
         let l : n ≤ b = rw (towards-picker m w h) (omega (arith, whole i)) in

@@ -266,10 +266,6 @@ contiguousMet w = contiguousIsZero (w .contiguous) && spent w
 unfoldable pub contiguousOver : PickState → Bool
 contiguousOver w = not (contiguousAbove 0 (w .contiguous)) && spent w
 
--- the first n blocks of piece i, up to where `ends` holds
-unfoldable pub takePiece : (ends : PickState → Bool) → (i n : ℕ) → PickState → PickState
-takePiece ends i n w = walk (took i) ends (from 0 n) w
-
 -- piece k of a span: an ignored one only shortens the run; another is ignored from here on, and its blocks are taken
 unfoldable pub spanStep : (takes : ℕ → PickState → PickState) → (k : ℕ) → PickState → PickState
 spanStep takes k w = branch (isIgnored k w) (λ v. withContiguous (shorter (v .contiguous)) v) (λ v. takes k (ignore k v)) w
@@ -281,13 +277,13 @@ takeSpan takes ks w = forEach (spanStep takes) ks w
 -- ---- new pieces
 -- the blocks of piece k that hold more than pad bytes, up to where run and N are met
 unfoldable pub takePayload : (k : ℕ) → PickState → PickState
-takePayload k w = takePiece contiguousMet k (payloadBlocksInPiece (w .picker) k) w
+takePayload k w = walk (took k) contiguousMet (from 0 (payloadBlocksInPiece (w .picker) k)) w
 
 -- blocks of an Open piece: without a run as many as are wanted, else the whole span around it
 unfoldable pub addNewPiece : PickRequest → (i : ℕ) → PickState → PickState
 addNewPiece a i w =
     branch (contiguousIsZero (w .contiguous))
-    (takePiece (λ t. false) i (least (payloadBlocksInPiece (w .picker) i) (w .left)))
+    (forEach (took i) (from 0 (least (payloadBlocksInPiece (w .picker) i) (w .left))))
     (takeSpan takePayload (piecesOf (expandPiece a i w))) w
 
 -- ---- partials
