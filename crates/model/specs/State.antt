@@ -71,7 +71,7 @@ abbrev pub minDraws : ℕ
 minDraws = 4352
 
 -- ---- the fields
--- `priority` is document 01's word for the priority 0 to 7, and `flushed` for flushed
+-- `priority` is document 01's wish, 0 to 7, and `flushed` its had
 pub record Piece : Type 0 where
   pub peerCount : ℕ
   pub state : DownloadQueue
@@ -164,11 +164,11 @@ withState q p = record { peerCount = p .peerCount; state = q; priority = p .prio
 unfoldable pub withPriority : ℕ → Piece → Piece
 withPriority w p = record { peerCount = p .peerCount; state = p .state; priority = w; flushed = p .flushed; padBytes = p .padBytes }
 
--- had from here on
+-- flushed from here on
 unfoldable pub withFlushed : Piece → Piece
 withFlushed p = record { peerCount = p .peerCount; state = p .state; priority = p .priority; flushed = true; padBytes = p .padBytes }
 
--- the block held by another peer, or by none
+-- the block with another peer that asked for it last, or with none
 unfoldable pub withPeer : Option ℕ → Block → Block
 withPeer peer b = record { state = b .state; numPeers = b .numPeers; peer = peer }
 

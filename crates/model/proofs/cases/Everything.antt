@@ -1,7 +1,8 @@
 -- All definitions of the model opened at once, for cases that the checker computes: a case says `unfolding everything` and `refl`.
 -- Written by compare/everything.py: not to be edited.
 use Rattle.model.specs.Lists.{least, from, range, rangeDown, count, filter, every, any, nth, len, setNth, removeNth, lastOr, reversed}
-use Rattle.model.specs.Lists.{member, placeOf, each, concatMap, unless, when, repeat, walkUntil, walk}
+use Rattle.model.specs.Lists.{member, placeOf, each, concatMap, unless, when, branch, repeat, forEach, walkUntil, walk, insertBy}
+use Rattle.model.specs.Lists.{sortBy}
 use Rattle.model.specs.Bep3.{partsOf, partLength, sumTo, numPieces, pieceLength, blockLength, blockCount, blockStart, blockLengthAt}
 use Rattle.model.specs.Bep3.{wholePieceBlocks, pieceBlocks, pieceOfByte, blockOfByte, bitfieldBytes, bitOf, bitAt, noneSet, spareZero}
 use Rattle.model.specs.State.{sameQueue, isOpen, sameBlockState, samePeer, hasPeer, isDirty, listOf, noPiece, noBlock, withPeerCount}
@@ -36,19 +37,19 @@ use Rattle.model.specs.ask.Questions.{downloaderOf, replyBlock, placeIn,
 use Rattle.model.specs.pick.Blocks.{option, hasBit, startState, spent, withOut, withContiguous, withBackup, withPicker, ignore}
 use Rattle.model.specs.pick.Blocks.{flagged, steps, isIgnored, contiguousIsZero, contiguousAbove, shorter, wholePieces, isPieceFree}
 use Rattle.model.specs.pick.Blocks.{canPick, downBy, upBy, alone, lowestStart, spanFrom, spanOf, expandPiece, piecesOf, pieceBlock}
-use Rattle.model.specs.pick.Blocks.{took, tookPast, contiguousMet, contiguousOver, takePiece, spanStep, spanHalt, takeSpan}
-use Rattle.model.specs.pick.Blocks.{takePayload, addNewPiece, longer, longestFree, byAnother, requestedFrom, freeFrom, setAside}
-use Rattle.model.specs.pick.Blocks.{freeStep, freeHalt, takeFree, keepingContiguous, useFree, addBlocksDownloading, addPartialOf}
-use Rattle.model.specs.pick.Blocks.{addStanding, addBlocks, appendBlocks}
-use Rattle.model.specs.pick.Pick.{forced, isForced, forcedRequest, effectiveRequest, startPick, usable, rarestFirstBefore}
-use Rattle.model.specs.pick.Pick.{insertRarest, sortRarest, byRarity, orderedPartials, partialStep, partialsDone, walkPartials}
+use Rattle.model.specs.pick.Blocks.{took, contiguousMet, contiguousOver, spanStep, takeSpan, takePayload, addNewPiece, longer}
+use Rattle.model.specs.pick.Blocks.{longestFree, byAnother, requestedFrom, freeFrom, enoughAside, putAside, setAside, freeHalt}
+use Rattle.model.specs.pick.Blocks.{takeFree, keepingContiguous, useFree, addBlocksDownloading, addPartialOf, addStanding, addBlocks}
+use Rattle.model.specs.pick.Blocks.{appendBlocks}
+use Rattle.model.specs.pick.Pick.{forced, isForced, forcedRequest, effectiveRequest, startPick, usable, scanStep, scanPartials}
+use Rattle.model.specs.pick.Pick.{partialCompareRarestFirst, byRarity, orderedPartials, partialStep, walkPartials, pickScanned}
 use Rattle.model.specs.pick.Pick.{pickPartials, visit, suggest, pickSuggested, leadingTop, visitBelowTop, pickRange, pickSequential}
 use Rattle.model.specs.pick.Pick.{inRange, visitOutside, rareStep, reverseRareStep, allFlushed, foundFinished, extentStep}
 use Rattle.model.specs.pick.Pick.{forgetExtent, pickExtents, pickForward, pickRarest, standsOpen, onward, trace, sameTrace, skipStep}
-use Rattle.model.specs.pick.Pick.{skipDone, skip, randStep, takeAll, arrive, randomVisit, ended, marked, lapEnds, lapFrom, lapStep}
-use Rattle.model.specs.pick.Pick.{walkOver, ring, pickRandom, busyBlocks, fullPartials, noPartial, swapRemove, endGameTry}
-use Rattle.model.specs.pick.Pick.{endGameStep, endGameDone, pickEndGame, withListUpdated, pickListed, pickMain, pickRest, phases}
-use Rattle.model.specs.pick.Pick.{pickPieces}
+use Rattle.model.specs.pick.Pick.{skipDone, skip, randStep, takeAll, arrive, randomSpan, randomPiece, randomVisit, ended, marked}
+use Rattle.model.specs.pick.Pick.{lapEnds, lapFrom, lapStep, walkOver, ring, pickRandom, busyBlocks, fullPartials, noPartial}
+use Rattle.model.specs.pick.Pick.{swapRemove, endGameTry, endGameStep, endGameDone, pickEndGame, withListUpdated, pickListed}
+use Rattle.model.specs.pick.Pick.{pickMain, pickRest, phases, pickPieces}
 use Rattle.model.specs.image.WellFormed.{headOk, pieceOk, peerOk, blockOk, stateOk, partialOk, extentOk, placeOk, piecesOk}
 use Rattle.model.specs.image.WellFormed.{partialsOk, extentsOk, orderOk, listingOk, wellFormed}
 use Rattle.model.specs.image.Sound.{partialsFrom}
@@ -64,5 +65,5 @@ use Rattle.model.specs.Calls.{refusal, answering, changeAnswer, changing
 use Rattle.model.specs.Calls.{step, answers, run, within, newPicker, readWithin, readPicker, takeImage}
 
 unfoldable pub everything : Unit {0}
-unfolding least from range rangeDown count filter every any nth len setNth removeNth lastOr reversed member placeOf each concatMap unless when repeat walkUntil walk partsOf partLength sumTo numPieces pieceLength blockLength blockCount blockStart blockLengthAt wholePieceBlocks pieceBlocks pieceOfByte blockOfByte bitfieldBytes bitOf bitAt noneSet spareZero sameQueue isOpen sameBlockState samePeer hasPeer isDirty listOf noPiece noBlock withPeerCount withState withPriority withFlushed withPeer withBlocks withFlags withSeeds withCursors withPieces withPartials withRecentExtents withListing pieceAt withPiece piecesIn markDirty pieceSizeAt blocksPerPiece blocksInPiece payloadBlocksInPiece extentSize numExtents extentFor extentStart extentEnd validGeometry freshPiece new unlisted adjustment bucketNumber bucket rankOf rank draw groupStart groupSize carry turnLeft bring turnRight placed removed earlier later swap added addDraws groupLast groupDrawn changed changeDraws updated updateDraws inserted sorted shuffled runLength groupsShuffled groupDraws withBucket sortedPieces rebuilt rebuildDraws drawing noDraw updateIn update updatePiecesIn updatePieces changeAndUpdate risingFrom rising ListingOk findDlPiece partialOf blockAt blocksInState progress inQueue replaceIn replacePartial replaceBlock inDirection newState setState moveState updateStateOf updatePieceState freshBlock freshPartial insertIn addPartial addDownloadPiece dropPartial eraseDownloadPiece eraseAndUpdate quietly saying incPeerCount decPeerCount allPieces incRefcount breakOneSeed decRefcount incRefcountAll decRefcountAll flushedOrFiltered flushedOrFilteredRun cursorFrom reverseFrom emptyRange advanceCursors cursorsOnFilter filterChanges prioritySet setPiecePriority neighbours worthRecording recordable recordDownloadingPiece reverseAsked affinityAsked opened setBlock markFirst markOpening setDirection makePieceReverse unreversePiece requestedBy writtenBy finishedBy received request markDownloadingIn markAsDownloading markWritingIn markAsWriting pieceFlushed allFinished flushIf flushDone finishedPeer markFinishedIn markAsFinished freed canceled freeBlock cancelIn markAsCanceled released abortIn abortDownload lockIn lockPiece passIn piecePassed plain one flag passedIn havePiece filtered piecesWhere countWhere sum padBytesWhere numHave numFiltered numHaveFiltered counted copies lowest distributed info infoOf queueInfo queueSizes availability replyPicker listPicker ofPartial hashingIn finishedIn peersIn blockInfo stats replyPiece listPiece blockIn blockTest ofBlockThere numPeersOf downloaderOf replyBlock placeIn listPlace reply option hasBit startState spent withOut withContiguous withBackup withPicker ignore flagged steps isIgnored contiguousIsZero contiguousAbove shorter wholePieces isPieceFree canPick downBy upBy alone lowestStart spanFrom spanOf expandPiece piecesOf pieceBlock took tookPast contiguousMet contiguousOver takePiece spanStep spanHalt takeSpan takePayload addNewPiece longer longestFree byAnother requestedFrom freeFrom setAside freeStep freeHalt takeFree keepingContiguous useFree addBlocksDownloading addPartialOf addStanding addBlocks appendBlocks forced isForced forcedRequest effectiveRequest startPick usable rarestFirstBefore insertRarest sortRarest byRarity orderedPartials partialStep partialsDone walkPartials pickPartials visit suggest pickSuggested leadingTop visitBelowTop pickRange pickSequential inRange visitOutside rareStep reverseRareStep allFlushed foundFinished extentStep forgetExtent pickExtents pickForward pickRarest standsOpen onward trace sameTrace skipStep skipDone skip randStep takeAll arrive randomVisit ended marked lapEnds lapFrom lapStep walkOver ring pickRandom busyBlocks fullPartials noPartial swapRemove endGameTry endGameStep endGameDone pickEndGame withListUpdated pickListed pickMain pickRest phases pickPieces headOk pieceOk peerOk blockOk stateOk partialOk extentOk placeOk piecesOk partialsOk extentsOk orderOk listingOk wellFormed partialsFrom bodyLength bytesOf headRecord pieceRecord peerBytes blockRecord flagsOf partialRecords numberRecord image next numberOf field startsWith given judged obeying headOf readHead pieceOf readPiece peerFits peerOf blockOf readBlock lastFits readLastBlock readPartial getPieces getBlocks partialWith getPartial getPartials readExtent comes getExtents readPlace getOrder getListing getPicker whole readImage requestOf readRequest getJob pickOf jobAnswer programAnswer program wordsNeeded memoryNeeded recordsNeeded check refuseFewDraws refuseBadPiece refuseBadBlock peersFull numPeersFull blockThere noPartialLeft noPlace questionRefusal bitfieldFits requestFits refusal answering changeAnswer changing doing lentPeer lentRequest picking act unlessRefused step answers run within newPicker readWithin readPicker takeImage
+unfolding least from range rangeDown count filter every any nth len setNth removeNth lastOr reversed member placeOf each concatMap unless when branch repeat forEach walkUntil walk insertBy sortBy partsOf partLength sumTo numPieces pieceLength blockLength blockCount blockStart blockLengthAt wholePieceBlocks pieceBlocks pieceOfByte blockOfByte bitfieldBytes bitOf bitAt noneSet spareZero sameQueue isOpen sameBlockState samePeer hasPeer isDirty listOf noPiece noBlock withPeerCount withState withPriority withFlushed withPeer withBlocks withFlags withSeeds withCursors withPieces withPartials withRecentExtents withListing pieceAt withPiece piecesIn markDirty pieceSizeAt blocksPerPiece blocksInPiece payloadBlocksInPiece extentSize numExtents extentFor extentStart extentEnd validGeometry freshPiece new unlisted adjustment bucketNumber bucket rankOf rank draw groupStart groupSize carry turnLeft bring turnRight placed removed earlier later swap added addDraws groupLast groupDrawn changed changeDraws updated updateDraws inserted sorted shuffled runLength groupsShuffled groupDraws withBucket sortedPieces rebuilt rebuildDraws drawing noDraw updateIn update updatePiecesIn updatePieces changeAndUpdate risingFrom rising ListingOk findDlPiece partialOf blockAt blocksInState progress inQueue replaceIn replacePartial replaceBlock inDirection newState setState moveState updateStateOf updatePieceState freshBlock freshPartial insertIn addPartial addDownloadPiece dropPartial eraseDownloadPiece eraseAndUpdate quietly saying incPeerCount decPeerCount allPieces incRefcount breakOneSeed decRefcount incRefcountAll decRefcountAll flushedOrFiltered flushedOrFilteredRun cursorFrom reverseFrom emptyRange advanceCursors cursorsOnFilter filterChanges prioritySet setPiecePriority neighbours worthRecording recordable recordDownloadingPiece reverseAsked affinityAsked opened setBlock markFirst markOpening setDirection makePieceReverse unreversePiece requestedBy writtenBy finishedBy received request markDownloadingIn markAsDownloading markWritingIn markAsWriting pieceFlushed allFinished flushIf flushDone finishedPeer markFinishedIn markAsFinished freed canceled freeBlock cancelIn markAsCanceled released abortIn abortDownload lockIn lockPiece passIn piecePassed plain one flag passedIn havePiece filtered piecesWhere countWhere sum padBytesWhere numHave numFiltered numHaveFiltered counted copies lowest distributed info infoOf queueInfo queueSizes availability replyPicker listPicker ofPartial hashingIn finishedIn peersIn blockInfo stats replyPiece listPiece blockIn blockTest ofBlockThere numPeersOf downloaderOf replyBlock placeIn listPlace reply option hasBit startState spent withOut withContiguous withBackup withPicker ignore flagged steps isIgnored contiguousIsZero contiguousAbove shorter wholePieces isPieceFree canPick downBy upBy alone lowestStart spanFrom spanOf expandPiece piecesOf pieceBlock took contiguousMet contiguousOver spanStep takeSpan takePayload addNewPiece longer longestFree byAnother requestedFrom freeFrom enoughAside putAside setAside freeHalt takeFree keepingContiguous useFree addBlocksDownloading addPartialOf addStanding addBlocks appendBlocks forced isForced forcedRequest effectiveRequest startPick usable scanStep scanPartials partialCompareRarestFirst byRarity orderedPartials partialStep walkPartials pickScanned pickPartials visit suggest pickSuggested leadingTop visitBelowTop pickRange pickSequential inRange visitOutside rareStep reverseRareStep allFlushed foundFinished extentStep forgetExtent pickExtents pickForward pickRarest standsOpen onward trace sameTrace skipStep skipDone skip randStep takeAll arrive randomSpan randomPiece randomVisit ended marked lapEnds lapFrom lapStep walkOver ring pickRandom busyBlocks fullPartials noPartial swapRemove endGameTry endGameStep endGameDone pickEndGame withListUpdated pickListed pickMain pickRest phases pickPieces headOk pieceOk peerOk blockOk stateOk partialOk extentOk placeOk piecesOk partialsOk extentsOk orderOk listingOk wellFormed partialsFrom bodyLength bytesOf headRecord pieceRecord peerBytes blockRecord flagsOf partialRecords numberRecord image next numberOf field startsWith given judged obeying headOf readHead pieceOf readPiece peerFits peerOf blockOf readBlock lastFits readLastBlock readPartial getPieces getBlocks partialWith getPartial getPartials readExtent comes getExtents readPlace getOrder getListing getPicker whole readImage requestOf readRequest getJob pickOf jobAnswer programAnswer program wordsNeeded memoryNeeded recordsNeeded check refuseFewDraws refuseBadPiece refuseBadBlock peersFull numPeersFull blockThere noPartialLeft noPlace questionRefusal bitfieldFits requestFits refusal answering changeAnswer changing doing lentPeer lentRequest picking act unlessRefused step answers run within newPicker readWithin readPicker takeImage
 everything = tt

@@ -9,7 +9,7 @@ use Rattle.types.specs.declared.queue.DownloadQueue.the-variants.{Downloading, 
 use Rattle.types.specs.declared.block.BlockState.{BlockState}
 use Rattle.types.specs.declared.block.BlockState.the-variants.{None, Requested, Finished}
 use Rattle.types.specs.Queue.{unreverse, makeReverse, isReverse}
-use Rattle.model.specs.Lists.{bit, count, filter, each, from, nth, setNth, len, unless}
+use Rattle.model.specs.Lists.{bit, count, filter, each, from, nth, setNth, len, unless, insertBy}
 use Rattle.model.specs.State.{Block, DownloadingPiece, Picker, noBlock, sameQueue, isOpen, sameBlockState, withBlocks, withPartials}
 use Rattle.model.specs.State.{withPiece, withState, pieceAt, blocksInPiece, payloadBlocksInPiece}
 use Rattle.model.specs.list.Order.{Drawing, noDraw, changeAndUpdate}
@@ -105,8 +105,7 @@ freshPartial s i =
 
 -- a partial put in by rising piece
 unfoldable pub insertIn : DownloadingPiece → List DownloadingPiece → List DownloadingPiece
-insertIn d [] = d ∷ []
-insertIn d (e ∷ es) = cond (ltb (d .piece) (e .piece)) (d ∷ e ∷ es) (e ∷ insertIn d es)
+insertIn d ds = insertBy (λ e f. ltb (e .piece) (f .piece)) d ds
 
 -- a partial for piece i
 unfoldable pub addPartial : ℕ → Picker → Picker
