@@ -76,12 +76,12 @@ scanStep a d scan =
 unfoldable pub scanPartials : (a : PickRequest) (w : PickState) → PartialScan
 scanPartials a w = forEach (scanStep a) (inQueue Downloading (w .picker)) (record { work = w; partials = [] })
 
--- `partial_compare_rarest_first`, as a test: d goes before d₂ where fewer peers have it or, of as many, where it is closer to complete
+-- `partial_compare_rarest_first`, as a test: d goes before d′ where fewer peers have it or, of as many, where it is closer to complete
 unfoldable pub partialCompareRarestFirst : (s : Picker) (d d′ : DownloadingPiece) → Bool
-partialCompareRarestFirst s d d₂ =
+partialCompareRarestFirst s d d′ =
     let n = pieceAt s (d .piece) .peerCount in
-    let n₂ = pieceAt s (d₂ .piece) .peerCount in
-    ltb n n₂ || (eqb n n₂ && ltb (progress d₂) (progress d))
+    let n′ = pieceAt s (d′ .piece) .peerCount in
+    ltb n n′ || (eqb n n′ && ltb (progress d′) (progress d))
 
 -- RAREST_FIRST, and not on parole
 unfoldable pub byRarity : (a : PickRequest) → Bool
