@@ -6,7 +6,7 @@ ghost use Rattle.model.specs.Lists.{bit, len};
 ghost use Rattle.model.specs.State.{blocksInPiece};
 ghost use Rattle.model.specs.change.Partials.{blockAt};
 ghost use Rattle.layout.specs.Layout.{decode, stateFrom, partialIn, withPartial, withBlock, Room, Became};
-ghost use Rattle.layout.proofs.BlockStores.{BlockPut};
+ghost use Rattle.layout.specs.Frames.{BlockPut};
 ghost use Rattle.records.specs.Rows.{blockOfRow, BlockRead};
 
 // A block's state by its number, its requesters, and its peer where it has one.
