@@ -9,11 +9,15 @@ use native.Mathlib.Omega.{arith}
 use lib.Dec.{eqb, leb}
 use lib.ListN.{getD}
 use borrow.Author.Tests.{eq-eqb, ne-eqb, eqb-true, leb-true}
-use Rattle.model.specs.Lists.{every, from}
+use Rattle.model.specs.Lists.{every, from, nth}
+use Rattle.model.specs.State.{sameQueue, isOpen}
+use Rattle.model.specs.list.Order.{bucket, unlisted, bucketNumber, adjustment, rankOf}
 use Rattle.model.proofs.base.Truths.{both-true}
 use Rattle.list_rank.specs.Ranks.{off, unlistedBy}
 use Rattle.list_rank.proofs.Ranking.{product, taken-off, rank-none, rank-some}
-use Rattle.piece_rows.specs.Rows.{rankFrom, Ranked, weightRows}
+use Rattle.layout.specs.Tables.{tab}
+use Rattle.layout.specs.Layout.{queueFrom, yes?}
+use Rattle.piece_rows.specs.Rows.{pieceFrom, rankFrom, Ranked, perPeer, weight, weightRows}
 use Rattle.piece_rows.proofs.RowLaws.{numbers-of}
 use Rattle.piece_rows.proofs.PieceTests.{every-from}
 
@@ -27,7 +31,7 @@ unfoldable pub weightOf : ℕ → ℕ → ℕ
 weightOf state priority = cond (none? state priority) 0 ((24 - 3 * priority) * 4 + (off state - 1))
 
 all-weights : every (λ s. every (λ w. eqb (getD (getD weightRows s []) w 0) (weightOf s w)) (from 0 8)) (from 0 7) ≡ true
-unfolding every from weightRows weightOf none? off
+unfolding every from weightRows weight perPeer rankFrom pieceFrom tab bucket unlisted bucketNumber adjustment rankOf queueFrom nth sameQueue isOpen yes? weightOf none? off
 all-weights = refl
 
 pub weight-at : (state priority : ℕ) → state ≤ 6 → priority ≤ 7 → getD (getD weightRows state []) priority 0 ≡ weightOf state priority
@@ -39,7 +43,7 @@ weight-at state priority s w =
 
 -- a weight is a small number
 small-weights : every (λ s. every (λ w. leb (getD (getD weightRows s []) w 0) 86) (from 0 8)) (from 0 7) ≡ true
-unfolding every from weightRows
+unfolding every from weightRows weight perPeer rankFrom pieceFrom tab bucket unlisted bucketNumber adjustment rankOf queueFrom nth sameQueue isOpen yes?
 small-weights = refl
 
 pub weight-small : (state priority w : ℕ) → state ≤ 6 → priority ≤ 7 → w ≡ getD (getD weightRows state []) priority 0 → w ≤ 86
