@@ -44,7 +44,7 @@ pub fn number_of(piece: PieceIndex) -> u64
     ensures { λ r. ⌜ r ≡ indexOf (piece .0) ⌝ }
 {
     let i = piece.get();
-    i as u64
+    types::usize_to_u64(i)
 }
 
 // The length of a piece.

@@ -9,27 +9,6 @@ ghost use Rattle.model.specs.Lists.{bit, placeOf};
 ghost use Rattle.model.specs.list.Order.{draw, swap, added, addDraws, removed};
 ghost use Rattle.list_moves.specs.Places.{rankIn, Pieces, carried, pushed, pulled, IsGroup};
 
-// A word as an index.
-pub fn idx(x: u64) -> usize
-    ensures { λ r. ⌜ r ≡ x ⌝ }
-{
-    x as usize
-}
-
-// A word of 32 bits as an index.
-pub fn wide(x: u32) -> usize
-    ensures { λ r. ⌜ r ≡ x ⌝ }
-{
-    x as usize
-}
-
-// A word of 16 bits as one of 64.
-pub fn word(x: u16) -> u64
-    ensures { λ r. ⌜ r ≡ x ⌝ }
-{
-    x as u64
-}
-
 // 1 where b is more than a, and 0 otherwise.
 pub fn more(a: usize, b: usize) -> usize
     ensures { λ r. ⌜ r ≡ bit (ltb a b) ⌝ }
@@ -42,7 +21,7 @@ pub fn key(keys: &[u16], x: u64) -> u64
     requires { ⌜ x < length (now keys) ⌝ }
     ensures { λ r. ⌜ r ≡ rankIn (now (keys .entry)) x ⌝ }
 {
-    word(keys[idx(x)])
+    types::u16_to_u64(keys[types::u64_to_usize(x)])
 }
 
 // Draw number t, from 0 to the limit; beyond the last word it is 0.
@@ -51,7 +30,7 @@ pub fn draw(draws: &[u32], t: usize, limit: usize) -> usize
     ensures { λ r. ⌜ r ≡ draw (now (draws .entry)) t limit ⌝ }
 {
     if t < draws.len() {
-        return wide(draws[t]) % (limit + 1);
+        return types::u32_to_usize(draws[t]) % (limit + 1);
     }
     0
 }

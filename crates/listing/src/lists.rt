@@ -66,7 +66,7 @@ fn mend_list(
     let n = s.pieces;
     let a = layout::list_start(s);
     let len = heads::list_length(mem, s);
-    let w = layout::word(x);
+    let w = types::usize_to_u64(x);
     let done = list_update::relist(&mut mem[a..a + n], &keys, len, w, old, draws, t);
     heads::set_list_length(mem, s, done.len);
     done.used

@@ -57,7 +57,7 @@ pub fn rank_pieces(mem: &[u64], s: layout::Shape, keys: &mut [u16; 4096])
     let n = s.pieces;
     let mut i = 0;
     while i < n {
-        keys[i] = layout::short(rank_at(mem, s, i));
+        keys[i] = types::u64_to_u16(rank_at(mem, s, i));
         i += 1;
     }
 }

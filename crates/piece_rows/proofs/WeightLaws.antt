@@ -6,9 +6,9 @@ use Prim.Native.Nat.{ℕ, _+_, _-_, _*_, _/_, _%_, _≤_}
 use native.Mathlib.Nat.{mul-assoc, mul-zero}
 use native.Mathlib.Decide.{ℕ-discrete}
 use native.Mathlib.Omega.{arith}
-use lib.Dec.{eqb, leb}
+use lib.Dec.{eqb}
 use lib.ListN.{getD}
-use borrow.Author.Tests.{eq-eqb, ne-eqb, eqb-true, leb-true}
+use borrow.Author.Tests.{eq-eqb, ne-eqb, eqb-true}
 use Rattle.model.specs.Lists.{every, from, nth}
 use Rattle.model.specs.State.{sameQueue, isOpen}
 use Rattle.model.specs.list.Order.{bucket, unlisted, bucketNumber, adjustment, rankOf}
@@ -40,21 +40,6 @@ weight-at state priority s w =
     (every-from (λ v. eqb (getD (getD weightRows state []) v 0) (weightOf state v)) 0 8
     (every-from (λ t. every (λ v. eqb (getD (getD weightRows t []) v 0) (weightOf t v)) (from 0 8)) 0 7 all-weights state (omega arith) (omega arith))
     priority (omega arith) (omega arith))
-
--- a weight is a small number
-small-weights : every (λ s. every (λ w. leb (getD (getD weightRows s []) w 0) 86) (from 0 8)) (from 0 7) ≡ true
-unfolding every from weightRows weight perPeer rankFrom pieceFrom tab bucket unlisted bucketNumber adjustment rankOf queueFrom nth sameQueue isOpen yes?
-small-weights = refl
-
-pub weight-small : (state priority w : ℕ) → state ≤ 6 → priority ≤ 7 → w ≡ getD (getD weightRows state []) priority 0 → w ≤ 86
-weight-small state priority w s h e =
-    omega (
-      arith,
-      leb-true (getD (getD weightRows state []) priority 0) 86
-          (every-from (λ v. leb (getD (getD weightRows state []) v 0) 86) 0 8
-          (every-from (λ t. every (λ v. leb (getD (getD weightRows t []) v 0) 86) (from 0 8)) 0 7 small-weights state (omega arith) (omega arith))
-          priority (omega arith) (omega arith)),
-    )
 
 -- ---- the product with the count
 -- a weight that is 0

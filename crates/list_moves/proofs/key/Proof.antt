@@ -1,4 +1,4 @@
--- `key` meets its contract: the word read is the rank. Assumes nothing.
+-- `key` meets its contract: the u16-to-u64 read is the rank. Assumes nothing.
 use borrow.Author.Needs.{needs}
 use mathlib.Core.Path.{_∙_}
 use Rattle.model.specs.Lists.{nth}
@@ -6,21 +6,21 @@ use Rattle.list_moves.specs.Places.{rankIn}
 use Rattle.list_moves.proofs.key.Statement.{statement}
 use Rattle.list_moves.proofs.key.Tie as tie
 
-idx-requires : tie.Need-idx-requires
-idx-requires c κs = search needs
+u64-to-usize-requires : tie.Need-u64-to-usize-requires
+u64-to-usize-requires c κs = search needs
 
-mul-word : tie.Need-mul-word
-mul-word c = search needs
+mul-u16-to-u64 : tie.Need-mul-u16-to-u64
+mul-u16-to-u64 c = search needs
 
-shared-slice-read-word : tie.Need-shared-slice-read-word
-shared-slice-read-word c = search needs
+shared-slice-read-u16-to-u64 : tie.Need-shared-slice-read-u16-to-u64
+shared-slice-read-u16-to-u64 c = search needs
 
-word-requires : tie.Need-word-requires
-word-requires c κs = search needs
+u16-to-u64-requires : tie.Need-u16-to-u64-requires
+u16-to-u64-requires c κs = search needs
 
 returns : tie.Need-returns
 unfolding rankIn nth
-returns c = c .word .ensures ∙ rw (c .before .before .idx .ensures)
+returns c = c .u16-to-u64 .ensures ∙ rw (c .before .before .u64-to-usize .ensures)
 
 pub key-spec : {M : Type 1} → statement M
-key-spec = tie.close (tie.spec idx-requires mul-word shared-slice-read-word word-requires returns)
+key-spec = tie.close (tie.spec u64-to-usize-requires mul-u16-to-u64 shared-slice-read-u16-to-u64 u16-to-u64-requires returns)

@@ -15,8 +15,8 @@ list-start-requires c κs = search needs
 list-length-requires : tie.Need-list-length-requires
 list-length-requires c κs = search needs
 
-word-requires : tie.Need-word-requires
-word-requires c κs = search needs
+usize-to-u64-requires : tie.Need-usize-to-u64-requires
+usize-to-u64-requires c κs = search needs
 
 add-relist : tie.Need-add-relist
 add-relist c = search needs
@@ -44,7 +44,7 @@ relist-requires c κs =
     let k = c .before .before .before .before .before .before .rank-pieces in
     let a = c .before .before .before .before .before .list-start in
     let n = c .before .before .before .list-length in
-    let w = c .before .before .word in
+    let w = c .before .before .usize-to-u64 in
     let r = keys-rank (t .args .s) (t .args .mem .now) (k .last .1 .1 .0) _ (t .pre .0) (k .ensures) (zeros 4096) in (
       mending-room (t .args .s) (t .args .mem .now) (k .last .1 .1 .0) (t .pre .0) r (t .args .old) (t .args .x) (t .pre .1 .1 .0) (t .pre .1 .1 .1 .0)
           (a .result) (a .ensures) (n .result) (w .result) (n .ensures) (w .ensures),
@@ -65,7 +65,7 @@ set-list-length-requires c κs =
     let k = c .before .before .before .before .before .before .before .before .before .before .rank-pieces in
     let a = c .before .before .before .before .before .before .before .before .before .list-start in
     let n = c .before .before .before .before .before .before .before .list-length in
-    let w = c .before .before .before .before .before .before .word in
+    let w = c .before .before .before .before .before .before .usize-to-u64 in
     let u = c .before .before .before .relist in
     mended-ready (t .args .s) (t .args .mem .now) (k .last .1 .1 .0) (t .pre .0)
     (keys-rank (t .args .s) (t .args .mem .now) (k .last .1 .1 .0) _ (t .pre .0) (k .ensures) (zeros 4096)) (t .args .old) (t .args .x) (t .pre .1 .1 .0) (t .pre .1 .1 .1 .0)
@@ -81,7 +81,7 @@ returns c =
     let k = c .before .before .before .before .before .before .before .before .before .before .before .before .before .rank-pieces in
     let a = c .before .before .before .before .before .before .before .before .before .before .before .before .list-start in
     let n = c .before .before .before .before .before .before .before .before .before .before .list-length in
-    let w = c .before .before .before .before .before .before .before .before .before .word in
+    let w = c .before .before .before .before .before .before .before .before .before .usize-to-u64 in
     let u = c .before .before .before .before .before .before .relist in
     mended (t .args .s) (t .args .mem .now) (k .last .1 .1 .0) (t .pre .0)
     (keys-rank (t .args .s) (t .args .mem .now) (k .last .1 .1 .0) _ (t .pre .0) (k .ensures) (zeros 4096)) (t .args .old) (t .args .x) (t .pre .1 .1 .0) (t .pre .1 .1 .1 .0)
@@ -96,7 +96,7 @@ mend-list-spec =
     rank-pieces-requires
     list-start-requires
     list-length-requires
-    word-requires
+    usize-to-u64-requires
     add-relist
     mul-relist
     sub-relist

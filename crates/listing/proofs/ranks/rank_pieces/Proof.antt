@@ -19,8 +19,8 @@ loop-holds c = keying-start _ _ _ (c .before .pre .1 .1)
 rank-at-requires : tie.Need-rank-at-requires Inv-loop μ-loop
 rank-at-requires c κs = let t = c .before .before .before in (t .pre .0, (t .pre .1 .0, c .loop-test .taken))
 
-short-requires : tie.Need-short-requires Inv-loop μ-loop
-short-requires c κs = omega (arith, c .rank-at .ensures .1)
+u64-to-u16-requires : tie.Need-u64-to-u16-requires Inv-loop μ-loop
+u64-to-u16-requires c κs = omega (arith, c .rank-at .ensures .1)
 
 mul-keys : tie.Need-mul-keys Inv-loop μ-loop
 mul-keys c = omega (arith, c .before .before .before .before .before .pre .0 .spans .sizes .many)
@@ -36,7 +36,7 @@ loop-less c = search needs
 
 loop-again : tie.Need-loop-again Inv-loop μ-loop
 loop-again c =
-    keying-next _ _ _ _ _ (c .before .before .before .loop .inv) (c .before .before .before .before .before .pre .0 .spans .sizes .many) (c .before .before .loop-test .taken) _ (rw (c .short .ensures) (c .before .rank-at .ensures))
+    keying-next _ _ _ _ _ (c .before .before .before .loop .inv) (c .before .before .before .before .before .pre .0 .spans .sizes .many) (c .before .before .loop-test .taken) _ (rw (c .u64-to-u16 .ensures) (c .before .rank-at .ensures))
 
 returns : tie.Need-returns Inv-loop μ-loop
 returns c = keying-end _ _ _ _ _ (c .before .loop .inv) (c .loop-test .left)
@@ -49,7 +49,7 @@ rank-pieces-spec =
     μ-loop
     loop-holds
     rank-at-requires
-    short-requires
+    u64-to-u16-requires
     mul-keys
     element-write-keys
     add-i
