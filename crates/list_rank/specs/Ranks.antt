@@ -8,19 +8,19 @@ use Rattle.model.specs.State.{Piece}
 use Rattle.model.specs.list.Order.{bucket, rankOf}
 
 -- the piece is in no bucket
-unfoldable pub unlistedBy : ℕ → ℕ → ℕ → ℕ → Bool → Bool
+unfoldable pub unlistedBy : (seeds peerCount state priority : ℕ) (flushed : Bool) → Bool
 unlistedBy seeds peerCount state priority flushed = eqb priority 0 || (flushed || (eqb (peerCount + seeds) 0 || (eqb state 1 || eqb state 2)))
 
--- what the state of a number takes off
-unfoldable pub off : ℕ → ℕ
-off state = cond (eqb state 5 || eqb state 6) 1 (cond (eqb state 4) 2 3)
+-- what the state of a number takes off the product
+unfoldable pub adjustmentOf : (state : ℕ) → ℕ
+adjustmentOf state = cond (eqb state 5 || eqb state 6) 1 (cond (eqb state 4) 2 3)
 
 -- the piece has these numbers
 pub record Numbers (peerCount state priority : ℕ) (flushed : Bool) (p : Piece) : Type 0 where
-  pub counts : p .peerCount ≡ peerCount
-  pub states : queueNumber (p .state) ≡ state
-  pub priorities : p .priority ≡ priority
-  pub flushes : p .flushed ≡ flushed
+  pub peerCount-is : p .peerCount ≡ peerCount
+  pub state-is : queueNumber (p .state) ≡ state
+  pub priority-is : p .priority ≡ priority
+  pub flushed-is : p .flushed ≡ flushed
 
 -- r is the rank of every piece that has these numbers, and has a place in a table of 21,022
 pub record IsRank (seeds peerCount state priority : ℕ) (flushed : Bool) (r : ℕ) : Type 0 where

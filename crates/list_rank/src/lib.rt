@@ -1,7 +1,7 @@
 // The rank of a piece by its numbers: one more than its bucket, and 0 where it is in none.
 ghost use mathlib.Core.Path.{_≡_};
 ghost use Prim.Native.Nat.{_≤_};
-ghost use Rattle.list_rank.specs.Ranks.{off, unlistedBy, IsRank};
+ghost use Rattle.list_rank.specs.Ranks.{adjustmentOf, unlistedBy, IsRank};
 
 // No rank: not wanted, there already, with no peer that has it, or all of it requested or received.
 pub fn unlisted(seeds: u64, peer_count: u64, state: u64, priority: u64, flushed: bool) -> bool
@@ -12,7 +12,7 @@ pub fn unlisted(seeds: u64, peer_count: u64, state: u64, priority: u64, flushed:
 
 // What the state takes off: 1 for the two reverse ones, 2 where the piece is in no queue, and 3 for any other.
 pub fn adjustment(state: u64) -> u64
-    ensures { λ r. ⌜ r ≡ off state ⌝ }
+    ensures { λ r. ⌜ r ≡ adjustmentOf state ⌝ }
 {
     if (state == 5) | (state == 6) {
         return 1;

@@ -1,10 +1,10 @@
--- `key` meets its contract: the u16-to-u64 read is the rank. Assumes nothing.
+-- `rank_of` meets its contract: the u16-to-u64 read is the rank. Assumes nothing.
 use borrow.Author.Needs.{needs}
 use mathlib.Core.Path.{_∙_}
 use Rattle.model.specs.Lists.{nth}
 use Rattle.list_moves.specs.Places.{rankIn}
-use Rattle.list_moves.proofs.key.Statement.{statement}
-use Rattle.list_moves.proofs.key.Tie as tie
+use Rattle.list_moves.proofs.rank_of.Statement.{statement}
+use Rattle.list_moves.proofs.rank_of.Tie as tie
 
 u64-to-usize-requires : tie.Need-u64-to-usize-requires
 u64-to-usize-requires c κs = search needs
@@ -22,5 +22,5 @@ returns : tie.Need-returns
 unfolding rankIn nth
 returns c = c .u16-to-u64 .ensures ∙ rw (c .before .before .u64-to-usize .ensures)
 
-pub key-spec : {M : Type 1} → statement M
-key-spec = tie.close (tie.spec u64-to-usize-requires mul-u16-to-u64 shared-slice-read-u16-to-u64 u16-to-u64-requires returns)
+pub rank-of-spec : {M : Type 1} → statement M
+rank-of-spec = tie.close (tie.spec u64-to-usize-requires mul-u16-to-u64 shared-slice-read-u16-to-u64 u16-to-u64-requires returns)
