@@ -44,20 +44,20 @@ wanted false b e = refl
 -- ---- what the state takes off
 module _ (state : ℕ) where
   -- a reverse one
-  pub off-reverse : (eqb state 5 || eqb state 6) ≡ true → 1 ≡ adjustmentOf state
+  pub adjustment-reverse : (eqb state 5 || eqb state 6) ≡ true → 1 ≡ adjustmentOf state
   unfolding adjustmentOf
-  off-reverse e = rw e
+  adjustment-reverse e = rw e
 
   module _ (e : (eqb state 5 || eqb state 6) ≡ false) where
     -- in no queue
-    pub off-open : state ≡ 4 → 2 ≡ adjustmentOf state
+    pub adjustment-open : state ≡ 4 → 2 ≡ adjustmentOf state
     unfolding adjustmentOf
-    off-open q = rw (e, eq-eqb state 4 q)
+    adjustment-open q = rw (e, eq-eqb state 4 q)
 
     -- any other
-    pub off-other : state ≢ 4 → 3 ≡ adjustmentOf state
+    pub adjustment-other : state ≢ 4 → 3 ≡ adjustmentOf state
     unfolding adjustmentOf
-    off-other q = rw (e, ne-eqb state 4 q)
+    adjustment-other q = rw (e, ne-eqb state 4 q)
 
 adjustment-is : (q : DownloadQueue) → adjustmentOf (queueNumber q) ≡ adjustment q
 unfolding adjustmentOf adjustment isOpen sameQueue
@@ -69,9 +69,9 @@ adjustment-is Open = refl
 adjustment-is DownloadingReverse = refl
 adjustment-is FullReverse = refl
 
-off-least : (state : ℕ) → (1 ≤ adjustmentOf state) × (adjustmentOf state ≤ 3)
+adjustment-least : (state : ℕ) → (1 ≤ adjustmentOf state) × (adjustmentOf state ≤ 3)
 unfolding adjustmentOf
-off-least state =
+adjustment-least state =
     cond-both (λ (n : ℕ). (1 ≤ n) × (n ≤ 3)) (eqb state 5 || eqb state 6) _ _ (λ t. (omega arith, omega arith))
     (λ t. cond-both (λ (n : ℕ). (1 ≤ n) × (n ≤ 3)) (eqb state 4) _ _ (λ u. (omega arith, omega arith)) (λ u. (omega arith, omega arith)))
 
@@ -101,7 +101,7 @@ module _ (seeds peerCount state priority : ℕ) (flushed : Bool) where
 
     -- what is taken off is 1 to 3
     pub taken-off : (1 ≤ adjustmentOf state) × (adjustmentOf state ≤ 3)
-    taken-off = off-least state
+    taken-off = adjustment-least state
 
     -- a piece in a bucket
     pub rank-some : (d : ℕ) → d ≡ adjustmentOf state → IsRank seeds peerCount state priority flushed ((peerCount + 1) * (8 - priority) * 3 - d + 1)
