@@ -10,12 +10,12 @@ mod list_operations;
 use std::io::BufRead;
 use std::process::exit;
 
-#[link(name = "lists_c", kind = "static")]
+#[link(name = "link_lists", kind = "static")]
 extern "C" {
     fn ls_queue_place(mem: *const u64, len: usize, q: usize, j: usize) -> usize;
 }
 
-#[link(name = "well_formed_c", kind = "static")]
+#[link(name = "link_memory", kind = "static")]
 extern "C" {
     /// Asks nothing of its caller.
     fn wf_well_formed(mem: *const u64, len: usize) -> bool;
