@@ -1,0 +1,335 @@
+"""`python3 -m compare.planted`: faults planted one at a time, each of which the comparison with the Rust has to find.
+
+A fault is an edit of one line, kept in compare/planted/: in the definition (crates/model/specs), in the reference, or in the oracle's
+own judging. The file at fault stands in a temporary copy, and what the project compares is compared with that copy:
+
+    definition  the recorded calls, the lists of compare/edges.py, random lists, damaged images, the pick program's inputs
+    reference   the same, by reference.run, compare.run, compare.faults and compare.programs
+    oracle      built anew; compare.record --check, compare.run, compare.faults
+
+A fault with `survives:` changes nothing that anyone can see, for the reason given there. Status 1 where a fault is not found, where a
+survivor is found, or where the unchanged text is found at fault; 2 where an edit does not apply or the edited text does not run.
+`--only KIND` plants one kind; `--sample N` plants N faults drawn with `--seed S` from all kinds, and no survivor."""
+import argparse
+import collections
+import multiprocessing
+import os
+import random
+import shutil
+import signal
+import subprocess
+import sys
+import tempfile
+import time
+from typing import NamedTuple
+
+from compare.antt_parse import AnttError
+from compare.definition import compare_definition, oracle_outcomes, recorded_outcomes, script_lines, wrong_program
+from compare.antt import with_deep_stack
+from compare.edges import edges
+from compare.faults import damaged, images, read_line
+from compare.lists import lists
+from compare.recorded import CALLS, OUTCOMES
+from compare.run import TOP
+
+FAULTS = os.path.join(TOP, "compare", "planted")
+FOLDERS = {
+    "definition": os.path.join("crates", "model", "specs"),
+    "reference": "reference",
+    "oracle": os.path.join("oracle", "src", "oracle"),
+}
+COPIED = {"definition": FOLDERS["definition"], "reference": "reference", "oracle": "oracle"}  # what a fault of a kind has a copy of
+KEYS = ("file", "old", "new", "fault", "survives")
+SEED = 9
+RANDOM_CALLS = 3000
+DAMAGED_IMAGES = 3
+SECONDS = 150  # an edit may make a walk endless
+WORKERS = 2
+
+
+class Unusable(Exception):
+    """A fault that cannot be planted."""
+
+
+class Fault(NamedTuple):
+    kind: str
+    number: int
+    file: str
+    old: str
+    new: str
+    what: str
+    survives: str
+
+    def __str__(self):
+        return f"{self.kind} {self.number}, {self.file}: {self.what}"
+
+
+class Evidence(NamedTuple):
+    """Calls, and what the unchanged oracle answers."""
+
+    name: str
+    lines: list
+    outcomes: list
+
+
+# ---- the faults
+def blocks_of(text):
+    """The blocks of a file of faults: each the lines between empty ones, without comments."""
+    block = []
+    for number, line in enumerate(text.split("\n") + [""], 1):
+        if line.strip() and not line.startswith("#"):
+            block.append((number, line))
+        elif block and not line.strip():
+            yield block
+            block = []
+
+
+def fault_of(kind, number, block):
+    values = {}
+    for at, line in block:
+        key, colon, value = line.partition(": ")
+        if not colon or key not in KEYS or key in values:
+            raise Unusable(f"{kind}.txt, line {at}: none of the keys {', '.join(KEYS)}, or one given twice")
+        values[key] = value
+    missing = [key for key in KEYS[:-1] if not values.get(key)]
+    if missing or values["old"] == values["new"]:
+        raise Unusable(f"{kind}.txt, line {block[0][0]}: {'no ' + missing[0] if missing else 'the edit changes nothing'}")
+    return Fault(kind, number, *(values.get(key, "") for key in KEYS))
+
+
+def faults_of(kind):
+    with open(os.path.join(FAULTS, f"{kind}.txt"), encoding="utf-8") as f:
+        found = [fault_of(kind, k, block) for k, block in enumerate(blocks_of(f.read()), 1)]
+    edits = collections.Counter((f.file, f.old, f.new) for f in found)
+    twice = [f for f in found if edits[f.file, f.old, f.new] > 1]
+    if twice:
+        raise Unusable(f"{twice[0]}: planted twice")
+    return found
+
+
+def edited(fault):
+    """The text of the file with the fault in it."""
+    path = os.path.join(TOP, FOLDERS[fault.kind], fault.file)
+    try:
+        with open(path, encoding="utf-8") as f:
+            text = f.read()
+    except OSError as why:
+        raise Unusable(f"{fault}: {why.strerror}")
+    many = text.count(fault.old)
+    if many != 1:
+        raise Unusable(f"{fault}: the text to edit stands {many} times in the file: {fault.old}")
+    return text.replace(fault.old, fault.new)
+
+
+def control(kind):
+    """The unchanged text, which nothing may find at fault."""
+    return Fault(kind, 0, "", "", "", "the unchanged text", "it is not at fault")
+
+
+def sample(faults, many, seed):
+    """So many faults that are to be found: half of them of the definition, a third of the reference, the others of the oracle."""
+    rng, out = random.Random(seed), []
+    shares = {"definition": many - many // 3 - -(-many // 6), "reference": many // 3, "oracle": -(-many // 6)}
+    for kind, share in shares.items():
+        found = [f for f in faults if f.kind == kind and not f.survives]
+        out += rng.sample(found, min(share, len(found)))
+    return out
+
+
+# ---- the evidence
+def evidence():
+    """Made once; the workers inherit it."""
+    rng = random.Random(SEED)
+    broken = ["zero"] + [read_line(d) for data in images(rng, DAMAGED_IMAGES) for d in damaged(rng, data)]
+    made = [step.line for steps in lists(SEED, RANDOM_CALLS, 0.0) for step in steps]
+    out = [Evidence("recorded", script_lines(CALLS), recorded_outcomes(OUTCOMES))]
+    return out + [Evidence(name, lines, oracle_outcomes(lines)) for name, lines in (("random", made), ("damaged", broken), ("edges", edges()))]
+
+
+# ---- a copy with the fault in it
+def copy(fault, folder):
+    """The project in a folder: links to all of it, but a copy of what the fault changes. Answers where the copy is."""
+    part = COPIED[fault.kind]
+    if fault.kind != "definition":
+        for name in os.listdir(TOP):
+            if name != part and not name.startswith(".") and not (fault.kind == "oracle" and name == "build"):
+                os.symlink(os.path.join(TOP, name), os.path.join(folder, name))
+    out = os.path.join(folder, part)
+    shutil.copytree(os.path.join(TOP, part), out, ignore=shutil.ignore_patterns("__pycache__"))
+    if fault.number:
+        with open(os.path.join(folder, FOLDERS[fault.kind], fault.file), "w", encoding="utf-8") as f:
+            f.write(edited(fault))
+    return out
+
+
+def run(folder, command, text=""):
+    """A command in the folder; its status, output and errors. No status where it does not end in time."""
+    rust = os.environ.get("PICKER_RUST_SRC") or os.path.join(TOP, "..", "shared", "docs", "src")
+    env = {**os.environ, "PICKER_RUST_SRC": os.path.abspath(rust), "PYTHONDONTWRITEBYTECODE": "1"}
+    env.pop("PYTHONPATH", None)
+    pipe = subprocess.PIPE
+    job = subprocess.Popen(command, cwd=folder, env=env, stdin=pipe, stdout=pipe, stderr=pipe, text=True, start_new_session=True)
+    try:
+        out, err = job.communicate(text, timeout=SECONDS)
+    except subprocess.TimeoutExpired:
+        os.killpg(job.pid, signal.SIGKILL)
+        job.communicate()
+        return None, "", ""
+    return job.returncode, out, err
+
+
+def python(*words):
+    return [sys.executable, "-m", *map(str, words)]
+
+
+# ---- what finds the fault: a name, or None
+def found_in_definition(specs, scripts):
+    for name, lines, due in scripts:
+        wrong = compare_definition(specs, lines, due, seconds=SECONDS)
+        if wrong:
+            if "no value: TypeError" in wrong or "no value: AttributeError" in wrong:
+                raise Unusable(f"the edited text has no value:\n{wrong[:2000]}")
+            return "time" if wrong.endswith(f"no answer within {SECONDS} s") else name
+    return "programs" if with_deep_stack(lambda: wrong_program(specs)) else None
+
+
+def shown(outcomes):
+    return [line for _, answer, image in outcomes for line in (answer, image)]
+
+
+def found_in_reference(folder, scripts):
+    for name, lines, due in scripts:
+        if name == "random":
+            continue
+        status, out, _ = run(folder, python("reference.run"), "".join(f"{line}\n" for line in lines) + "end\n")
+        if status is None or out.split("\n") != shown(due) + [f"end {len(due)}", ""]:
+            return "time" if status is None else name
+    commands = {"random": python("compare.run", RANDOM_CALLS, SEED, "--workers", 1), "programs": python("compare.programs")}
+    return first_failing(folder, commands)
+
+
+def first_failing(folder, commands):
+    """The name of the first command that does not end with status 0."""
+    for name, command in commands.items():
+        status, _, _ = run(folder, command)
+        if status != 0:
+            return "time" if status is None else name
+    return None
+
+
+def found_in_oracle(folder):
+    status, _, err = run(folder, [os.path.join(folder, "oracle", "build")])
+    if status != 0:
+        raise Unusable(f"the oracle does not build: {err[:2000]}")
+    commands = {
+        "recorded": python("compare.record", "--check"),
+        "random": python("compare.run", 4 * RANDOM_CALLS, SEED, "--workers", 1),
+        "damaged": python("compare.faults", SEED, 10 * DAMAGED_IMAGES),
+    }
+    return first_failing(folder, commands)
+
+
+def found(fault, scripts):
+    with tempfile.TemporaryDirectory() as folder:
+        part = copy(fault, folder)
+        if fault.kind == "definition":
+            return found_in_definition(part, scripts)
+        if fault.kind == "reference":
+            compiles(fault, folder)
+            return found_in_reference(folder, scripts)
+        return found_in_oracle(folder)
+
+
+def compiles(fault, folder):
+    path = os.path.join(folder, FOLDERS[fault.kind], fault.file)
+    if fault.number:
+        with open(path, encoding="utf-8") as f:
+            try:
+                compile(f.read(), path, "exec")
+            except SyntaxError as why:
+                raise Unusable(str(why))
+
+
+class Planted(NamedTuple):
+    fault: Fault
+    found: str  # by what, or None
+    unusable: str
+    seconds: float
+
+
+def plant(fault):
+    start = time.monotonic()
+    try:
+        by, why = found(fault, SCRIPTS), None
+    except (AnttError, Unusable) as error:
+        by, why = None, str(error)
+    return Planted(fault, by, why, time.monotonic() - start)
+
+
+# ---- the report
+def line_of(p):
+    took = f"{p.seconds:5.1f} s"
+    if p.unusable:
+        return f"{took}  NOT PLANTED: {p.fault}: {p.unusable}"
+    if p.found:
+        return f"{took}  {'LISTED AS A SURVIVOR, BUT ' if p.fault.survives else ''}found by {p.found}: {p.fault}"
+    return f"{took}  survives: {p.fault}: {p.fault.survives}" if p.fault.survives else f"{took}  NOT FOUND: {p.fault}"
+
+
+def as_listed(p):
+    return not p.unusable and bool(p.found) != bool(p.fault.survives)
+
+
+def figures(done):
+    for kind in FOLDERS:
+        ways = collections.Counter(p.found for p in done if p.fault.kind == kind and p.found)
+        if ways:
+            print(f"  {kind}: {sum(ways.values())} found, by " + ", ".join(f"{name} {many}" for name, many in ways.most_common()))
+
+
+def planted(faults):
+    """Every fault planted, each kind's unchanged text before them; the status."""
+    global SCRIPTS
+    SCRIPTS = evidence()
+    kinds = [kind for kind in FOLDERS if any(f.kind == kind for f in faults)]
+    todo = sorted(faults, key=lambda f: f.kind != "oracle")  # the longest first
+    done = []
+    with multiprocessing.get_context("fork").Pool(WORKERS, maxtasksperchild=1) as pool:
+        for p in pool.imap_unordered(plant, [control(kind) for kind in kinds] + todo):
+            print(line_of(p), flush=True)
+            done.append(p)
+    wrong = [p for p in done if not as_listed(p)]
+    done = [p for p in done if p.fault.number]
+    figures(done)
+    for p in wrong:
+        print(f"planted: {line_of(p)}", file=sys.stderr)
+    many = sum(1 for p in done if p.found)
+    print(f"{len(done)} faults planted, {many} found, {sum(1 for p in done if p.fault.survives and as_listed(p))} survive as listed")
+    return 2 if any(p.unusable for p in wrong) else 1 if wrong else 0
+
+
+def arguments():
+    ap = argparse.ArgumentParser()
+    ap.add_argument("--sample", type=int, default=0, metavar="N", help="N faults drawn from all kinds")
+    ap.add_argument("--seed", type=int, default=SEED, metavar="S", help="of the sample")
+    ap.add_argument("--only", choices=FOLDERS, help="faults of one kind")
+    ap.add_argument("--number", type=int, nargs="+", default=[], help="faults of these numbers")
+    return ap.parse_args()
+
+
+def main():
+    a = arguments()
+    try:
+        faults = [f for kind in FOLDERS if a.only in (None, kind) for f in faults_of(kind)]
+        for f in faults:
+            edited(f)
+    except Unusable as why:
+        print(f"planted: {why}", file=sys.stderr)
+        return 2
+    if a.number:
+        faults = [f for f in faults if f.number in a.number]
+    return planted(sample(faults, a.sample, a.seed) if a.sample else faults)
+
+
+if __name__ == "__main__":
+    sys.exit(main())
