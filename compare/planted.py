@@ -9,7 +9,8 @@ own judging. The file at fault stands in a temporary copy, and what the project 
 
 A fault with `survives:` changes nothing that anyone can see, for the reason given there. Status 1 where a fault is not found, where a
 survivor is found, or where the unchanged text is found at fault; 2 where an edit does not apply or the edited text does not run.
-`--only KIND` plants one kind; `--sample N` plants N faults drawn with `--seed S` from all kinds, and no survivor."""
+`--only KIND` plants one kind; `--sample N` plants N faults drawn with `--seed S` from all kinds, and no survivor, and leads the
+unchanged text through the recorded calls alone."""
 import argparse
 import collections
 import multiprocessing
@@ -23,9 +24,9 @@ import tempfile
 import time
 from typing import NamedTuple
 
+from compare.antt import with_deep_stack
 from compare.antt_parse import AnttError
 from compare.definition import compare_definition, oracle_outcomes, recorded_outcomes, script_lines, wrong_program
-from compare.antt import with_deep_stack
 from compare.edges import edges
 from compare.faults import damaged, images, read_line
 from compare.lists import lists
@@ -45,6 +46,8 @@ RANDOM_CALLS = 3000
 DAMAGED_IMAGES = 3
 SECONDS = 150  # an edit may make a walk endless
 WORKERS = 2
+ALL_WAYS = 99
+SCRIPTS = []  # the evidence, for the workers
 
 
 class Unusable(Exception):
@@ -118,7 +121,13 @@ def edited(fault):
     many = text.count(fault.old)
     if many != 1:
         raise Unusable(f"{fault}: the text to edit stands {many} times in the file: {fault.old}")
-    return text.replace(fault.old, fault.new)
+    out = text.replace(fault.old, fault.new)
+    if fault.kind == "reference":
+        try:
+            compile(out, fault.file, "exec")
+        except SyntaxError as why:
+            raise Unusable(f"{fault}: {why}")
+    return out
 
 
 def control(kind):
@@ -142,8 +151,9 @@ def evidence():
     rng = random.Random(SEED)
     broken = ["zero"] + [read_line(d) for data in images(rng, DAMAGED_IMAGES) for d in damaged(rng, data)]
     made = [step.line for steps in lists(SEED, RANDOM_CALLS, 0.0) for step in steps]
-    out = [Evidence("recorded", script_lines(CALLS), recorded_outcomes(OUTCOMES))]
-    return out + [Evidence(name, lines, oracle_outcomes(lines)) for name, lines in (("random", made), ("damaged", broken), ("edges", edges()))]
+    asked = [("random", made), ("damaged", broken), ("edges", edges())]
+    kept = Evidence("recorded", script_lines(CALLS), recorded_outcomes(OUTCOMES))
+    return [kept] + [Evidence(name, lines, oracle_outcomes(lines)) for name, lines in asked]
 
 
 # ---- a copy with the fault in it
@@ -163,7 +173,7 @@ def copy(fault, folder):
 
 
 def run(folder, command, text=""):
-    """A command in the folder; its status, output and errors. No status where it does not end in time."""
+    """A command in the folder; its status, output and errors."""
     rust = os.environ.get("PICKER_RUST_SRC") or os.path.join(TOP, "..", "shared", "docs", "src")
     env = {**os.environ, "PICKER_RUST_SRC": os.path.abspath(rust), "PYTHONDONTWRITEBYTECODE": "1"}
     env.pop("PYTHONPATH", None)
@@ -174,7 +184,7 @@ def run(folder, command, text=""):
     except subprocess.TimeoutExpired:
         os.killpg(job.pid, signal.SIGKILL)
         job.communicate()
-        return None, "", ""
+        raise TooLong
     return job.returncode, out, err
 
 
@@ -182,72 +192,71 @@ def python(*words):
     return [sys.executable, "-m", *map(str, words)]
 
 
-# ---- what finds the fault: a name, or None
-def found_in_definition(specs, scripts):
-    for name, lines, due in scripts:
-        wrong = compare_definition(specs, lines, due, seconds=SECONDS)
-        if wrong:
-            if "no value: TypeError" in wrong or "no value: AttributeError" in wrong:
-                raise Unusable(f"the edited text has no value:\n{wrong[:2000]}")
-            return "time" if wrong.endswith(f"no answer within {SECONDS} s") else name
-    return "programs" if with_deep_stack(lambda: wrong_program(specs)) else None
+# ---- what may find a fault: names, and tests that pass where something is found
+class TooLong(Exception):
+    """No end in the time that was given."""
 
 
-def shown(outcomes):
-    return [line for _, answer, image in outcomes for line in (answer, image)]
+def definition_differs(specs, script):
+    wrong = compare_definition(specs, script.lines, script.outcomes, seconds=SECONDS)
+    if wrong and wrong.endswith(f"no answer within {SECONDS} s"):
+        raise TooLong
+    if wrong and ("no value: TypeError" in wrong or "no value: AttributeError" in wrong):
+        raise Unusable(f"the edited text has no value:\n{wrong[:2000]}")
+    return wrong
 
 
-def found_in_reference(folder, scripts):
-    for name, lines, due in scripts:
-        if name == "random":
-            continue
-        status, out, _ = run(folder, python("reference.run"), "".join(f"{line}\n" for line in lines) + "end\n")
-        if status is None or out.split("\n") != shown(due) + [f"end {len(due)}", ""]:
-            return "time" if status is None else name
-    commands = {"random": python("compare.run", RANDOM_CALLS, SEED, "--workers", 1), "programs": python("compare.programs")}
-    return first_failing(folder, commands)
+def reference_differs(folder, script):
+    status, out, _ = run(folder, python("reference.run"), "".join(f"{line}\n" for line in script.lines) + "end\n")
+    shown = [line for _, answer, image in script.outcomes for line in (answer, image)]
+    return status != 0 or out.split("\n") != shown + [f"end {len(script.lines)}", ""]
 
 
-def first_failing(folder, commands):
-    """The name of the first command that does not end with status 0."""
-    for name, command in commands.items():
-        status, _, _ = run(folder, command)
-        if status != 0:
-            return "time" if status is None else name
-    return None
+def fails(folder, *words):
+    return lambda: run(folder, python(*words))[0] != 0
 
 
-def found_in_oracle(folder):
+def definition_ways(specs):
+    ways = [(s.name, lambda s=s: definition_differs(specs, s)) for s in SCRIPTS]
+    return ways[:1] + [("programs", lambda: with_deep_stack(lambda: wrong_program(specs)))] + ways[1:]
+
+
+def reference_ways(folder):
+    ways = [(s.name, lambda s=s: reference_differs(folder, s)) for s in SCRIPTS if s.name != "random"]
+    own = [("programs", fails(folder, "compare.programs")), ("random", fails(folder, "compare.run", RANDOM_CALLS, SEED, "--workers", 1))]
+    return ways[:1] + own + ways[1:]
+
+
+def oracle_ways(folder):
     status, _, err = run(folder, [os.path.join(folder, "oracle", "build")])
     if status != 0:
         raise Unusable(f"the oracle does not build: {err[:2000]}")
-    commands = {
-        "recorded": python("compare.record", "--check"),
-        "random": python("compare.run", 4 * RANDOM_CALLS, SEED, "--workers", 1),
-        "damaged": python("compare.faults", SEED, 10 * DAMAGED_IMAGES),
-    }
-    return first_failing(folder, commands)
+    return [
+        ("recorded", fails(folder, "compare.record", "--check")),
+        ("random", fails(folder, "compare.run", 4 * RANDOM_CALLS, SEED, "--workers", 1)),
+        ("damaged", fails(folder, "compare.faults", SEED, 10 * DAMAGED_IMAGES)),
+    ]
 
 
-def found(fault, scripts):
+WAYS = {"definition": definition_ways, "reference": reference_ways, "oracle": oracle_ways}
+
+
+class Job(NamedTuple):
+    fault: Fault
+    most: int  # so many ways are tried
+
+
+def found(job):
+    """The name of what finds the fault, or None."""
     with tempfile.TemporaryDirectory() as folder:
-        part = copy(fault, folder)
-        if fault.kind == "definition":
-            return found_in_definition(part, scripts)
-        if fault.kind == "reference":
-            compiles(fault, folder)
-            return found_in_reference(folder, scripts)
-        return found_in_oracle(folder)
-
-
-def compiles(fault, folder):
-    path = os.path.join(folder, FOLDERS[fault.kind], fault.file)
-    if fault.number:
-        with open(path, encoding="utf-8") as f:
+        part = copy(job.fault, folder)
+        for name, test in WAYS[job.fault.kind](part if job.fault.kind == "definition" else folder)[: job.most]:
             try:
-                compile(f.read(), path, "exec")
-            except SyntaxError as why:
-                raise Unusable(str(why))
+                if test():
+                    return name
+            except TooLong:
+                return "time"
+    return None
 
 
 class Planted(NamedTuple):
@@ -257,13 +266,13 @@ class Planted(NamedTuple):
     seconds: float
 
 
-def plant(fault):
+def plant(job):
     start = time.monotonic()
     try:
-        by, why = found(fault, SCRIPTS), None
+        by, why = found(job), None
     except (AnttError, Unusable) as error:
         by, why = None, str(error)
-    return Planted(fault, by, why, time.monotonic() - start)
+    return Planted(job.fault, by, why, time.monotonic() - start)
 
 
 # ---- the report
@@ -287,15 +296,16 @@ def figures(done):
             print(f"  {kind}: {sum(ways.values())} found, by " + ", ".join(f"{name} {many}" for name, many in ways.most_common()))
 
 
-def planted(faults):
+def planted(faults, ways_of_control):
     """Every fault planted, each kind's unchanged text before them; the status."""
     global SCRIPTS
     SCRIPTS = evidence()
     kinds = [kind for kind in FOLDERS if any(f.kind == kind for f in faults)]
-    todo = sorted(faults, key=lambda f: f.kind != "oracle")  # the longest first
+    jobs = [Job(control(kind), ways_of_control) for kind in kinds]
+    jobs += [Job(f, ALL_WAYS) for f in sorted(faults, key=lambda f: f.kind != "oracle")]  # the longest first
     done = []
     with multiprocessing.get_context("fork").Pool(WORKERS, maxtasksperchild=1) as pool:
-        for p in pool.imap_unordered(plant, [control(kind) for kind in kinds] + todo):
+        for p in pool.imap_unordered(plant, jobs):
             print(line_of(p), flush=True)
             done.append(p)
     wrong = [p for p in done if not as_listed(p)]
@@ -328,7 +338,7 @@ def main():
         return 2
     if a.number:
         faults = [f for f in faults if f.number in a.number]
-    return planted(sample(faults, a.sample, a.seed) if a.sample else faults)
+    return planted(sample(faults, a.sample, a.seed), 1) if a.sample else planted(faults, ALL_WAYS)
 
 
 if __name__ == "__main__":
