@@ -5,16 +5,20 @@ use types::PieceIndex;
 ghost use mathlib.Core.Path.{_≡_};
 ghost use mathlib.Core.Bool.{true};
 ghost use Prim.Native.Nat.{_<_};
+ghost use Rattle.model.specs.Lists.{nth};
+ghost use Rattle.model.specs.list.Order.{drawing, rank, updatePieces, update};
 ghost use Rattle.model.specs.image.WellFormed.{wellFormed};
-ghost use Rattle.layout.specs.Layout.{piecesOn, decode};
+ghost use Rattle.layout.specs.Layout.{piecesOn, queueFrom, decode};
 ghost use Rattle.listing.specs.Listings.{ListedBefore};
-ghost use Rattle.lists_c.specs.Standing.{Stands};
+ghost use Rattle.queues.specs.Queues.{placesIn};
+ghost use Rattle.lists_c.specs.Standing.{Stands, Does};
 
 // The rank of a piece.
 #[no_mangle]
 pub extern "C" fn ls_rank(mem: &[u64], piece: usize) -> u64
     requires { ⌜ Stands (now mem) ⌝ }
     requires { ⌜ piece < piecesOn (now mem) ⌝ }
+    ensures { λ r. ⌜ r ≡ rank (decode (now (mem .entry))) piece ⌝ }
 {
     let s = shape_of(mem);
     listing::rank_at(mem, s, piece)
@@ -26,16 +30,18 @@ pub extern "C" fn ls_relist(mem: &mut [u64], piece: usize, old: u64, draws: &[u3
     requires { ⌜ Stands (now mem) ⌝ }
     requires { ⌜ piece < piecesOn (now mem) ⌝ }
     requires { ⌜ ListedBefore old piece (decode (now mem)) ⌝ }
+    ensures { λ r. ⌜ Does (now (mem .entry)) (now (mem .exit)) (update (now (draws .entry)) old piece (drawing 0 (decode (now (mem .entry))))) r ⌝ }
 {
     let s = shape_of(mem);
     let index = PieceIndex::at(piece);
     listing::relist(mem, s, index, old, draws, 0)
 }
 
-// The list rebuilt where it is stale. Answers how many draws were used.
+// The list rebuilt where it is dirty. Answers how many draws were used.
 #[no_mangle]
 pub extern "C" fn ls_refresh(mem: &mut [u64], draws: &[u32]) -> usize
     requires { ⌜ Stands (now mem) ⌝ }
+    ensures { λ r. ⌜ Does (now (mem .entry)) (now (mem .exit)) (updatePieces (now (draws .entry)) (drawing 0 (decode (now (mem .entry))))) r ⌝ }
 {
     let s = shape_of(mem);
     listing::refresh(mem, s, draws, 0)
@@ -47,6 +53,7 @@ pub extern "C" fn ls_queue_place(mem: &[u64], q: usize, j: usize) -> usize
     requires { ⌜ Stands (now mem) ⌝ }
     requires { ⌜ wellFormed (decode (now mem)) ≡ true ⌝ }
     requires { ⌜ q < 4 ⌝ }
+    ensures { λ r. ⌜ r ≡ nth 512 (placesIn (queueFrom q) (decode (now (mem .entry)))) j ⌝ }
 {
     let s = shape_of(mem);
     let mut rows = [[0; 512]; 4];

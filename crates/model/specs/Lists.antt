@@ -108,6 +108,11 @@ module _ {S : Type 0} where
   when true f s = f s
   when false f s = s
 
+  -- one phase where a condition holds, else another
+  unfoldable pub branch : Bool → (S → S) → (S → S) → S → S
+  branch true f g s = f s
+  branch false f g s = g s
+
 module _ {S : Type 0} where
   -- at most n turns, and none once the work is done
   unfoldable pub repeat : ℕ → (S → S) → (S → Bool) → S → S
@@ -115,6 +120,11 @@ module _ {S : Type 0} where
   repeat (suc n) turn done s = unless (done s) (λ t. repeat n turn done (turn t)) s
 
 module _ {A S : Type 0} where
+  -- a step for each element
+  unfoldable pub forEach : (A → S → S) → List A → S → S
+  forEach step [] s = s
+  forEach step (x ∷ xs) s = forEach step xs (step x s)
+
   -- a walk over a list: a step for each element. The step that `halt` names is made, and none after it
   unfoldable pub walkUntil : (A → S → S) → (A → S → Bool) → List A → S → S
   walkUntil step halt [] s = s
@@ -123,3 +133,14 @@ module _ {A S : Type 0} where
   -- a walk up to the step after which the work is done
   unfoldable pub walk : (A → S → S) → (S → Bool) → List A → S → S
   walk step done xs s = walkUntil step (λ x t. done (step x t)) xs s
+
+-- ---- insertion sort, by a test that says whether one goes before another
+module _ {A : Type 0} where
+  -- x behind all that it does not go before
+  unfoldable pub insertBy : (A → A → Bool) → A → List A → List A
+  insertBy before x [] = x ∷ []
+  insertBy before x (y ∷ ys) = cond (before x y) (x ∷ y ∷ ys) (y ∷ insertBy before x ys)
+
+  -- one after another put in; those of which neither goes before the other stay as they came
+  unfoldable pub sortBy : (A → A → Bool) → List A → List A
+  sortBy before xs = forEach (insertBy before) xs []

@@ -22,7 +22,7 @@ maxPieces = 4096
 abbrev pub maxPieceSize : ℕ
 maxPieceSize = 4194304
 
--- of a piece's peers with the seeds, and of a block's peers
+-- of a piece's peers with the seeds, of a block's peers, and of the peers that a pick is told of
 abbrev pub maxPeers : ℕ
 maxPeers = 1000
 
@@ -34,12 +34,44 @@ maxPartials = 512
 abbrev pub maxExtents : ℕ
 maxExtents = 5
 
--- of words lent to a call that may draw
+-- the highest priority, the Rust's `TOP`
+abbrev pub topPriority : ℕ
+topPriority = 7
+
+-- of a priority
+abbrev pub maxPriority : ℕ
+maxPriority = topPriority
+
+-- the Rust's `DEFAULT`: the priority of each piece of a new picker
+abbrev pub defaultPriority : ℕ
+defaultPriority = 4
+
+-- of blocks that a pick may want: document 01's N
+abbrev pub maxWanted : ℕ
+maxWanted = 2048
+
+-- of blocks that a pick may want in a row: document 01's P
+abbrev pub maxContiguous : ℕ
+maxContiguous = 2048
+
+-- of blocks in the pieces of the Downloading queue: with more a pick takes from these first. A limit of its own, though it is also 2,048
+abbrev pub maxPartialBlocks : ℕ
+maxPartialBlocks = 2048
+
+-- of pieces suggested to a pick
+abbrev pub maxSuggestions : ℕ
+maxSuggestions = 256
+
+-- output places that a pick needs beside N + P: the blocks of a piece but one
+abbrev pub spareOutput : ℕ
+spareOutput = 255
+
+-- of words lent to a call that may draw, at least
 abbrev pub minDraws : ℕ
 minDraws = 4352
 
 -- ---- the fields
--- `priority` is document 01's word for the priority 0 to 7, and `flushed` for flushed
+-- `priority` is document 01's wish, 0 to 7, and `flushed` its had
 pub record Piece : Type 0 where
   pub peerCount : ℕ
   pub state : DownloadQueue
@@ -132,11 +164,11 @@ withState q p = record { peerCount = p .peerCount; state = q; priority = p .prio
 unfoldable pub withPriority : ℕ → Piece → Piece
 withPriority w p = record { peerCount = p .peerCount; state = p .state; priority = w; flushed = p .flushed; padBytes = p .padBytes }
 
--- had from here on
+-- flushed from here on
 unfoldable pub withFlushed : Piece → Piece
 withFlushed p = record { peerCount = p .peerCount; state = p .state; priority = p .priority; flushed = true; padBytes = p .padBytes }
 
--- the block held by another peer, or by none
+-- the block with another peer that asked for it last, or with none
 unfoldable pub withPeer : Option ℕ → Block → Block
 withPeer peer b = record { state = b .state; numPeers = b .numPeers; peer = peer }
 
@@ -302,7 +334,7 @@ validGeometry totalSize pieceSize =
 
 -- a piece that nobody has, at the default priority
 unfoldable pub freshPiece : Piece
-freshPiece = record { peerCount = 0; state = Open; priority = 4; flushed = false; padBytes = 0 }
+freshPiece = record { peerCount = 0; state = Open; priority = defaultPriority; flushed = false; padBytes = 0 }
 
 -- `new`: no seeds, cursors at both ends, the list to be built
 unfoldable pub new : ℕ → ℕ → Picker

@@ -1,9 +1,11 @@
--- `ls_queue_place` asks of its caller what the queues ask. Assumes nothing.
+-- `ls_queue_place` asks of its caller what the queues ask, and answers a place of the row. Assumes nothing.
+use mathlib.Core.Path.{_∙_}
 use native.Mathlib.Omega.{arith}
 use borrow.Author.Needs.{needs}
 use Rattle.model.specs.Lists.{nth}
 use Rattle.queues.proofs.StandLaws.{partials-few}
 use Rattle.queues.proofs.EnterLaws.{shaped-fresh, size-few}
+use Rattle.lists_c.proofs.DoesLaws.{queue-ends, queue-place}
 use Rattle.lists_c.proofs.ls_queue_place.Statement.{statement}
 use Rattle.lists_c.proofs.ls_queue_place.Tie as tie
 
@@ -22,7 +24,10 @@ array-read-if1 : tie.Need-array-read-if1
 array-read-if1 c = search needs
 
 returns : tie.Need-returns
-returns c = search needs
+unfolding nth
+returns c =
+    let p = c .before .before .before .before .before .before .pre in
+    queue-ends _ _ _ (c .before .download-queues .ensures) _ (p .1 .1) _ (omega (arith, c .if1 .taken))
 
 place-at-requires : tie.Need-place-at-requires
 unfolding nth
@@ -32,7 +37,11 @@ place-at-requires c κs =
     (p .1 .1, omega (arith, c .before .if1 .left, size-few _ _ _ g _ (p .1 .1), partials-few _ (p .1 .0)))
 
 returns-2 : tie.Need-returns-2
-returns-2 c = search needs
+unfolding nth
+returns-2 c =
+    let p = c .before .before .before .before .before .before .before .before .pre in
+    c .place-at .ensures
+    ∙ queue-place _ _ _ (c .before .before .before .download-queues .ensures) _ (p .1 .1) _ (omega (arith, c .before .before .if1 .left))
 
 pub ls-queue-place-spec : {M : Type 1} → statement M
 ls-queue-place-spec =

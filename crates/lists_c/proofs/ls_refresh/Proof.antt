@@ -1,6 +1,7 @@
--- `ls_refresh` asks of its caller what the list's functions ask. Assumes nothing.
+-- `ls_refresh` asks of its caller what the list's functions ask, and answers what they answer. Assumes nothing.
 use native.Mathlib.Omega.{arith}
 use borrow.Author.Needs.{needs}
+use Rattle.lists_c.proofs.DoesLaws.{does}
 use Rattle.lists_c.proofs.ls_refresh.Statement.{statement}
 use Rattle.lists_c.proofs.ls_refresh.Tie as tie
 
@@ -14,7 +15,9 @@ same-length : tie.Need-same-length
 same-length c = search needs
 
 returns : tie.Need-returns
-returns c = search needs
+returns c =
+    let g = c .before .before .refresh .ensures in
+    does _ _ (c .before .before .before .before .shape-of .ensures) (g .0) (g .1)
 
 pub ls-refresh-spec : {M : Type 1} → statement M
 ls-refresh-spec = tie.close (tie.spec shape-of-requires refresh-requires same-length returns)

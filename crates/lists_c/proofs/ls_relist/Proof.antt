@@ -1,6 +1,7 @@
--- `ls_relist` asks of its caller what the list's functions ask. Assumes nothing.
+-- `ls_relist` asks of its caller what the list's functions ask, and answers what they answer. Assumes nothing.
 use native.Mathlib.Omega.{arith}
 use borrow.Author.Needs.{needs}
+use Rattle.lists_c.proofs.DoesLaws.{does}
 use Rattle.lists_c.proofs.ls_relist.Statement.{statement}
 use Rattle.lists_c.proofs.ls_relist.Tie as tie
 
@@ -21,7 +22,10 @@ same-length : tie.Need-same-length
 same-length c = search needs
 
 returns : tie.Need-returns
-returns c = search needs
+returns c =
+    let i = c .before .before .before .before .at .ensures .1 in
+    let g = c .before .before .relist .ensures in
+    does _ _ (c .before .before .before .before .before .shape-of .ensures) (rw i at (g .0)) (rw i at (g .1))
 
 pub ls-relist-spec : {M : Type 1} → statement M
 ls-relist-spec =

@@ -77,19 +77,20 @@ unfoldable pub flag : Bool → Reply
 flag b = one (bit b)
 
 -- ---- totals
+-- a partial stands, and its hash passed
 unfoldable pub passedIn : Option DownloadingPiece → Bool
 passedIn none = false
 passedIn (some d) = d .passedHashCheck
 
--- `have_piece`: had, or passed while still a partial
+-- `have_piece`: flushed, or passed while still a partial
 unfoldable pub havePiece : Picker → ℕ → Bool
 havePiece s i = pieceAt s i .flushed || passedIn (partialOf s i)
 
--- the piece is left out
+-- `filtered`: the piece is left out
 unfoldable pub filtered : Picker → ℕ → Bool
 filtered s i = eqb (pieceAt s i .priority) 0
 
--- the pieces that pass a test, and their pad bytes
+-- the pieces that pass a test
 unfoldable pub piecesWhere : Picker → (ℕ → Bool) → List ℕ
 piecesWhere s t = filter t (from 0 (piecesIn s))
 
@@ -110,32 +111,32 @@ padBytesWhere s t = sum (each (λ i. pieceAt s i .padBytes) (piecesWhere s t))
 unfoldable pub numHave : Picker → ℕ
 numHave s = countWhere s (havePiece s)
 
--- `num_filtered`: left out and not had
+-- `num_filtered`: left out, and not one that `have_piece` counts
 unfoldable pub numFiltered : Picker → ℕ
 numFiltered s = countWhere s (λ i. filtered s i && not (havePiece s i))
 
--- `num_have_filtered`: left out and had
+-- `num_have_filtered`: left out, and one that it counts
 unfoldable pub numHaveFiltered : Picker → ℕ
 numHaveFiltered s = countWhere s (λ i. filtered s i && havePiece s i)
 
--- pieces, their pad bytes, and whether the last piece is among them
+-- the Rust's `PieceCount`: pieces, their pad bytes, and whether the last piece is among them
 unfoldable pub counted : Picker → (ℕ → Bool) → Reply
 counted s t = plain (countWhere s t ∷ padBytesWhere s t ∷ bit (t (piecesIn s - 1)) ∷ [])
 
--- the lowest count of the pieces, a had one counting once more
+-- the peers of a piece, a flushed one counting once more
 unfoldable pub copies : Piece → ℕ
 copies p = p .peerCount + bit (p .flushed)
 
--- the lowest of them, and of n
+-- the least of n and of the copies of these
 unfoldable pub lowest : ℕ → List Piece → ℕ
 lowest n [] = n
 lowest n (p ∷ ps) = lowest (least n (copies p)) ps
 
--- the Rust's start: no count comes near it
+-- `MAX_PEER_COUNT`, where the search for the least copies starts: no count comes near it
 abbrev pub maxPeerCount : ℕ
 maxPeerCount = 65535
 
--- whole copies with the seeds, and how many pieces are above that, in thousandths
+-- `distributed_copies`: the least copies with the seeds, and how many pieces have more, in thousandths
 unfoldable pub distributed : Picker → Reply
 distributed s =
     let k = lowest maxPeerCount (s .pieces) in
@@ -149,25 +150,26 @@ info d =
     ∷ blocksInState Finished d
     ∷ bit (d .passedHashCheck) ∷ blocksInState Writing d ∷ bit (d .locked) ∷ blocksInState Requested d ∷ bit (d .hashing) ∷ []
 
--- `piece_info`: without a partial, all blocks of a had piece are finished
+-- `piece_info`: without a partial, all blocks of a flushed piece are finished
 unfoldable pub infoOf : Picker → ℕ → Option DownloadingPiece → List ℕ
 infoOf s i none = i ∷ (bit (pieceAt s i .flushed) * blocksInPiece s i) ∷ 0 ∷ 0 ∷ 0 ∷ 0 ∷ 0 ∷ []
 infoOf s i (some d) = info d
 
--- the partials of the four queues
+-- `get_download_queue`: the partials of the four queues
 unfoldable pub queueInfo : Picker → List ℕ
 queueInfo s = concatMap info (inQueue Downloading s ++ (inQueue Full s ++ (inQueue FinishedQueue s ++ inQueue ZeroPrio s)))
 
--- how many each has
+-- `get_download_queue_sizes`: how many each has
 unfoldable pub queueSizes : Picker → List ℕ
 queueSizes s =
     len (inQueue Downloading s) ∷ len (inQueue Full s) ∷ len (inQueue FinishedQueue s) ∷ len (inQueue ZeroPrio s) ∷ []
 
--- peers with the seeds
+-- `get_availability`: peers with the seeds
 unfoldable pub availability : Picker → Piece → ℕ
 availability s p = p .peerCount + s .seeds
 
 -- ---- the answers
+-- of the picker
 unfoldable pub replyPicker : Picker → OfPicker → Reply
 replyPicker s num-pieces = one (piecesIn s)
 replyPicker s block-size = one (blockLength (s .pieceSize))
@@ -204,17 +206,17 @@ unfoldable pub ofPartial : (DownloadingPiece → Reply) → Option DownloadingPi
 ofPartial f none = nothing
 ofPartial f (some d) = f d
 
--- a partial that is being hashed
+-- `is_hashing`: a partial stands that is being hashed
 unfoldable pub hashingIn : Option DownloadingPiece → Bool
 hashingIn none = false
 hashingIn (some d) = d .hashing
 
--- `is_piece_finished`: every block written or on disk
+-- `is_piece_finished`: every block being written or on disk
 unfoldable pub finishedIn : Picker → ℕ → Option DownloadingPiece → Bool
 finishedIn s i none = pieceAt s i .flushed
 finishedIn s i (some d) = leb (blocksInPiece s i) (blocksInState Finished d + blocksInState Writing d)
 
--- who holds each block
+-- `get_downloaders`: each block's peer
 unfoldable pub peersIn : Picker → ℕ → Option DownloadingPiece → List (Option ℕ)
 peersIn s i none = replicate (blocksInPiece s i) none
 peersIn s i (some d) = each (λ b. b .peer) (d .blocks)
@@ -223,7 +225,7 @@ peersIn s i (some d) = each (λ b. b .peer) (d .blocks)
 unfoldable pub blockInfo : Block → List (Option ℕ)
 blockInfo b = some (blockStateNumber (b .state)) ∷ some (b .numPeers) ∷ b .peer ∷ []
 
--- peers with the seeds, bucket, had, partial
+-- `piece_stats`: peers with the seeds, bucket, flushed, downloading
 unfoldable pub stats : Picker → Piece → Reply
 stats s p =
     numbers (some (availability s p) ∷ bucket (s .seeds) p ∷ some (bit (p .flushed)) ∷ some (bit (not (isOpen (p .state)))) ∷ [])
@@ -269,12 +271,12 @@ unfoldable pub ofBlockThere : (Block → Reply) → Option Block → Reply
 ofBlockThere f none = nothing
 ofBlockThere f (some b) = f b
 
--- none without a partial
+-- `num_peers_block`: 0 without a partial
 unfoldable pub numPeersOf : Option Block → ℕ
 numPeersOf none = 0
 numPeersOf (some b) = b .numPeers
 
--- none for a free block
+-- `get_downloader`: none for a free block
 unfoldable pub downloaderOf : Option Block → Option ℕ
 downloaderOf none = none
 downloaderOf (some b) = cond (sameBlockState (b .state) None) none (b .peer)

@@ -35,6 +35,7 @@ unfoldable pub saying : Bool → Drawing → Change
 saying b w = record { answer = some b; after = w }
 
 -- ---- availability
+-- a peer more
 unfoldable pub incPeerCount : Piece → Piece
 incPeerCount p = withPeerCount (suc (p .peerCount)) p
 
@@ -50,19 +51,20 @@ allPieces f s = withPieces (each f (s .pieces)) s
 unfoldable pub incRefcount : List ℕ → ℕ → Drawing → Drawing
 incRefcount ds i w = changeAndUpdate ds i (withPiece i incPeerCount) w
 
--- a seed turns out to lack a piece: it counts with each piece from now on
+-- `break_one_seed`: a seed turns out to lack a piece, and counts with each piece from now on
 unfoldable pub breakOneSeed : Picker → Picker
 breakOneSeed s = markDirty (allPieces incPeerCount (withSeeds (s .seeds - 1) s))
 
 -- `dec_refcount`: a peer has it no more; where only seeds had it, one of them is broken first
 unfoldable pub decRefcount : List ℕ → ℕ → Drawing → Drawing
-decRefcount ds i w = changeAndUpdate ds i (withPiece i decPeerCount) (when (eqb (pieceAt (w .picker) i .peerCount) 0) (noDraw breakOneSeed) w)
+decRefcount ds i w =
+    changeAndUpdate ds i (withPiece i decPeerCount) (when (eqb (pieceAt (w .picker) i .peerCount) 0) (noDraw breakOneSeed) w)
 
--- a first seed, or no seed any more, changes which pieces have a bucket
+-- `inc_refcount_all`: a seed more. A first one gives a bucket to pieces without peers, so the list is dirty
 unfoldable pub incRefcountAll : Picker → Picker
 incRefcountAll s = when (eqb (s .seeds) 0) markDirty (withSeeds (suc (s .seeds)) s)
 
--- `dec_refcount_all`: a seed goes, or, without one, a peer of each piece
+-- `dec_refcount_all`: a seed goes, and with the last one the list is dirty; without a seed, a peer of each piece goes
 unfoldable pub decRefcountAll : Picker → Picker
 decRefcountAll s =
     cond (eqb (s .seeds) 0) (markDirty (allPieces decPeerCount s)) (when (eqb (s .seeds) 1) markDirty (withSeeds (s .seeds - 1) s))
@@ -72,25 +74,25 @@ decRefcountAll s =
 unfoldable pub flushedOrFiltered : Piece → Bool
 flushedOrFiltered p = p .flushed || eqb (p .priority) 0
 
--- how many in front are settled
+-- how many in front are so
 unfoldable pub flushedOrFilteredRun : List Piece → ℕ
 flushedOrFilteredRun [] = 0
 flushedOrFilteredRun (p ∷ ps) = cond (flushedOrFiltered p) (suc (flushedOrFilteredRun ps)) 0
 
--- the first piece from i on that is not settled
+-- the first piece from i on that is not
 unfoldable pub cursorFrom : Picker → ℕ → ℕ
 cursorFrom s i = i + flushedOrFilteredRun (drop i (s .pieces))
 
--- one past the last piece below i that is not settled
+-- one past the last piece below i that is not
 unfoldable pub reverseFrom : Picker → ℕ → ℕ
 reverseFrom s zero = 0
 reverseFrom s (suc i) = cond (flushedOrFiltered (pieceAt s i)) (reverseFrom s i) (suc i)
 
--- the cursors past each other
+-- the cursors past each other: no piece between them
 unfoldable pub emptyRange : Picker → Picker
 emptyRange s = withCursors (piecesIn s) 0 s
 
--- piece i is settled now: a cursor that stands at it moves on
+-- piece i is flushed or filtered now: a cursor that stands at it moves on
 unfoldable pub advanceCursors : ℕ → Picker → Picker
 advanceCursors i s =
     cond (eqb (s .cursor) i && eqb (s .reverseCursor) (suc i)) (emptyRange s)
@@ -98,7 +100,7 @@ advanceCursors i s =
     (cond (eqb (s .reverseCursor) (suc i)) (withCursors (s .cursor) (reverseFrom s i) s) s))
 
 -- ---- priorities
--- the cursors where piece i, not had, begins to be left out, or ends to be
+-- the cursors where piece i, which is not flushed, gets priority 0, or another one after it
 unfoldable pub cursorsOnFilter : ℕ → ℕ → Picker → Picker
 cursorsOnFilter i priority s = cond (eqb priority 0) (advanceCursors i s) (when (eqb (s .cursor) (s .reverseCursor)) emptyRange s)
 
@@ -126,22 +128,23 @@ unfoldable pub neighbours : Picker → ℕ → List Piece
 neighbours s i =
     each (pieceAt s) (filter (λ k. not (eqb k i)) (range (extentStart s (extentFor s i)) (extentEnd s (extentFor s i))))
 
--- they have this one's priority, and not all are had
+-- they have this one's priority, and not all are flushed
 unfoldable pub worthRecording : Picker → ℕ → Bool
 worthRecording s i =
     every (λ p. eqb (p .priority) (pieceAt s i .priority)) (neighbours s i) && not (every (λ p. p .flushed) (neighbours s i))
 
--- the extent is recorded: none at 256 blocks, none twice, no sixth
+-- piece i's extent is to be recorded: none where a piece has 256 blocks, none twice, no sixth
 unfoldable pub recordable : Picker → ℕ → Bool
 recordable s i =
     ltb (blocksPerPiece s) extentBlocks
     && (not (member (extentFor s i) (s .recentExtents)) && (ltb (len (s .recentExtents)) maxExtents && worthRecording s i))
 
--- `record_downloading_piece`
+-- `record_downloading_piece`: piece i's extent becomes the latest
 unfoldable pub recordDownloadingPiece : ℕ → Picker → Picker
 recordDownloadingPiece i s = when (recordable s i) (withRecentExtents (s .recentExtents ++ (extentFor s i ∷ []))) s
 
 -- ---- marks
+-- REVERSE is asked for
 unfoldable pub reverseAsked : ℕ → Bool
 reverseAsked options = meets options reverse
 
@@ -157,7 +160,7 @@ opened ds i q affinity w = addDownloadPiece ds i (when affinity (noDraw (recordD
 unfoldable pub setBlock : List ℕ → ℕ → DownloadingPiece → ℕ → Block → Drawing → Drawing
 setBlock ds i d j b w = updatePieceState ds i (noDraw (replaceBlock d j b) w)
 
--- the block marked in a piece just opened, unless its pad bytes finished it
+-- the block marked in a piece just opened; false where pad bytes finished it
 unfoldable pub markFirst : List ℕ → ℕ → Option DownloadingPiece → ℕ → Block → Drawing → Change
 markFirst ds i none j b w = saying false w
 markFirst ds i (some d) j b w =
@@ -175,7 +178,7 @@ setDirection ds i q w =
     let s = withPiece i (withState q) (w .picker) in
     cond (eqb (rank (w .picker) i) 0 && ltb 0 (rank s i)) (drawing (w .used) (markDirty s)) (setState ds i q w)
 
--- under REVERSE a piece that nobody works on turns reverse
+-- under REVERSE a piece without a Requested block turns reverse
 unfoldable pub makePieceReverse : List ℕ → ℕ → Bool → DownloadingPiece → Drawing → Drawing
 makePieceReverse ds i back d w =
     let q = pieceAt (w .picker) i .state in
@@ -209,7 +212,7 @@ request ds i d j peer back w =
     unreversePiece ds i back
     (setBlock ds i d j (requestedBy peer (suc (blockAt d j .numPeers))) (makePieceReverse ds i back d w))
 
--- by whether a partial stands
+-- by whether a partial stands: a block that was received is not asked for again
 unfoldable pub markDownloadingIn : List ℕ → ℕ → Option DownloadingPiece → ℕ → Option ℕ → ℕ → Drawing → Change
 markDownloadingIn ds i none j peer options w =
     markOpening ds i (cond (reverseAsked options) DownloadingReverse Downloading) (affinityAsked options) j (requestedBy peer 1) w
@@ -220,7 +223,7 @@ markDownloadingIn ds i (some d) j peer options w =
 unfoldable pub markAsDownloading : List ℕ → ℕ → ℕ → Option ℕ → ℕ → Drawing → Change
 markAsDownloading ds i j peer options w = markDownloadingIn ds i (partialOf (w .picker) i) j peer options w
 
--- a block that was received before only changes its peer
+-- by whether a partial stands: a block that was received before only changes its peer
 unfoldable pub markWritingIn : List ℕ → ℕ → Option DownloadingPiece → ℕ → Option ℕ → Drawing → Change
 markWritingIn ds i none j peer w =
     cond (pieceAt (w .picker) i .flushed) (saying false w) (markOpening ds i Downloading false j (writtenBy peer) w)
@@ -232,7 +235,7 @@ markWritingIn ds i (some d) j peer w =
 unfoldable pub markAsWriting : List ℕ → ℕ → ℕ → Option ℕ → Drawing → Change
 markAsWriting ds i j peer w = markWritingIn ds i (partialOf (w .picker) i) j peer w
 
--- the whole piece is on disk: had, its partial gone. It has no bucket before or after
+-- `piece_flushed`: the whole piece is on disk, and its partial goes. It has no bucket before or after
 unfoldable pub pieceFlushed : ℕ → Picker → Picker
 pieceFlushed i s = advanceCursors i (withPiece i withFlushed (eraseDownloadPiece i s))
 
@@ -246,7 +249,7 @@ flushIf i none s = s
 flushIf i (some d) s =
     when (allFinished s d && (d .passedHashCheck && (not (d .hashing) && not (d .locked)))) (pieceFlushed i) s
 
--- where a partial stands
+-- the partial of piece i, if one stands
 unfoldable pub flushDone : ℕ → Picker → Picker
 flushDone i s = flushIf i (partialOf s i) s
 
@@ -254,59 +257,77 @@ flushDone i s = flushIf i (partialOf s i) s
 unfoldable pub finishedPeer : Option ℕ → Block → Option ℕ
 finishedPeer peer b = cond (sameBlockState (b .state) Writing && not (hasPeer peer)) (b .peer) peer
 
--- by whether a partial stands
+-- by whether a partial stands: a Finished block stays as it is, and a passed piece may go
 unfoldable pub markFinishedIn : List ℕ → ℕ → Option DownloadingPiece → ℕ → Option ℕ → Drawing → Drawing
 markFinishedIn ds i none j peer w =
     cond (pieceAt (w .picker) i .flushed) w (markOpening ds i Downloading false j (finishedBy peer 0) w .after)
 markFinishedIn ds i (some d) j peer w =
     let b = blockAt d j in
-    cond (sameBlockState (b .state) Finished) w (noDraw (flushDone i) (setBlock ds i d j (finishedBy (finishedPeer peer b) (b .numPeers)) w))
+    cond (sameBlockState (b .state) Finished) w
+    (noDraw (flushDone i) (setBlock ds i d j (finishedBy (finishedPeer peer b) (b .numPeers)) w))
 
 -- `mark_as_finished`
 unfoldable pub markAsFinished : List ℕ → ℕ → ℕ → Option ℕ → Drawing → Drawing
 markAsFinished ds i j peer w = markFinishedIn ds i (partialOf (w .picker) i) j peer w
+
+-- a block free again that no peer has a part in
+unfoldable pub freed : Block
+freed = record { state = None; numPeers = 0; peer = none }
+
+-- a block free again that keeps its number of peers and has the named one for its peer
+unfoldable pub canceled : Option ℕ → Block → Block
+canceled peer b = record { state = None; numPeers = b .numPeers; peer = peer }
+
+-- block j, which is at work, becomes the free block `b`; a partial without another block at work is closed, unless it is being hashed
+unfoldable pub freeBlock : List ℕ → ℕ → DownloadingPiece → ℕ → Block → Drawing → Drawing
+freeBlock ds i d j b w =
+    cond (eqb (progress d) 1 && not (d .hashing)) (eraseAndUpdate ds i w) (setBlock ds i d j b w)
+
+-- a Finished block stays, a Writing one is given back, and any other only gets the named peer. The Rust brings the piece's state up to date
+-- before it closes the partial, which changes nothing there
+unfoldable pub cancelIn : List ℕ → ℕ → Option DownloadingPiece → ℕ → Option ℕ → Drawing → Drawing
+cancelIn ds i none j peer w = w
+cancelIn ds i (some d) j peer w =
+    let b = blockAt d j in
+    cond (sameBlockState (b .state) Finished) w
+    (cond (sameBlockState (b .state) Writing) (freeBlock ds i d j (canceled peer b) w) (noDraw (replaceBlock d j (withPeer peer b)) w))
+
+-- `mark_as_canceled`
+unfoldable pub markAsCanceled : List ℕ → ℕ → ℕ → Option ℕ → Drawing → Drawing
+markAsCanceled ds i j peer w = cancelIn ds i (partialOf (w .picker) i) j peer w
 
 -- a requester less; the named peer is forgotten
 unfoldable pub released : Option ℕ → Block → Block
 released peer b =
     record { state = Requested; numPeers = b .numPeers - 1; peer = cond (samePeer (b .peer) peer) none (b .peer) }
 
--- a free block
-unfoldable pub freed : Block
-freed = record { state = None; numPeers = 0; peer = none }
-
--- a block without peers is free; a partial without blocks at work is closed
-unfoldable pub freeBlock : List ℕ → ℕ → DownloadingPiece → ℕ → Drawing → Drawing
-freeBlock ds i d j w =
-    cond (eqb (progress d) 1 && not (d .hashing)) (eraseAndUpdate ds i w) (setBlock ds i d j freed w)
-
--- only a Requested block of a standing partial is given back
+-- only a Requested block of a standing partial is given back, and it is free once its last requester is gone
 unfoldable pub abortIn : List ℕ → ℕ → Option DownloadingPiece → ℕ → Option ℕ → Drawing → Drawing
 abortIn ds i none j peer w = w
 abortIn ds i (some d) j peer w =
     let b = blockAt d j in
     cond (not (sameBlockState (b .state) Requested)) w
-    (cond (ltb 1 (b .numPeers)) (noDraw (replaceBlock d j (released peer b)) w) (freeBlock ds i d j w))
+    (cond (ltb 1 (b .numPeers)) (noDraw (replaceBlock d j (released peer b)) w) (freeBlock ds i d j freed w))
 
 -- `abort_download`
 unfoldable pub abortDownload : List ℕ → ℕ → ℕ → Option ℕ → Drawing → Drawing
 abortDownload ds i j peer w = abortIn ds i (partialOf (w .picker) i) j peer w
 
--- where a partial stands
+-- the partial, if one stands, locked and no longer passed
 unfoldable pub lockIn : Option DownloadingPiece → Picker → Picker
 lockIn none s = s
 lockIn (some d) s = replacePartial (withFlags false true d) s
 
--- `lock_piece`: no longer passed, and no block of it is picked
+-- `lock_piece`: no block of the piece is picked
 unfoldable pub lockPiece : ℕ → Picker → Picker
 lockPiece i s = lockIn (partialOf s i) s
 
--- where a partial stands that is not locked
+-- the partial, if one stands and is not locked, passed; flushed at once where every block is on disk
 unfoldable pub passIn : ℕ → Option DownloadingPiece → Picker → Picker
 passIn i none s = s
 passIn i (some d) s =
     unless (d .locked) (λ t. when (allFinished t d) (pieceFlushed i) (replacePartial (withFlags true false d) t)) s
 
--- `piece_passed`: flushed at once if every block is on disk
+-- `piece_passed`
 unfoldable pub piecePassed : ℕ → Picker → Picker
 piecePassed i s = passIn i (partialOf s i) s

@@ -9,13 +9,13 @@ use Rattle.types.specs.declared.queue.DownloadQueue.the-variants.{Downloading, 
 use Rattle.types.specs.declared.block.BlockState.{BlockState}
 use Rattle.types.specs.declared.block.BlockState.the-variants.{None, Requested, Finished}
 use Rattle.types.specs.Queue.{unreverse, makeReverse, isReverse}
-use Rattle.model.specs.Lists.{bit, count, filter, each, from, nth, setNth, len, unless}
+use Rattle.model.specs.Lists.{bit, count, filter, each, from, nth, setNth, len, unless, insertBy}
 use Rattle.model.specs.State.{Block, DownloadingPiece, Picker, noBlock, sameQueue, isOpen, sameBlockState, withBlocks, withPartials}
 use Rattle.model.specs.State.{withPiece, withState, pieceAt, blocksInPiece, payloadBlocksInPiece}
 use Rattle.model.specs.list.Order.{Drawing, noDraw, changeAndUpdate}
 
 -- ---- finding
--- the partial of a piece, if one stands
+-- `find_dl_piece`: the partial of a piece, if one stands
 unfoldable pub findDlPiece : ℕ → List DownloadingPiece → Option DownloadingPiece
 findDlPiece i [] = none
 findDlPiece i (d ∷ ds) = cond (eqb (d .piece) i) (some d) (findDlPiece i ds)
@@ -29,6 +29,7 @@ unfoldable pub blockAt : DownloadingPiece → ℕ → Block
 blockAt d j = nth noBlock (d .blocks) j
 
 -- ---- counts, from the blocks
+-- blocks in one state
 unfoldable pub blocksInState : BlockState → DownloadingPiece → ℕ
 blocksInState k d = count (λ b. sameBlockState (b .state) k) (d .blocks)
 
@@ -42,10 +43,11 @@ unfoldable pub inQueue : DownloadQueue → Picker → List DownloadingPiece
 inQueue q s = filter (λ d. sameQueue (unreverse (pieceAt s (d .piece) .state)) q) (s .partials)
 
 -- ---- one partial changed
+-- the partial of its piece replaced, in a list
 unfoldable pub replaceIn : DownloadingPiece → List DownloadingPiece → List DownloadingPiece
 replaceIn d ds = each (λ e. cond (eqb (e .piece) (d .piece)) d e) ds
 
--- the partial of its piece replaced
+-- the same, in a picker
 unfoldable pub replacePartial : DownloadingPiece → Picker → Picker
 replacePartial d s = withPartials (replaceIn d (s .partials)) s
 
@@ -58,7 +60,7 @@ replaceBlock d j b s = replacePartial (withBlocks (setNth j b (d .blocks)) d) s
 unfoldable pub inDirection : DownloadQueue → DownloadQueue → DownloadQueue
 inDirection current q = cond (isReverse current) (makeReverse q) q
 
--- `update_piece_state`: the state for a piece with these blocks and this priority. Open means that the piece is left as it is
+-- `new_state` of `update_piece_state`: the state that these blocks and this priority give. Open means that the piece is left as it is
 unfoldable pub newState : DownloadingPiece → ℕ → DownloadQueue → DownloadQueue
 newState d priority current =
     cond (eqb priority 0) ZeroPrio
@@ -74,14 +76,14 @@ setState ds i q w = changeAndUpdate ds i (withPiece i (withState q)) w
 unfoldable pub moveState : List ℕ → ℕ → DownloadQueue → DownloadQueue → Drawing → Drawing
 moveState ds i current q w = unless (sameQueue q current || isOpen q) (setState ds i q) w
 
--- where a partial stands
+-- the state made that of the blocks, where a partial stands
 unfoldable pub updateStateOf : List ℕ → ℕ → Option DownloadingPiece → Drawing → Drawing
 updateStateOf ds i none w = w
 updateStateOf ds i (some d) w =
     let p = pieceAt (w .picker) i in
     moveState ds i (p .state) (newState d (p .priority) (p .state)) w
 
--- `update_piece_state`: the state made that of the blocks
+-- `update_piece_state`
 unfoldable pub updatePieceState : List ℕ → ℕ → Drawing → Drawing
 updatePieceState ds i w = updateStateOf ds i (partialOf (w .picker) i) w
 
@@ -93,12 +95,17 @@ freshBlock payload j = record { state = cond (ltb j payload) None Finished; numP
 -- the partial of a piece just opened
 unfoldable pub freshPartial : Picker → ℕ → DownloadingPiece
 freshPartial s i =
-    record { piece = i; passedHashCheck = false; locked = false; hashing = false; blocks = each (freshBlock (payloadBlocksInPiece s i)) (from 0 (blocksInPiece s i)) }
+    record {
+      piece = i;
+      passedHashCheck = false;
+      locked = false;
+      hashing = false;
+      blocks = each (freshBlock (payloadBlocksInPiece s i)) (from 0 (blocksInPiece s i));
+    }
 
--- by rising piece
+-- a partial put in by rising piece
 unfoldable pub insertIn : DownloadingPiece → List DownloadingPiece → List DownloadingPiece
-insertIn d [] = d ∷ []
-insertIn d (e ∷ es) = cond (ltb (d .piece) (e .piece)) (d ∷ e ∷ es) (e ∷ insertIn d es)
+insertIn d ds = insertBy (λ e f. ltb (e .piece) (f .piece)) d ds
 
 -- a partial for piece i
 unfoldable pub addPartial : ℕ → Picker → Picker
@@ -108,11 +115,11 @@ addPartial i s = withPartials (insertIn (freshPartial s i) (s .partials)) s
 unfoldable pub addDownloadPiece : List ℕ → ℕ → Drawing → Drawing
 addDownloadPiece ds i w = updatePieceState ds i (noDraw (addPartial i) w)
 
--- the partial gone and its piece Open; the list is not mended
+-- no partial of piece i any more
 unfoldable pub dropPartial : ℕ → Picker → Picker
 dropPartial i s = withPartials (filter (λ d. not (eqb (d .piece) i)) (s .partials)) s
 
--- `erase_download_piece`: the same, the piece Open
+-- `erase_download_piece`: the partial gone and its piece Open; the list is not mended
 unfoldable pub eraseDownloadPiece : ℕ → Picker → Picker
 eraseDownloadPiece i s = withPiece i (withState Open) (dropPartial i s)
 

@@ -1,7 +1,7 @@
 -- The image of a picker: its bytes, and a reader that accepts them or gives the place of the first fault. Assumes nothing.
 -- Each record is one byte of kind and a body whose length the kind fixes; numbers have their high byte first.
 use Prim.Native.Nat.{ℕ, zero, suc, _+_, _-_, _*_, _/_, _%_, _^_}
-use mathlib.Core.Bool.{Bool, true, false, cond, not, _&&_, _||_}
+use mathlib.Core.Bool.{Bool, true, false, cond, _&&_, _||_}
 use mathlib.Core.List.{List, [], _∷_, _++_}
 use mathlib.Core.Option.{Option, none, some}
 use lib.ListN.{take, drop}
@@ -12,8 +12,8 @@ use Rattle.types.specs.Queue.{queueNumber, queues}
 use Rattle.types.specs.Block.{blockStateNumber, blockStates}
 use Rattle.model.specs.Lists.{bit, nth, len, every, concatMap}
 use Rattle.model.specs.Bep3.{numPieces}
-use Rattle.model.specs.State.{Piece, Block, DownloadingPiece, Picker, Listing, dirty, fresh, maxPartials, isOpen, isDirty, listOf}
-use Rattle.model.specs.State.{withPieces, withPartials, withRecentExtents, withListing, blocksInPiece}
+use Rattle.model.specs.State.{Piece, Block, DownloadingPiece, Picker, Listing, dirty, fresh, maxPartials, maxExtents, isOpen, isDirty}
+use Rattle.model.specs.State.{listOf, withPieces, withPartials, withRecentExtents, withListing, blocksInPiece}
 use Rattle.model.specs.list.Order.{withBucket}
 use Rattle.model.specs.image.WellFormed.{headOk, pieceOk, blockOk, stateOk, extentOk, placeOk}
 
@@ -54,7 +54,7 @@ unfoldable pub bytesOf : ℕ → ℕ → List ℕ
 bytesOf zero n = []
 bytesOf (suc w) n = (n / 256 ^ w % 256) ∷ bytesOf w n
 
--- total, piece size, seeds, cursors, dirty
+-- total, piece size, seeds, cursors, whether the list is dirty
 unfoldable pub headRecord : Picker → List ℕ
 headRecord s =
     headKind
@@ -62,7 +62,7 @@ headRecord s =
     ++ (bytesOf 4 (s .pieceSize)
     ++ (bytesOf 2 (s .seeds) ++ (bytesOf 4 (s .cursor) ++ (bytesOf 4 (s .reverseCursor) ++ bytesOf 1 (bit (isDirty (s .listing))))))))
 
--- count, state, priority, had, pad bytes
+-- peers, state, priority, flushed, pad bytes
 unfoldable pub pieceRecord : Piece → List ℕ
 pieceRecord p =
     pieceKind
@@ -173,6 +173,16 @@ headOf b =
 unfoldable pub readHead : List ℕ → Option Picker
 readHead b = obeying (leb (field 22 1 b) 1 && headOk (headOf b)) (headOf b)
 
+-- the highest number of a state of a piece, of a state of a block, and of a partial's flags
+abbrev pub lastQueue : ℕ
+lastQueue = 6
+
+abbrev pub lastBlockState : ℕ
+lastBlockState = 3
+
+abbrev pub allFlags : ℕ
+allFlags = 7
+
 -- a piece's fields
 unfoldable pub pieceOf : List ℕ → Piece
 pieceOf b =
@@ -186,7 +196,7 @@ pieceOf b =
 
 -- a piece that obeys its rule
 unfoldable pub readPiece : Picker → ℕ → List ℕ → Option Piece
-readPiece s i b = obeying (leb (field 2 1 b) 6 && (leb (field 4 1 b) 1 && pieceOk s i (pieceOf b))) (pieceOf b)
+readPiece s i b = obeying (leb (field 2 1 b) lastQueue && (leb (field 4 1 b) 1 && pieceOk s i (pieceOf b))) (pieceOf b)
 
 -- a flag, and a number that is 0 without it
 unfoldable pub peerFits : ℕ → ℕ → Bool
@@ -203,7 +213,7 @@ blockOf b =
 
 -- a block that obeys its rule
 unfoldable pub readBlock : List ℕ → Option Block
-readBlock b = obeying (leb (field 0 1 b) 3 && (peerFits (field 3 1 b) (field 4 8 b) && blockOk (blockOf b))) (blockOf b)
+readBlock b = obeying (leb (field 0 1 b) lastBlockState && (peerFits (field 3 1 b) (field 4 8 b) && blockOk (blockOf b))) (blockOf b)
 
 -- the whole list of blocks fits
 unfoldable pub lastFits : (List Block → Bool) → List Block → Option Block → Option Block
@@ -216,9 +226,10 @@ readLastBlock fits before b = lastFits fits before (readBlock b)
 
 -- the flags of partial i, where n partials stand before it
 unfoldable pub readPartial : ℕ → ℕ → List ℕ → Option ℕ
-readPartial i n b = obeying (eqb (field 0 4 b) i && (leb (field 4 1 b) 7 && ltb n maxPartials)) (field 4 1 b)
+readPartial i n b = obeying (eqb (field 0 4 b) i && (leb (field 4 1 b) allFlags && ltb n maxPartials)) (field 4 1 b)
 
 -- ---- the parts of an image
+-- n pieces from i on
 unfoldable pub getPieces : Picker → ℕ → ℕ → Reader (List Piece)
 getPieces s i zero = ret []
 getPieces s i (suc n) = do
@@ -303,7 +314,7 @@ getPicker = do
   ps ← getPieces h 0 (numPieces (h .totalSize) (h .pieceSize))
   ds ← getPartials h 0 0 ps
   let s = withPartials ds (withPieces ps h)
-  es ← getExtents s 5 []
+  es ← getExtents s maxExtents []
   l ← getListing s (h .listing)
   ret (withListing l (withRecentExtents es s))
 
