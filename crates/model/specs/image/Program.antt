@@ -16,7 +16,7 @@ use Rattle.model.specs.Calls.{Action, pick-pieces, Answer, refused, unle
 
 -- ---- the pick record
 -- options, N, P, peers, peer; the bitfield has a one for each of n pieces
-unfoldable pub requestOf : ℕ → List ℕ → PickRequest
+unfoldable pub requestOf : (n : ℕ) (b : List ℕ) → PickRequest
 requestOf n b =
     record {
       options = field 0 2 b;
@@ -30,7 +30,7 @@ requestOf n b =
     }
 
 -- has-peer and peer must fit
-unfoldable pub readRequest : ℕ → List ℕ → Option PickRequest
+unfoldable pub readRequest : (n : ℕ) (b : List ℕ) → Option PickRequest
 readRequest n b = obeying (peerFits (field 8 1 b) (field 9 8 b)) (requestOf n b)
 
 -- an image and a pick record
@@ -47,7 +47,7 @@ getJob = do
 
 -- ---- what the program answers
 -- it lends what the largest pick needs
-unfoldable pub pickOf : PickRequest → Action
+unfoldable pub pickOf : (a : PickRequest) → Action
 pickOf a = pick-pieces a (maxWanted + maxContiguous + spareOutput) (replicate minDraws 0)
 
 -- the program's own limits, of pieces and of the blocks of one
@@ -58,18 +58,18 @@ abbrev pub programBlocks : ℕ
 programBlocks = 16
 
 -- 2 past them, then what the pick answers
-unfoldable pub jobAnswer : Job → Answer
+unfoldable pub jobAnswer : (x : Job) → Answer
 jobAnswer x =
     cond (leb (piecesIn (x .picker)) programPieces && leb (blocksPerPiece (x .picker)) programBlocks)
     (unlessRefused (refusal (x .picker) (pickOf (x .ask))) (x .picker) (pickOf (x .ask)) .answer)
     (refused ShortMemory)
 
 -- what was read, or a fault
-unfoldable pub programAnswer : Read Job → Answer
+unfoldable pub programAnswer : (read : Read Job) → Answer
 programAnswer (accepted x) = jobAnswer x
 programAnswer (faultAt k) = refused (IllFormedImage k)
 
 -- the answer to the bytes on standard input. A refusal is printed as its number, with the place of the fault for 13: `refusalNumber` and
 -- `refusalValues`
-unfoldable pub program : List ℕ → Answer
+unfoldable pub program : (bs : List ℕ) → Answer
 program bs = programAnswer (whole (len bs) (getJob bs))

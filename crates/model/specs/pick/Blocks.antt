@@ -30,11 +30,11 @@ pub record PickRequest : Type 0 where
   pub suggestions : List ℕ
 
 -- an option is asked for
-unfoldable pub option : (bit : ℕ) → PickRequest → Bool
+unfoldable pub option : (bit : ℕ) (a : PickRequest) → Bool
 option bit a = meets (a .options) bit
 
 -- the peer has piece i
-unfoldable pub hasBit : PickRequest → (i : ℕ) → Bool
+unfoldable pub hasBit : (a : PickRequest) (i : ℕ) → Bool
 hasBit a i = ltb i (a .bits) && bitAt (a .bytes) i
 
 -- ---- what a pick has come to
@@ -62,7 +62,7 @@ pub record PickState : Type 0 where
   pub loops : List ℕ
 
 -- nothing picked yet
-unfoldable pub startState : Picker → PickRequest → PickState
+unfoldable pub startState : (s : Picker) (a : PickRequest) → PickState
 startState s a =
     record {
       picker = s;
@@ -77,12 +77,12 @@ startState s a =
     }
 
 -- no block is wanted any more
-unfoldable pub spent : PickState → Bool
+unfoldable pub spent : (w : PickState) → Bool
 spent w = eqb (w .left) 0
 
 -- ---- a field changed
 -- other blocks picked, with so many still wanted and another run
-unfoldable pub withOut : (n : ℕ) → Contiguous → List PieceBlock → PickState → PickState
+unfoldable pub withOut : (n : ℕ) (r : Contiguous) (blocks : List PieceBlock) (w : PickState) → PickState
 withOut n r picked w =
     record {
       picker = w .picker;
@@ -97,11 +97,11 @@ withOut n r picked w =
     }
 
 -- another run
-unfoldable pub withContiguous : Contiguous → PickState → PickState
+unfoldable pub withContiguous : (r : Contiguous) (w : PickState) → PickState
 withContiguous r w = withOut (w .left) r (w .out) w
 
 -- other blocks set aside
-unfoldable pub withBackup : List PieceBlock → PickState → PickState
+unfoldable pub withBackup : (aside : List PieceBlock) (w : PickState) → PickState
 withBackup aside w =
     record {
       picker = w .picker;
@@ -116,7 +116,7 @@ withBackup aside w =
     }
 
 -- another picker, with so many draws used
-unfoldable pub withPicker : Picker → (used : ℕ) → PickState → PickState
+unfoldable pub withPicker : (s : Picker) (used : ℕ) (w : PickState) → PickState
 withPicker s used w =
     record {
       picker = s;
@@ -131,7 +131,7 @@ withPicker s used w =
     }
 
 -- piece i is ignored from here on
-unfoldable pub ignore : (i : ℕ) → PickState → PickState
+unfoldable pub ignore : (i : ℕ) (w : PickState) → PickState
 ignore i w =
     record {
       picker = w .picker;
@@ -146,7 +146,7 @@ ignore i w =
     }
 
 -- a flag set
-unfoldable pub flagged : (flag : ℕ) → PickState → PickState
+unfoldable pub flagged : (flag : ℕ) (w : PickState) → PickState
 flagged flag w =
     record {
       picker = w .picker;
@@ -161,7 +161,7 @@ flagged flag w =
     }
 
 -- n steps more on a counter: the Rust's `inc`, n times
-unfoldable pub steps : (n counter : ℕ) → PickState → PickState
+unfoldable pub steps : (n counter : ℕ) (w : PickState) → PickState
 steps n counter w =
     record {
       picker = w .picker;
@@ -176,42 +176,42 @@ steps n counter w =
     }
 
 -- piece i is ignored
-unfoldable pub isIgnored : (i : ℕ) → PickState → Bool
+unfoldable pub isIgnored : (i : ℕ) (w : PickState) → Bool
 isIgnored i w = nth false (w .ignored) i
 
 -- ---- runs
 -- nothing is left of the run, and no more was given
-unfoldable pub contiguousIsZero : Contiguous → Bool
+unfoldable pub contiguousIsZero : (r : Contiguous) → Bool
 contiguousIsZero r = eqb (r .asked) (r .given)
 
 -- more than n are left of the run
-unfoldable pub contiguousAbove : (n : ℕ) → Contiguous → Bool
+unfoldable pub contiguousAbove : (n : ℕ) (r : Contiguous) → Bool
 contiguousAbove n r = ltb (r .given + n) (r .asked)
 
 -- a block more towards the run
-unfoldable pub shorter : Contiguous → Contiguous
+unfoldable pub shorter : (r : Contiguous) → Contiguous
 shorter r = record { asked = r .asked; given = suc (r .given) }
 
 -- pieces of n blocks that hold what is left of the run; none below 0, since it falls by less than n below
-unfoldable pub wholePieces : (n : ℕ) → Contiguous → ℕ
+unfoldable pub wholePieces : (n : ℕ) (r : Contiguous) → ℕ
 wholePieces n r = (r .asked - r .given + n - 1) / n
 
 -- ---- which pieces
 -- `is_piece_free`: the peer has it, it is not flushed, and it is not filtered
-unfoldable pub isPieceFree : PickRequest → Picker → (i : ℕ) → Bool
+unfoldable pub isPieceFree : (a : PickRequest) (s : Picker) (i : ℕ) → Bool
 isPieceFree a s i = hasBit a i && (not (pieceAt s i .flushed) && not (eqb (pieceAt s i .priority) 0))
 
 -- `can_pick`: and no partial stands for it
-unfoldable pub canPick : PickRequest → Picker → (i : ℕ) → Bool
+unfoldable pub canPick : (a : PickRequest) (s : Picker) (i : ℕ) → Bool
 canPick a s i = isPieceFree a s i && isOpen (pieceAt s i .state)
 
 -- down from piece i, by n at most, while the piece below can be picked
-unfoldable pub downBy : PickRequest → Picker → (n i : ℕ) → ℕ
+unfoldable pub downBy : (a : PickRequest) (s : Picker) (n i : ℕ) → ℕ
 downBy a s zero i = i
 downBy a s (suc n) i = cond (canPick a s (i - 1)) (downBy a s n (i - 1)) i
 
 -- up from piece k, by n at most, while pieces can be picked
-unfoldable pub upBy : PickRequest → Picker → (n k : ℕ) → ℕ
+unfoldable pub upBy : (a : PickRequest) (s : Picker) (n k : ℕ) → ℕ
 upBy a s zero k = k
 upBy a s (suc n) k = cond (canPick a s k) (upBy a s n (suc k)) k
 
@@ -225,28 +225,28 @@ unfoldable pub alone : (i : ℕ) → Span
 alone i = record { first = i; end = suc i }
 
 -- the lowest piece that a span of n pieces around piece i may start at
-unfoldable pub lowestStart : PickRequest → (i n : ℕ) → ℕ
+unfoldable pub lowestStart : (a : PickRequest) (i n : ℕ) → ℕ
 lowestStart a i n = cond (option alignExpandedPieces a) (i - i % n) (suc i - n)
 
 -- from `first` past piece i, to no more than n pieces and no further than the last
-unfoldable pub spanFrom : PickRequest → Picker → (i n lowest first : ℕ) → Span
+unfoldable pub spanFrom : (a : PickRequest) (s : Picker) (i n lowest first : ℕ) → Span
 spanFrom a s i n lowest first =
     let end = least (cond (option alignExpandedPieces a) lowest first + n) (piecesIn s) in
     record { first = first; end = upBy a s (end - suc i) (suc i) }
 
 -- a span of n pieces around piece i, as far as pieces can be picked; of no pieces, the piece alone
-unfoldable pub spanOf : PickRequest → Picker → (i n : ℕ) → Span
+unfoldable pub spanOf : (a : PickRequest) (s : Picker) (i n : ℕ) → Span
 spanOf a s i zero = alone i
 spanOf a s i (suc n) =
     let lowest = lowestStart a i (suc n) in
     spanFrom a s i (suc n) lowest (downBy a s (i - lowest) i)
 
 -- `expand_piece`: the span around piece i that holds the run
-unfoldable pub expandPiece : PickRequest → (i : ℕ) → PickState → Span
+unfoldable pub expandPiece : (a : PickRequest) (i : ℕ) (w : PickState) → Span
 expandPiece a i w = spanOf a (w .picker) i (wholePieces (blocksPerPiece (w .picker)) (w .contiguous))
 
 -- its pieces
-unfoldable pub piecesOf : Span → List ℕ
+unfoldable pub piecesOf : (span : Span) → List ℕ
 piecesOf span = range (span .first) (span .end)
 
 -- ---- blocks taken
@@ -255,32 +255,32 @@ unfoldable pub pieceBlock : (i j : ℕ) → PieceBlock
 pieceBlock i j = record { piece = i; block = j }
 
 -- the block picked, towards the run
-unfoldable pub took : (i j : ℕ) → PickState → PickState
+unfoldable pub took : (i j : ℕ) (w : PickState) → PickState
 took i j w = withOut (w .left - 1) (shorter (w .contiguous)) (w .out ++ (pieceBlock i j ∷ [])) w
 
 -- exactly the run has been given, and no block is wanted
-unfoldable pub contiguousMet : PickState → Bool
+unfoldable pub contiguousMet : (w : PickState) → Bool
 contiguousMet w = contiguousIsZero (w .contiguous) && spent w
 
 -- the same, or more than the run
-unfoldable pub contiguousOver : PickState → Bool
+unfoldable pub contiguousOver : (w : PickState) → Bool
 contiguousOver w = not (contiguousAbove 0 (w .contiguous)) && spent w
 
 -- piece k of a span: an ignored one only shortens the run; another is ignored from here on, and its blocks are taken
-unfoldable pub spanStep : (takes : ℕ → PickState → PickState) → (k : ℕ) → PickState → PickState
+unfoldable pub spanStep : (takes : ℕ → PickState → PickState) (k : ℕ) (w : PickState) → PickState
 spanStep takes k w = branch (isIgnored k w) (λ v. withContiguous (shorter (v .contiguous)) v) (λ v. takes k (ignore k v)) w
 
 -- the pieces of a span in turn. The Rust leaves it at an ignored piece where run and N are met: that can only be the last
-unfoldable pub takeSpan : (takes : ℕ → PickState → PickState) → List ℕ → PickState → PickState
+unfoldable pub takeSpan : (takes : ℕ → PickState → PickState) (ks : List ℕ) (w : PickState) → PickState
 takeSpan takes ks w = forEach (spanStep takes) ks w
 
 -- ---- new pieces
 -- the blocks of piece k that hold more than pad bytes, up to where run and N are met
-unfoldable pub takePayload : (k : ℕ) → PickState → PickState
+unfoldable pub takePayload : (k : ℕ) (w : PickState) → PickState
 takePayload k w = walk (took k) contiguousMet (from 0 (payloadBlocksInPiece (w .picker) k)) w
 
 -- blocks of an Open piece: without a run as many as are wanted, else the whole span around it
-unfoldable pub addNewPiece : PickRequest → (i : ℕ) → PickState → PickState
+unfoldable pub addNewPiece : (a : PickRequest) (i : ℕ) (w : PickState) → PickState
 addNewPiece a i w =
     branch (contiguousIsZero (w .contiguous))
     (forEach (took i) (from 0 (least (payloadBlocksInPiece (w .picker) i) (w .left))))
@@ -301,22 +301,22 @@ pub record FreeRun : Type 0 where
   pub first : ℕ
 
 -- the run of `now` free blocks that ends before block j, where it is longer than x; so the first of equals stays
-unfoldable pub longer : (j now : ℕ) → FreeRun → FreeRun
+unfoldable pub longer : (j now : ℕ) (x : FreeRun) → FreeRun
 longer j now x = cond (ltb (x .longest) now) (record { longest = now; first = j - now }) x
 
 -- the longest run of free blocks, from block j on: x is the longest so far, and `now` free ones stand right before j
-unfoldable pub longestFree : (j now : ℕ) → FreeRun → List Block → FreeRun
+unfoldable pub longestFree : (j now : ℕ) (x : FreeRun) (bs : List Block) → FreeRun
 longestFree j now x [] = longer j now x
 longestFree j now x (b ∷ bs) =
     let free = sameBlockState (b .state) None in
     longestFree (suc j) (cond free (suc now) 0) (cond free x (longer j now x)) bs
 
 -- a block that is not free, and that not this peer asked for last
-unfoldable pub byAnother : (peer : Option ℕ) → Block → Bool
+unfoldable pub byAnother : (peer : Option ℕ) (b : Block) → Bool
 byAnother peer b = not (sameBlockState (b .state) None) && not (samePeer (b .peer) peer)
 
 -- `requested_from`
-unfoldable pub requestedFrom : (peer : Option ℕ) → DownloadingPiece → RequestedFrom
+unfoldable pub requestedFrom : (peer : Option ℕ) (d : DownloadingPiece) → RequestedFrom
 requestedFrom peer d =
     let x = longestFree 0 0 (record { longest = 0; first = 0 }) (d .blocks) in
     record {
@@ -327,59 +327,59 @@ requestedFrom peer d =
     }
 
 -- the free blocks, from `first` round the piece
-unfoldable pub freeFrom : DownloadingPiece → (first : ℕ) → List ℕ
+unfoldable pub freeFrom : (d : DownloadingPiece) (first : ℕ) → List ℕ
 freeFrom d first =
     filter (λ j. sameBlockState (blockAt d j .state) None) (each (λ k. (k + first) % len (d .blocks)) (from 0 (len (d .blocks))))
 
 -- as many blocks are set aside as are wanted, or more
-unfoldable pub enoughAside : PickState → Bool
+unfoldable pub enoughAside : (w : PickState) → Bool
 enoughAside w = leb (w .left) (len (w .backup))
 
 -- block j of piece i set aside
-unfoldable pub putAside : (i j : ℕ) → PickState → PickState
+unfoldable pub putAside : (i j : ℕ) (w : PickState) → PickState
 putAside i j w = withBackup (w .backup ++ (pieceBlock i j ∷ [])) w
 
 -- the free blocks set aside, unless enough are there already
-unfoldable pub setAside : DownloadingPiece → (first : ℕ) → PickState → PickState
+unfoldable pub setAside : (d : DownloadingPiece) (first : ℕ) (w : PickState) → PickState
 setAside d first w = unless (enoughAside w) (forEach (putAside (d .piece)) (freeFrom d first)) w
 
 -- the last wanted block ends the walk, once the run is over
-unfoldable pub freeHalt : (i j : ℕ) → PickState → Bool
+unfoldable pub freeHalt : (i j : ℕ) (w : PickState) → Bool
 freeHalt i j w = not (contiguousAbove 0 (w .contiguous)) && spent (took i j w)
 
 -- the free blocks taken. The Rust's copy of the run stays at 0 once it is there, and all that it asks is whether it is above
-unfoldable pub takeFree : DownloadingPiece → (first : ℕ) → PickState → PickState
+unfoldable pub takeFree : (d : DownloadingPiece) (first : ℕ) (w : PickState) → PickState
 takeFree d first w = walkUntil (took (d .piece)) (freeHalt (d .piece)) (freeFrom d first) w
 
 -- work on a copy of the run: the pick's own stays as it is
-unfoldable pub keepingContiguous : (PickState → PickState) → PickState → PickState
+unfoldable pub keepingContiguous : (f : PickState → PickState) (w : PickState) → PickState
 keepingContiguous f w = withContiguous (w .contiguous) (f w)
 
 -- set aside where the run does not fit and another peer is at work; else taken. The Rust asks here for a peer on parole, too:
 -- such a peer comes here only where no other is at work
-unfoldable pub useFree : DownloadingPiece → RequestedFrom → PickState → PickState
+unfoldable pub useFree : (d : DownloadingPiece) (h : RequestedFrom) (w : PickState) → PickState
 useFree d h w =
     let first = cond (contiguousIsZero (w .contiguous)) 0 (h .first) in
     branch (contiguousAbove (h .longest) (w .contiguous) && h .active) (setAside d first) (keepingContiguous (takeFree d first)) w
 
 -- `add_blocks_downloading`: what a partial adds; nothing where the peer lacks it, it is locked or, on parole, another touched it
-unfoldable pub addBlocksDownloading : PickRequest → DownloadingPiece → PickState → PickState
+unfoldable pub addBlocksDownloading : (a : PickRequest) (d : DownloadingPiece) (w : PickState) → PickState
 addBlocksDownloading a d w =
     let h = requestedFrom (a .peer) d in
     when (hasBit a (d .piece) && (not (d .locked) && (not (option onParole a) || h .exclusive))) (useFree d h) w
 
 -- ---- a piece
 -- what its partial adds, where one stands
-unfoldable pub addPartialOf : PickRequest → Option DownloadingPiece → PickState → PickState
+unfoldable pub addPartialOf : (a : PickRequest) (found : Option DownloadingPiece) (w : PickState) → PickState
 addPartialOf a none w = w
 addPartialOf a (some d) w = addBlocksDownloading a d w
 
 -- what a Downloading piece adds: nothing under PRIORITIZE_PARTIALS, since partials were walked before
-unfoldable pub addStanding : PickRequest → (i : ℕ) → PickState → PickState
+unfoldable pub addStanding : (a : PickRequest) (i : ℕ) (w : PickState) → PickState
 addStanding a i w = unless (option prioritizePartials a) (addPartialOf a (partialOf (w .picker) i)) w
 
 -- `add_blocks`: what piece i adds, where it is Open or Downloading, and not ignored
-unfoldable pub addBlocks : PickRequest → (i : ℕ) → PickState → PickState
+unfoldable pub addBlocks : (a : PickRequest) (i : ℕ) (w : PickState) → PickState
 addBlocks a i w =
     let q = pieceAt (w .picker) i .state in
     unless (isIgnored i w)
@@ -388,7 +388,7 @@ addBlocks a i w =
 -- ---- backup blocks
 -- `append_blocks`: as many as are wanted of the blocks set aside, and none is set aside from here on. The Rust leaves there those that
 -- are not wanted: then N is spent, and the pick is over
-unfoldable pub appendBlocks : PickState → PickState
+unfoldable pub appendBlocks : (w : PickState) → PickState
 appendBlocks w =
     let n = least (len (w .backup)) (w .left) in
     withBackup [] (withOut (w .left - n) (w .contiguous) (w .out ++ take n (w .backup)) w)
