@@ -3,12 +3,13 @@
 A fault is an edit of one line, kept in compare/planted/: in the definition (crates/model/specs), in the reference, or in the oracle's
 own judging. The file at fault stands in a temporary copy, and what the project compares is compared with that copy:
 
-    definition  the recorded calls, the lists of compare/edges.py, random lists, damaged images, the pick program's inputs
-    reference   the same, by reference.run, compare.run, compare.faults and compare.programs
+    definition  the recorded calls, the pick program's inputs, random lists, damaged images, the lists of compare/edges.py
+    reference   the same, by reference.run, compare.programs and compare.run
     oracle      built anew; compare.record --check, compare.run, compare.faults
 
 A fault with `survives:` changes nothing that anyone can see, for the reason given there. Status 1 where a fault is not found, where a
-survivor is found, or where the unchanged text is found at fault; 2 where an edit does not apply or the edited text does not run.
+survivor is found, or where the unchanged text is found at fault; 2 where an edit does not apply, the edited text does not run, or
+there are fewer faults than LEAST says.
 `--only KIND` plants one kind; `--sample N` plants N faults drawn with `--seed S` from all kinds, and no survivor, and leads the
 unchanged text through the recorded calls alone."""
 import argparse
@@ -31,7 +32,7 @@ from compare.edges import edges
 from compare.faults import damaged, images, read_line
 from compare.lists import lists
 from compare.recorded import CALLS, OUTCOMES
-from compare.run import TOP
+from compare.run import TOP, Mismatch
 
 FAULTS = os.path.join(TOP, "compare", "planted")
 FOLDERS = {
@@ -41,6 +42,8 @@ FOLDERS = {
 }
 COPIED = {"definition": FOLDERS["definition"], "reference": "reference", "oracle": "oracle"}  # what a fault of a kind has a copy of
 KEYS = ("file", "old", "new", "fault", "survives")
+LEAST = {"definition": 60, "reference": 20, "oracle": 5}  # of the definition in these files alone
+COUNTED = ("pick/Pick.antt", "pick/Blocks.antt", "change/Changes.antt", "list/Order.antt", "image/Image.antt")
 SEED = 9
 RANDOM_CALLS = 3000
 DAMAGED_IMAGES = 3
@@ -107,6 +110,9 @@ def faults_of(kind):
     twice = [f for f in found if edits[f.file, f.old, f.new] > 1]
     if twice:
         raise Unusable(f"{twice[0]}: planted twice")
+    many = sum(1 for f in found if not f.survives and (kind != "definition" or f.file in COUNTED))
+    if many < LEAST[kind]:
+        raise Unusable(f"{kind}.txt: {many} faults to be found, fewer than {LEAST[kind]}")
     return found
 
 
@@ -213,7 +219,15 @@ def reference_differs(folder, script):
 
 
 def fails(folder, *words):
-    return lambda: run(folder, python(*words))[0] != 0
+    """A command finds a fault by status 1."""
+
+    def test():
+        status, _, err = run(folder, python(*words))
+        if status not in (0, 1):
+            raise Unusable(f"{words[0]} ended with status {status}: {err[:2000]}")
+        return status
+
+    return test
 
 
 def definition_ways(specs):
@@ -338,7 +352,11 @@ def main():
         return 2
     if a.number:
         faults = [f for f in faults if f.number in a.number]
-    return planted(sample(faults, a.sample, a.seed), 1) if a.sample else planted(faults, ALL_WAYS)
+    try:
+        return planted(sample(faults, a.sample, a.seed), 1) if a.sample else planted(faults, ALL_WAYS)
+    except (Mismatch, OSError) as why:
+        print(f"planted: no evidence: {why}", file=sys.stderr)
+        return 2
 
 
 if __name__ == "__main__":
