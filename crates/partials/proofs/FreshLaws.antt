@@ -18,7 +18,8 @@ use Rattle.layout.specs.Layout.{partialIn, Room, Kept, Became}
 use Rattle.layout.proofs.TabLaws.{tab-ext}
 use Rattle.layout.proofs.Readers.{partial-same}
 use Rattle.layout.proofs.RoomLaws.{decode-at, blocks-within, partial-room, place-room, kept-again}
-use Rattle.layout.proofs.BlockStores.{partials-number, Around, around-none, around-kept, around-became, BlockPut}
+use Rattle.layout.specs.Frames.{Around, BlockPut}
+use Rattle.layout.proofs.BlockStores.{partials-number, around-none, around-kept, around-became}
 use Rattle.partials.specs.Slots.{Position, insertAt, openedWith, Filled}
 
 around-again : (s : Shape) (xs ys zs : List ℕ) → Around s xs ys → Around s ys zs → Around s xs zs

@@ -1,6 +1,8 @@
-// The value types of the piece picker: piece and block numbers, priorities, queues, block states, option and flag bits, refusals.
+// The value types of the piece picker: piece and block numbers, priorities, queues, block states, option and flag bits, refusals; limits; and numbers in another width.
 mod block;
+mod convert;
 mod flags;
+mod limits;
 mod options;
 mod piece;
 mod priority;
@@ -9,7 +11,24 @@ mod refusal;
 
 pub use block::BlockState;
 pub use block::BlockStateOf;
+pub use convert::u16_to_u64;
+pub use convert::u16_to_usize;
+pub use convert::u32_to_usize;
+pub use convert::u64_to_u16;
+pub use convert::u64_to_usize;
+pub use convert::usize_to_u32;
+pub use convert::usize_to_u64;
 pub use flags::PickerFlags;
+pub use limits::BLOCK_SIZE;
+pub use limits::MAX_EXTENTS;
+pub use limits::MAX_PARTIALS;
+pub use limits::MAX_PEERS;
+pub use limits::MAX_PIECE_AFFINITY_EXTENT;
+pub use limits::MAX_PIECE_SIZE;
+pub use limits::MAX_PIECES;
+pub use limits::MAX_RANK;
+pub use limits::PRIO_FACTOR;
+pub use limits::PRIORITY_LEVELS;
 pub use options::PickerOptions;
 pub use piece::PieceBlock;
 pub use piece::PieceIndex;

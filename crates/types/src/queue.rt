@@ -1,6 +1,7 @@
 // The queue that a piece stands in.
 ghost use mathlib.Core.Path.{_≡_};
-ghost use Rattle.types.specs.Queue.{queueNumber, queueWithNumber, unreverse, makeReverse, isReverse, isDownloading};
+ghost use mathlib.Core.List.{map};
+ghost use Rattle.types.specs.Queue.{queueNumber, queueWithNumber, queues, unreverse, makeReverse, isReverse, isDownloading};
 
 pub enum DownloadQueue {
     // Some blocks are outstanding.
@@ -9,7 +10,7 @@ pub enum DownloadQueue {
     Full,
     // All blocks are received.
     Finished,
-    // A partial piece whose wish is 0.
+    // A partial piece whose priority is 0.
     ZeroPrio,
     // In no queue.
     Open,
@@ -26,6 +27,36 @@ pub enum QueueOf {
 }
 
 impl DownloadQueue {
+    // The number of each queue, as a word.
+    pub const DOWNLOADING_NUMBER: u64 = 0;
+
+    pub const FULL_NUMBER: u64 = 1;
+
+    pub const FINISHED_NUMBER: u64 = 2;
+
+    pub const ZERO_PRIO_NUMBER: u64 = 3;
+
+    pub const OPEN_NUMBER: u64 = 4;
+
+    pub const DOWNLOADING_REVERSE_NUMBER: u64 = 5;
+
+    pub const FULL_REVERSE_NUMBER: u64 = 6;
+
+    // The value of each of these constants, in their order.
+    pub fn numbers() -> [u64; 7]
+        ensures { λ r. ⌜ r ≡ map queueNumber queues ⌝ }
+    {
+        [
+            DownloadQueue::DOWNLOADING_NUMBER,
+            DownloadQueue::FULL_NUMBER,
+            DownloadQueue::FINISHED_NUMBER,
+            DownloadQueue::ZERO_PRIO_NUMBER,
+            DownloadQueue::OPEN_NUMBER,
+            DownloadQueue::DOWNLOADING_REVERSE_NUMBER,
+            DownloadQueue::FULL_REVERSE_NUMBER,
+        ]
+    }
+
     // The queue without its direction.
     pub fn queue(self) -> DownloadQueue
         ensures { λ r. ⌜ r ≡ unreverse self ⌝ }

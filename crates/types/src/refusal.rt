@@ -11,13 +11,13 @@ pub enum Refusal {
     IllFormedMemory,
     // Too few draws are lent.
     FewDraws,
-    // A piece, block, list place or wish is out of range.
+    // A piece, block, list place or priority is out of range.
     OutOfRange,
-    // A piece's count plus seeds, or a block's requesters, would pass 1,000.
+    // A piece's peers plus seeds, or a block's peers, would pass 1,000.
     TooManyPeers,
     // A peer or a seed is taken away where there is none.
     NoPeerToTake,
-    // A piece that is had is marked downloading.
+    // A piece that is flushed is marked downloading.
     HavePiece,
     // A requested block is finished without being written.
     NotWriting,

@@ -1,4 +1,4 @@
--- What each arm of `relist` leaves is `updated`; and a list that is listed under the ranks as they were is ready to be mended.
+-- What each arm of `update` leaves is `updated`; and a list that is listed under the ranks as they were is ready to be updated.
 use mathlib.Core.Path.{_≡_, refl, sym, ap, _∙_}
 use mathlib.Core.Logic.{_≢_}
 use mathlib.Core.Bool.{false}
@@ -20,10 +20,10 @@ use Rattle.model.proofs.list.GroupMoves.{changed-kept}
 use Rattle.model.proofs.list.ListedMoves.{listed-same, updated-keeps}
 use Rattle.model.proofs.list.ListedLaws.{listed-at-lt, listed-length-le}
 use Rattle.list_moves.specs.Places.{Pieces}
-use Rattle.list_update.specs.Relisting.{former, Ready, IsRelisted}
+use Rattle.list_update.specs.Updating.{former, Ready, IsUpdated}
 use Rattle.list_update.proofs.Changing.{former-same, former-other, inside, there, rose}
 
--- ---- what `relist` needs
+-- ---- what `update` needs
 pub ready-pieces : {b : ℕ → ℕ} {pieces old x n : ℕ} (l : List ℕ) → Ready b pieces old x (take n l) → n ≤ length l → Pieces pieces n l
 ready-pieces {b} {pieces} {old} {x} {n} l r le k q = rw (getD-take n l k 0 q) at (r .within k (omega (arith, length-take-le n l le)))
 
@@ -57,9 +57,9 @@ module _ {b : ℕ → ℕ} (ds : List ℕ) (t : ℕ) {pieces old x n k : ℕ} (l
   long = length-take-le n l le
 
   -- the rank is the same
-  pub mended-same : k ≡ old → IsRelisted b ds t old x (take n l) l l n t
+  pub updated-same : k ≡ old → IsUpdated b ds t old x (take n l) l l n t
   unfolding updated updateDraws len
-  mended-same e =
+  updated-same e =
       let q = eq-eqb (b x) old (sym ek ∙ e) in
       record { list = rw q (sym (take-append-drop n l)); len-is = rw q (sym long); used-is = rw q (omega arith) }
 
@@ -68,10 +68,10 @@ module _ {b : ℕ → ℕ} (ds : List ℕ) (t : ℕ) {pieces old x n k : ℕ} (l
     differ = ne-eqb (b x) old (λ e. ne (ek ∙ e))
 
     -- x comes in
-    pub mended-added : old ≡ 0 → (l′ : List ℕ) (d : ℕ) → l′ ≡ added b ds t x (take n l) ++ drop (suc n) l → d ≡ addDraws b x (take n l)
-        → IsRelisted b ds t old x (take n l) l l′ (n + 1) (t + d)
+    pub updated-added : old ≡ 0 → (l′ : List ℕ) (d : ℕ) → l′ ≡ added b ds t x (take n l) ++ drop (suc n) l → d ≡ addDraws b x (take n l)
+        → IsUpdated b ds t old x (take n l) l l′ (n + 1) (t + d)
     unfolding updated updateDraws len added
-    mended-added z l′ d el ed =
+    updated-added z l′ d el ed =
         let q = differ in
         let w = eq-eqb old 0 z in
         record {
@@ -82,10 +82,10 @@ module _ {b : ℕ → ℕ} (ds : List ℕ) (t : ℕ) {pieces old x n k : ℕ} (l
 
     module _ (nz : old ≢ 0) where
       -- x leaves
-      pub mended-removed : k ≡ 0 → (i : ℕ) → i ≡ placeOf x (take n l) → (l′ : List ℕ) → l′ ≡ removed b i (take n l) ++ drop (n - 1) l
-          → IsRelisted b ds t old x (take n l) l l′ (n - 1) t
+      pub updated-removed : k ≡ 0 → (i : ℕ) → i ≡ placeOf x (take n l) → (l′ : List ℕ) → l′ ≡ removed b i (take n l) ++ drop (n - 1) l
+          → IsUpdated b ds t old x (take n l) l l′ (n - 1) t
       unfolding updated updateDraws len
-      mended-removed z i ei l′ el =
+      updated-removed z i ei l′ el =
           let q = differ in
           let w = ne-eqb old 0 nz in
           let v = eq-eqb (b x) 0 (sym ek ∙ z) in
@@ -93,10 +93,10 @@ module _ {b : ℕ → ℕ} (ds : List ℕ) (t : ℕ) {pieces old x n k : ℕ} (l
           record { list = rw (q, w, v, ← ei) el; len-is = rw (q, w, v) (omega (arith, long)); used-is = rw (q, w, v) (omega arith) }
 
       -- x moves
-      pub mended-changed : k ≢ 0 → (l′ : List ℕ) (d : ℕ) → l′ ≡ changed b ds t old x (take n l) ++ drop n l → d ≡ changeDraws b x (take n l)
-          → IsRelisted b ds t old x (take n l) l l′ n (t + d)
+      pub updated-changed : k ≢ 0 → (l′ : List ℕ) (d : ℕ) → l′ ≡ changed b ds t old x (take n l) ++ drop n l → d ≡ changeDraws b x (take n l)
+          → IsUpdated b ds t old x (take n l) l l′ n (t + d)
       unfolding updated updateDraws len
-      mended-changed z l′ d el ed =
+      updated-changed z l′ d el ed =
           let q = differ in
           let w = ne-eqb old 0 nz in
           let v = ne-eqb (b x) 0 (λ e. z (ek ∙ e)) in
@@ -128,7 +128,7 @@ module _ (b b′ : ℕ → ℕ) (n x : ℕ) (l : List ℕ) (g : Listed b n l) (h
   were : (y : ℕ) → y < n → former b′ (b x) x y ≡ b y
   were y k = elim (ℕ-discrete y x) [ yes e ↦ rw e (former-same b′ (b x) x) | no e ↦ former-other b′ (b x) x y e ∙ agree y k e ]
 
-  -- is ready to be mended
+  -- is ready to be updated
   pub listed-ready : (pieces : ℕ) → n ≤ pieces → Ready b′ pieces (b x) x l
   unfolding nth
   listed-ready pieces le = record {

@@ -1,9 +1,9 @@
--- `listing::refresh` meets its contract. Assumes nothing.
+-- `listing::update_pieces` meets its contract. Assumes nothing.
 use mathlib.Core.Path.{sym, _∙_}
 use borrow.Author.Needs.{needs}
-use Rattle.listing.proofs.Renewals.{updatePieces-dirty, updatePieces-fresh}
-use Rattle.listing.proofs.lists.refresh.Statement.{statement}
-use Rattle.listing.proofs.lists.refresh.Tie as tie
+use Rattle.listing.proofs.Rebuilds.{updatePieces-dirty, updatePieces-fresh}
+use Rattle.listing.proofs.lists.update_pieces.Statement.{statement}
+use Rattle.listing.proofs.lists.update_pieces.Tie as tie
 
 is-stale-requires : tie.Need-is-stale-requires
 is-stale-requires c κs = search needs
@@ -28,7 +28,7 @@ returns-2 c =
     let t = c .before .before .before .before .before in
     updatePieces-fresh (t .args .s) (t .args .mem .now) (t .args .draws .now) (t .args .t) (t .pre .0) (sym (c .before .is-stale .ensures) ∙ c .if1 .left)
 
-pub refresh-spec : {M : Type 1} → statement M
-refresh-spec =
+pub update-pieces-spec : {M : Type 1} → statement M
+update-pieces-spec =
     tie.close
     (tie.spec is-stale-requires rebuild-list-requires same-length returns same-length-2 returns-2)

@@ -1,22 +1,22 @@
--- `relist` meets its contract: one arm for each way in which the rank may have changed. Assumes nothing.
+-- `update` meets its contract: one arm for each way in which the rank may have changed. Assumes nothing.
 use borrow.Author.Needs.{needs}
 use mathlib.Core.Path.{_∙_}
 use native.Mathlib.Omega.{arith}
 use lib.ListN.{take}
 use Rattle.list_moves.specs.Places.{rankIn}
-use Rattle.list_update.proofs.Mending.{ready-pieces, room, more-room, place-in-n, add-one-draw, change-one-draw, mended-same}
-use Rattle.list_update.proofs.Mending.{mended-added, mended-removed, mended-changed}
-use Rattle.list_update.proofs.relist.Statement.{statement}
-use Rattle.list_update.proofs.relist.Tie as tie
+use Rattle.list_update.proofs.UpdateLaws.{ready-pieces, room, more-room, place-in-n, add-one-draw, change-one-draw, updated-same}
+use Rattle.list_update.proofs.UpdateLaws.{updated-added, updated-removed, updated-changed}
+use Rattle.list_update.proofs.update.Statement.{statement}
+use Rattle.list_update.proofs.update.Tie as tie
 
-key-requires : tie.Need-key-requires
-key-requires c κs = search needs
+rank-of-requires : tie.Need-rank-of-requires
+rank-of-requires c κs = search needs
 
 returns : tie.Need-returns
 returns c =
     let t = c .before .before .before .before .before in
-    mended-same (t .args .draws .now) (t .args .t) (t .args .list .now) (t .pre .1 .1 .0)
-    (room (t .args .list .now) (t .pre .1 .1 .0) (t .pre .0)) (c .before .key .ensures) (c .if1 .taken)
+    updated-same (t .args .draws .now) (t .args .t) (t .args .list .now) (t .pre .1 .1 .0)
+    (room (t .args .list .now) (t .pre .1 .1 .0) (t .pre .0)) (c .before .rank-of .ensures) (c .if1 .taken)
 
 add-requires : tie.Need-add-requires
 add-requires c κs =
@@ -38,7 +38,7 @@ add-used c =
     omega (
       arith,
       c .before .before .add .ensures .1,
-      add-one-draw (rankIn (t .args .keys .now)) (t .args .x) (take (t .args .n) (t .args .list .now)),
+      add-one-draw (rankIn (t .args .ranks .now)) (t .args .piece) (take (t .args .n) (t .args .list .now)),
     )
 
 same-length : tie.Need-same-length
@@ -48,8 +48,8 @@ returns-2 : tie.Need-returns-2
 returns-2 c =
     let t = c .before .before .before .before .before .before .before .before .before .before in
     let d = c .before .before .add in
-    mended-added (t .args .draws .now) (t .args .t) (t .args .list .now) (t .pre .1 .1 .0)
-    (room (t .args .list .now) (t .pre .1 .1 .0) (t .pre .0)) (c .before .before .before .before .before .before .key .ensures)
+    updated-added (t .args .draws .now) (t .args .t) (t .args .list .now) (t .pre .1 .1 .0)
+    (room (t .args .list .now) (t .pre .1 .1 .0) (t .pre .0)) (c .before .before .before .before .before .before .rank-of .ensures)
     (c .before .before .before .before .before .if1 .left) (c .before .before .before .before .if2 .taken) (d .last .0) (d .result)
     (d .ensures .0) (d .ensures .1)
 
@@ -82,9 +82,9 @@ returns-3 c =
     let t = c .before .before .before .before .before .before .before .before .before .before .before .before .before in
     let i = c .before .before .before .before .place-of in
     let d = c .before .before .remove in
-    mended-removed (t .args .draws .now) (t .args .t) (t .args .list .now) (t .pre .1 .1 .0)
+    updated-removed (t .args .draws .now) (t .args .t) (t .args .list .now) (t .pre .1 .1 .0)
     (room (t .args .list .now) (t .pre .1 .1 .0) (t .pre .0))
-    (c .before .before .before .before .before .before .before .before .before .key .ensures)
+    (c .before .before .before .before .before .before .before .before .before .rank-of .ensures)
     (c .before .before .before .before .before .before .before .before .if1 .left)
     (c .before .before .before .before .before .before .before .if2 .left) (c .before .before .before .before .before .before .if3 .taken)
     (i .result) (i .ensures) (d .last .0) (d .ensures)
@@ -98,7 +98,7 @@ change-requires c κs =
         t .pre .1 .0,
         (
           t .pre .1 .1 .0,
-          (omega arith, λ e. c .before .before .before .if1 .left (c .before .before .before .before .key .ensures ∙ e)),
+          (omega arith, λ e. c .before .before .before .if1 .left (c .before .before .before .before .rank-of .ensures ∙ e)),
         ),
       ),
     )
@@ -109,7 +109,7 @@ add-used-2 c =
     omega (
       arith,
       c .before .before .change .ensures .1,
-      change-one-draw (rankIn (t .args .keys .now)) (t .args .x) (take (t .args .n) (t .args .list .now)),
+      change-one-draw (rankIn (t .args .ranks .now)) (t .args .piece) (take (t .args .n) (t .args .list .now)),
     )
 
 same-length-3 : tie.Need-same-length-3
@@ -119,16 +119,16 @@ returns-4 : tie.Need-returns-4
 returns-4 c =
     let t = c .before .before .before .before .before .before .before .before .before .before .before in
     let d = c .before .before .change in
-    mended-changed (t .args .draws .now) (t .args .t) (t .args .list .now) (t .pre .1 .1 .0)
-    (room (t .args .list .now) (t .pre .1 .1 .0) (t .pre .0)) (c .before .before .before .before .before .before .before .key .ensures)
+    updated-changed (t .args .draws .now) (t .args .t) (t .args .list .now) (t .pre .1 .1 .0)
+    (room (t .args .list .now) (t .pre .1 .1 .0) (t .pre .0)) (c .before .before .before .before .before .before .before .rank-of .ensures)
     (c .before .before .before .before .before .before .if1 .left) (c .before .before .before .before .before .if2 .left)
     (c .before .before .before .before .if3 .left) (d .last .0) (d .result) (d .ensures .0) (d .ensures .1)
 
-pub relist-spec : {M : Type 1} → statement M
-relist-spec =
+pub update-spec : {M : Type 1} → statement M
+update-spec =
     tie.close
     (tie.spec
-    key-requires
+    rank-of-requires
     returns
     add-requires
     add-len

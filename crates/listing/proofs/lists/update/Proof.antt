@@ -1,4 +1,4 @@
--- `listing::relist` meets its contract. Assumes nothing.
+-- `listing::update` meets its contract. Assumes nothing.
 use mathlib.Core.Path.{sym, subst, _∙_}
 use Prim.Native.Nat.{ℕ}
 use native.Mathlib.Omega.{arith}
@@ -6,9 +6,9 @@ use borrow.Author.Needs.{needs}
 use Rattle.types.specs.Piece.{indexOf}
 use Rattle.layout.specs.Layout.{decode}
 use Rattle.listing.specs.Listings.{OrderBefore}
-use Rattle.listing.proofs.Mendings.{order-before, update-dirty, update-same, update-fresh}
-use Rattle.listing.proofs.lists.relist.Statement.{statement}
-use Rattle.listing.proofs.lists.relist.Tie as tie
+use Rattle.listing.proofs.Updates.{order-before, update-dirty, update-same, update-fresh}
+use Rattle.listing.proofs.lists.update.Statement.{statement}
+use Rattle.listing.proofs.lists.update.Tie as tie
 
 is-stale-requires : tie.Need-is-stale-requires
 is-stale-requires c κs = search needs
@@ -38,8 +38,8 @@ returns-2 c =
     update-same (t .args .s) (t .args .mem .now) (t .args .t) (t .pre .0) (t .args .draws .now) (t .args .old) (indexOf (t .args .piece .0))
     (c .before .before .before .get .result) (c .before .before .before .get .ensures) (c .before .rank-at .result) (c .before .rank-at .ensures .0) (c .if2 .taken)
 
-mend-list-requires : tie.Need-mend-list-requires
-mend-list-requires c κs =
+update-list-requires : tie.Need-update-list-requires
+update-list-requires c κs =
     let t = c .before .before .before .before .before .before .before .before .before .before in
     let d = c .before .before .before .before in
     let e = d .get .ensures in
@@ -63,12 +63,12 @@ returns-3 : tie.Need-returns-3
 returns-3 c =
     let t = c .before .before .before .before .before .before .before .before .before .before .before .before .before in
     let d = c .before .before .before .before .before .before .before in
-    let u = c .before .before .mend-list in
+    let u = c .before .before .update-list in
     update-fresh (t .args .s) (t .args .mem .now) (t .args .draws .now) (t .args .old) (indexOf (t .args .piece .0)) (t .args .t)
     (sym (d .before .before .is-stale .ensures) ∙ d .before .if1 .left) (d .get .result) (d .get .ensures) (u .last .0) (u .result) (u .ensures)
 
-pub relist-spec : {M : Type 1} → statement M
-relist-spec =
+pub update-spec : {M : Type 1} → statement M
+update-spec =
     tie.close
     (tie.spec
     is-stale-requires
@@ -78,6 +78,6 @@ relist-spec =
     rank-at-requires
     same-length-2
     returns-2
-    mend-list-requires
+    update-list-requires
     same-length-3
     returns-3)

@@ -1,4 +1,4 @@
--- The list mended in its region, with the keys as ranks, is the picker's list mended. Assumes nothing.
+-- The list updated in its region, by the ranks beside the memory, is the picker's list updated. Assumes nothing.
 use mathlib.Core.Path.{_≡_, refl, sym, ap, ap₂, _∙_, subst}
 use mathlib.Core.Bool.{true, false, true≢false}
 use mathlib.Core.List.{List, _∷_}
@@ -21,7 +21,7 @@ use Rattle.layout.specs.Layout.{listWords, decode, Room, Became}
 use Rattle.layout.proofs.RoomLaws.{became-none}
 use Rattle.layout.proofs.Meanings.{pieces-number, length-is}
 use Rattle.list_moves.specs.Places.{rankIn, Pieces}
-use Rattle.list_update.specs.Relisting.{former, Ready, IsRelisted}
+use Rattle.list_update.specs.Updating.{former, Ready, IsUpdated}
 use Rattle.listing.specs.Listings.{OrderBefore, ListedBefore}
 use Rattle.listing.proofs.Regions.{lentAt, backAt, part-long, part-list, filed-room, filed-few, filed}
 
@@ -61,8 +61,8 @@ former-own : (b : ℕ → ℕ) (old x : ℕ) → former b old x x ≡ old
 unfolding former
 former-own b old x = rw (eq-eqb x x refl)
 
--- ---- what mending asks
-module _ (s : Shape) (xs keys : List ℕ) (r : Room s xs) (k : rankIn keys ≡ rank (decode xs)) (old x : ℕ) (hx : x < s .pieces) (g : OrderBefore old x (decode xs))
+-- ---- what the update asks
+module _ (s : Shape) (xs ranks : List ℕ) (r : Room s xs) (k : rankIn ranks ≡ rank (decode xs)) (old x : ℕ) (hx : x < s .pieces) (g : OrderBefore old x (decode xs))
     (a : ℕ) (ea : a ≡ 16 + 5 * s .pieces) (n w : ℕ) (en : n ≡ len (listOf (decode xs .listing))) (ew : w ≡ x) where
   there : x < piecesIn (decode xs)
   there = rw (pieces-number s xs r) hx
@@ -71,9 +71,9 @@ module _ (s : Shape) (xs keys : List ℕ) (r : Room s xs) (k : rankIn keys ≡ r
   front-is = ap (λ (m : ℕ). take m (lentAt a (s .pieces) xs)) en ∙ part-list s xs r a ea
 
   -- room for one more where x is to be added
-  pub mending-room : n + bit (eqb old 0) ≤ length (lentAt a (s .pieces) xs)
+  pub updating-room : n + bit (eqb old 0) ≤ length (lentAt a (s .pieces) xs)
   unfolding len OrderBefore
-  mending-room = elim (ℕ-discrete old 0) [
+  updating-room = elim (ℕ-discrete old 0) [
     | yes q ↦ omega (
       arith,
       en,
@@ -85,7 +85,7 @@ module _ (s : Shape) (xs keys : List ℕ) (r : Room s xs) (k : rankIn keys ≡ r
     | no q ↦ omega (arith, en, ne-bit old 0 q, part-long s xs r a ea, length-is s xs r, r .list)
   ]
 
-  ready-list : length keys ≡ 4096 → Ready (rank (decode xs)) (length keys) old x (listOf (decode xs .listing))
+  ready-list : length ranks ≡ 4096 → Ready (rank (decode xs)) (length ranks) old x (listOf (decode xs .listing))
   unfolding OrderBefore
   ready-list e = record {
     within = λ i h.
@@ -101,40 +101,40 @@ module _ (s : Shape) (xs keys : List ℕ) (r : Room s xs) (k : rankIn keys ≡ r
   }
 
   -- the list as the code has it
-  pub mending-ready : length keys ≡ 4096 → Ready (rankIn keys) (length keys) old w (take n (lentAt a (s .pieces) xs))
-  mending-ready e =
-      subst (λ (b : ℕ → ℕ). Ready b (length keys) old w (take n (lentAt a (s .pieces) xs))) (sym k)
-      (subst (λ (y : ℕ). Ready (rank (decode xs)) (length keys) old y (take n (lentAt a (s .pieces) xs))) (sym ew)
-      (subst (Ready (rank (decode xs)) (length keys) old x) (sym front-is) (ready-list e)))
+  pub updating-ready : length ranks ≡ 4096 → Ready (rankIn ranks) (length ranks) old w (take n (lentAt a (s .pieces) xs))
+  updating-ready e =
+      subst (λ (b : ℕ → ℕ). Ready b (length ranks) old w (take n (lentAt a (s .pieces) xs))) (sym k)
+      (subst (λ (y : ℕ). Ready (rank (decode xs)) (length ranks) old y (take n (lentAt a (s .pieces) xs))) (sym ew)
+      (subst (Ready (rank (decode xs)) (length ranks) old x) (sym front-is) (ready-list e)))
 
-  pub mending-piece : length keys ≡ 4096 → w < length keys
-  mending-piece e = omega (arith, r .spans .sizes .many)
+  pub updating-piece : length ranks ≡ 4096 → w < length ranks
+  updating-piece e = omega (arith, r .spans .sizes .many)
 
   -- ---- what it leaves
   module _ (ds : List ℕ) (t : ℕ) (ys : List ℕ) (len used : ℕ) (long : length ys ≡ length (lentAt a (s .pieces) xs))
-      (b : IsRelisted (rankIn keys) ds t old w (take n (lentAt a (s .pieces) xs)) (lentAt a (s .pieces) xs) ys len used) where
+      (b : IsUpdated (rankIn ranks) ds t old w (take n (lentAt a (s .pieces) xs)) (lentAt a (s .pieces) xs) ys len used) where
     abbrev found : List ℕ
-    found = updated (rankIn keys) ds t old w (take n (lentAt a (s .pieces) xs))
+    found = updated (rankIn ranks) ds t old w (take n (lentAt a (s .pieces) xs))
 
     list-is : found ≡ updated (rank (decode xs)) ds t old x (listOf (decode xs .listing))
     list-is = λ i. updated (k i) ds t old (ew i) (front-is i)
 
-    draws-are : updateDraws (rankIn keys) old w (take n (lentAt a (s .pieces) xs)) ≡ updateDraws (rank (decode xs)) old x (listOf (decode xs .listing))
+    draws-are : updateDraws (rankIn ranks) old w (take n (lentAt a (s .pieces) xs)) ≡ updateDraws (rank (decode xs)) old x (listOf (decode xs .listing))
     draws-are = λ i. updateDraws (k i) old (ew i) (front-is i)
 
     -- with the region back, its length may be stored
-    pub mended-ready : Room s (backAt a (s .pieces) xs ys) × (len ≤ s .pieces)
-    mended-ready = (
+    pub updated-ready : Room s (backAt a (s .pieces) xs ys) × (len ≤ s .pieces)
+    updated-ready = (
       filed-room s xs r a ea ys found len long (b .list) (b .len-is),
       filed-few s xs r a ea ys found len long (b .list) (b .len-is),
     )
 
-    -- and it is the mended list
-    pub mended : (zs : List ℕ)
+    -- and it is the updated list
+    pub list-updated : (zs : List ℕ)
         → Became s (backAt a (s .pieces) xs ys) zs (withListing (fresh (front len (listWords (backAt a (s .pieces) xs ys) (s .pieces)))) (decode (backAt a (s .pieces) xs ys)))
         → Became s xs zs (withListing (fresh (updated (rank (decode xs)) ds t old x (listOf (decode xs .listing)))) (decode xs))
         × (used ≡ t + updateDraws (rank (decode xs)) old x (listOf (decode xs .listing)))
-    mended zs h = (
+    list-updated zs h = (
       subst (λ (l : List ℕ). Became s xs zs (withListing (fresh l) (decode xs))) list-is
           (filed s xs r a ea ys found len long (b .list) (b .len-is) zs h),
       b .used-is ∙ ap (λ (d : ℕ). t + d) draws-are,
@@ -163,12 +163,12 @@ module _ (s : Shape) (xs ds : List ℕ) (old x t : ℕ) where
       go dirty e = (became-none s xs r, refl)
       go (fresh l) e = absurd (true≢false (sym e))
 
-  update-mended : isDirty (decode xs .listing) ≡ false → (zs : List ℕ) (used : ℕ)
+  update-listed : isDirty (decode xs .listing) ≡ false → (zs : List ℕ) (used : ℕ)
       → Became s xs zs (withListing (fresh (updated (rank (decode xs)) ds t old x (listOf (decode xs .listing)))) (decode xs))
       × (used ≡ t + updateDraws (rank (decode xs)) old x (listOf (decode xs .listing)))
       → Became s xs zs (update ds old x (drawing t (decode xs)) .picker) × (used ≡ update ds old x (drawing t (decode xs)) .used)
   unfolding update updateIn drawing isDirty listOf withListing updateDraws
-  update-mended e zs used h = go (decode xs .listing) e h
+  update-listed e zs used h = go (decode xs .listing) e h
     where
       go : (l : Listing) → isDirty l ≡ false
           → Became s xs zs (withListing (fresh (updated (rank (decode xs)) ds t old x (listOf l))) (decode xs)) × (used ≡ t + updateDraws (rank (decode xs)) old x (listOf l))
@@ -176,13 +176,13 @@ module _ (s : Shape) (xs ds : List ℕ) (old x t : ℕ) where
       go dirty e h = absurd (true≢false e)
       go (fresh l) e h = h
 
-  -- any other is mended; i is x as the code has it
+  -- any other is updated; i is x as the code has it
   pub update-fresh : isDirty (decode xs .listing) ≡ false → (i : ℕ) → i ≡ x → (zs : List ℕ) (used : ℕ)
       → Became s xs zs (withListing (fresh (updated (rank (decode xs)) ds t old i (listOf (decode xs .listing)))) (decode xs))
       × (used ≡ t + updateDraws (rank (decode xs)) old i (listOf (decode xs .listing)))
       → Became s xs zs (update ds old x (drawing t (decode xs)) .picker) × (used ≡ update ds old x (drawing t (decode xs)) .used)
   update-fresh e i q zs used h =
-      update-mended e zs used
+      update-listed e zs used
       (subst (λ (y : ℕ).
       Became s xs zs (withListing (fresh (updated (rank (decode xs)) ds t old y (listOf (decode xs .listing)))) (decode xs))
       × (used ≡ t + updateDraws (rank (decode xs)) old y (listOf (decode xs .listing)))) q h)
