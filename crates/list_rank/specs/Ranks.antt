@@ -5,12 +5,8 @@ use mathlib.Core.Bool.{Bool, cond, _||_}
 use lib.Dec.{eqb}
 use Rattle.types.specs.declared.queue.DownloadQueue.the-variants.{Full, Finished, Open, DownloadingReverse, FullReverse}
 use Rattle.types.specs.Queue.{queueNumber}
-use Rattle.model.specs.State.{Piece, maxPeers}
+use Rattle.model.specs.State.{Piece, maxPeers, maxPriority}
 use Rattle.model.specs.list.Order.{bucket, rankOf}
-
--- the highest priority
-abbrev pub maxPriority : ℕ
-maxPriority = 7
 
 -- the highest rank, of a piece of priority 1 that as many peers have as can be: what the product comes to, 1 less for a reverse queue, and 1 more
 abbrev pub maxRank : ℕ

@@ -2,7 +2,8 @@
 ghost use mathlib.Core.Path.{_≡_};
 ghost use Prim.Native.Nat.{_≤_};
 ghost use Rattle.model.specs.State.{maxPeers};
-ghost use Rattle.list_rank.specs.Ranks.{adjustmentOf, unlistedBy, maxPriority, maxRank, IsRank};
+ghost use Rattle.model.specs.State.{maxPriority};
+ghost use Rattle.list_rank.specs.Ranks.{adjustmentOf, unlistedBy, maxRank, IsRank};
 use types::DownloadQueue;
 use types::MAX_RANK;
 use types::PRIO_FACTOR;

@@ -156,10 +156,10 @@ refusal s (mark-as-canceled i j peer draws) = refuseFewDraws draws (refuseBadBlo
 refusal s (abort-download i j peer draws) = refuseFewDraws draws (refuseBadBlock s i j none)
 refusal s (lock-piece i) = refuseBadPiece s i none
 refusal s (piece-passed i) = refuseBadPiece s i none
-refusal s (pick-pieces action free draws) =
+refusal s (pick-pieces request free draws) =
     refuseFewDraws draws
-    (check (not (requestFits s action)) PickArguments
-    (check (ltb free (action .wanted + action .contiguous + spareOutput)) ShortOutput none))
+    (check (not (requestFits s request)) PickArguments
+    (check (ltb free (request .wanted + request .contiguous + spareOutput)) ShortOutput none))
 
 -- ---- a step
 pub record Step : Type 0 where
@@ -221,7 +221,7 @@ act s (mark-as-canceled i j peer draws) = doing (markAsCanceled draws i j (lentP
 act s (abort-download i j peer draws) = doing (abortDownload draws i j (lentPeer peer) (drawing 0 s))
 act s (lock-piece i) = doing (drawing 0 (lockPiece i s))
 act s (piece-passed i) = doing (drawing 0 (piecePassed i s))
-act s (pick-pieces action free draws) = picking (pickPieces draws s (lentRequest action))
+act s (pick-pieces request free draws) = picking (pickPieces draws s (lentRequest request))
 
 -- refused, the picker stays as it is
 unfoldable pub unlessRefused : (why : Option Refusal) (s : Picker) (action : Action) → Step
