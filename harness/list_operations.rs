@@ -19,12 +19,12 @@ pub fn rank(mem: &[u64], piece: usize) -> u64 {
 }
 
 /// The list mended after a piece came from rank `old` to the one it has. It was right before.
-pub fn relist(mem: &mut [u64], piece: usize, old: u64, draws: &[u32]) -> usize {
+pub fn update(mem: &mut [u64], piece: usize, old: u64, draws: &[u32]) -> usize {
     assert!(piece < pieces(mem));
     unsafe { ls_update(mem.as_mut_ptr(), mem.len(), piece, old, draws.as_ptr(), draws.len()) }
 }
 
 /// The list made anew where it is stale.
-pub fn refresh(mem: &mut [u64], draws: &[u32]) -> usize {
+pub fn update_pieces(mem: &mut [u64], draws: &[u32]) -> usize {
     unsafe { ls_update_pieces(mem.as_mut_ptr(), mem.len(), draws.as_ptr(), draws.len()) }
 }

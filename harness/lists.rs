@@ -1,6 +1,6 @@
 //! Leads pickers in lent memory through the list operations of standard input, by the proved code, and compares list and draws used with
 //! what oracle and reference have after each, and that no other word changed. The queues of each picker are compared with the
-//! reference's. `harness/run` builds it. Prints how many were compared; ends with status 1 at the first difference, 2 on bad input.
+//! reference's. `harness/run` builds it. Prints how many were compared, which may not be fewer than its argument; ends with status 1 at the first difference, 2 on bad input.
 //!
 //! What the proved code requires of its callers is tested here first, and input that does not meet it is bad: memory in which no
 //! well-formed picker stands, at `start`; later a piece, a count or a wish out of range, or a change of another piece's rank.
@@ -100,7 +100,7 @@ impl Memory {
         (0..list_operations::pieces(&self.words)).map(|i| list_operations::rank(&self.words, i)).collect()
     }
 
-    fn relist(&mut self, line: usize, w: &[&str]) {
+    fn update(&mut self, line: usize, w: &[&str]) {
         let piece = usize::try_from(number(line, w[0])).unwrap_or(usize::MAX);
         let mut before = self.ranks();
         let old = *before.get(piece).unwrap_or_else(|| bad(line, "a piece out of range"));
@@ -110,14 +110,14 @@ impl Memory {
             bad(line, "the rank of another piece changes");
         }
         let due = self.with_list(line, &numbers(line, w[5]));
-        let used = list_operations::relist(&mut self.words, piece, old, &words(line, w[4]));
+        let used = list_operations::update(&mut self.words, piece, old, &words(line, w[4]));
         self.compare(line, &due, used, w[1]);
     }
 
     fn rebuild(&mut self, line: usize, w: &[&str]) {
         self.set_pieces(line, w[1], w[2]);
         let due = self.with_list(line, &numbers(line, w[4]));
-        let used = list_operations::refresh(&mut self.words, &words(line, w[3]));
+        let used = list_operations::update_pieces(&mut self.words, &words(line, w[3]));
         self.compare(line, &due, used, w[0]);
     }
 
@@ -153,16 +153,20 @@ fn main() {
         match (w[0], w.len(), &mut memory) {
             _ if ended => bad(k + 1, "a line after `end`"),
             ("start", 6, _) => memory = Some(Memory::start(k + 1, &w[1..])),
-            ("relist", 7, Some(m)) => m.relist(k + 1, &w[1..]),
+            ("update", 7, Some(m)) => m.update(k + 1, &w[1..]),
             ("rebuild", 6, Some(m)) => m.rebuild(k + 1, &w[1..]),
             ("stale", 1, Some(m)) => m.stale(),
             ("end", 1, _) => ended = true,
             _ => bad(k + 1, "no list operation"),
         }
-        done += u64::from(w[0].starts_with("re"));
+        done += u64::from(["update", "rebuild"].contains(&w[0]));
     }
     if !ended {
         bad(0, "the input has no `end`");
+    }
+    let least = std::env::args().nth(1).map_or(0, |n| number(0, &n));
+    if done < least {
+        bad(0, &format!("{done} list operations, fewer than {least}"));
     }
     println!("{done} list operations: memory, reference and oracle agree");
 }

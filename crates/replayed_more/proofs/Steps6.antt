@@ -1,4 +1,4 @@
--- Recorded calls 4926 to 8240, those that are replayed, computed. Written by compare/steps.py: not to be edited.
+-- Recorded calls 4926 to 8252, those that are replayed, computed. Written by compare/steps.py: not to be edited.
 use mathlib.Core.Path.{_≡_, refl}
 use mathlib.Core.Bool.{true, false}
 use Prim.Native.Nat.{ℕ}
@@ -776,8 +776,18 @@ calls-6458 :
 unfolding replaying
 calls-6458 = refl
 
-abbrev image-6518 : List ℕ
-image-6518 =
+-- call 6505
+calls-6505 :
+    outcomes none
+    (new-line 7199 600 1
+    ∷ [])
+    ≡ outcome (notDone ShortMemory) []
+    ∷ []
+unfolding replaying
+calls-6505 = refl
+
+abbrev image-6530 : List ℕ
+image-6530 =
     1 ∷ 0 ∷ 0 ∷ 0 ∷ 0 ∷ 0 ∷ 1 ∷ 127 ∷ 251 ∷ 0 ∷ 0 ∷ 128 ∷ 0 ∷ 0 ∷ 1 ∷ 0 ∷ 0 ∷ 0 ∷ 0 ∷ 0 ∷ 0 ∷ 0 ∷ 3 ∷ 1 ∷
     2 ∷ 0 ∷ 2 ∷ 1 ∷ 7 ∷ 0 ∷ 0 ∷ 0 ∷ 64 ∷ 0 ∷
     2 ∷ 0 ∷ 0 ∷ 4 ∷ 0 ∷ 0 ∷ 0 ∷ 0 ∷ 0 ∷ 0 ∷
@@ -787,10 +797,10 @@ image-6518 =
     4 ∷ 3 ∷ 0 ∷ 0 ∷ 0 ∷ 0 ∷ 0 ∷ 0 ∷ 0 ∷ 0 ∷ 0 ∷ 0 ∷ 0 ∷
     5 ∷ 0 ∷ 0 ∷ 0 ∷ 0 ∷ []
 
--- calls 6518 to 6599
-calls-6518 :
+-- calls 6530 to 6611
+calls-6530 :
     outcomes none
-    (read-line 1000000 image-6518
+    (read-line 1000000 image-6530
     ∷ call-line 1000000 (question (ofPicker num-pieces))
     ∷ call-line 1000000 (question (ofPicker block-size))
     ∷ call-line 1000000 (question (ofPicker blocks-per-piece))
@@ -873,118 +883,108 @@ calls-6518 :
     ∷ call-line 1000000 (question (ofPiece passed-hash-check 2))
     ∷ call-line 1000000 (question (ofPiece locked? 0))
     ∷ [])
-    ≡ outcome stands image-6518
-    ∷ outcome (answered (replied (numbers ((some 3) ∷ [])))) image-6518
-    ∷ outcome (answered (replied (numbers ((some 16384) ∷ [])))) image-6518
-    ∷ outcome (answered (replied (numbers ((some 2) ∷ [])))) image-6518
-    ∷ outcome (answered (replied (numbers ((some 16391) ∷ [])))) image-6518
-    ∷ outcome (answered (replied (numbers ((some 0) ∷ [])))) image-6518
-    ∷ outcome (answered (replied (numbers ((some 3) ∷ [])))) image-6518
-    ∷ outcome (answered (replied (numbers ((some 1) ∷ [])))) image-6518
-    ∷ outcome (answered (replied (numbers ((some 1) ∷ [])))) image-6518
-    ∷ outcome (answered (replied (numbers ((some 0) ∷ [])))) image-6518
-    ∷ outcome (answered (replied (numbers ((some 1) ∷ [])))) image-6518
-    ∷ outcome (answered (replied (numbers ((some 0) ∷ [])))) image-6518
-    ∷ outcome (answered (replied (numbers ((some 0) ∷ [])))) image-6518
-    ∷ outcome (answered (replied (numbers ((some 1) ∷ [])))) image-6518
-    ∷ outcome (answered (replied (numbers ((some 1) ∷ [])))) image-6518
-    ∷ outcome (answered (replied (numbers ((some 1) ∷ (some 666) ∷ [])))) image-6518
-    ∷ outcome (answered (replied (numbers ((some 2) ∷ (some 16391) ∷ (some 1) ∷ [])))) image-6518
-    ∷ outcome (answered (replied (numbers ((some 1) ∷ (some 7) ∷ (some 1) ∷ [])))) image-6518
-    ∷ outcome (answered (replied (numbers ((some 1) ∷ (some 7) ∷ (some 1) ∷ [])))) image-6518
-    ∷ outcome (answered (replied (numbers ((some 3) ∷ (some 16391) ∷ (some 1) ∷ [])))) image-6518
-    ∷ outcome (answered (replied (numbers ((some 0) ∷ (some 1) ∷ (some 0) ∷ (some 0) ∷ [])))) image-6518
-    ∷ outcome (answered (replied (numbers ((some 3) ∷ (some 1) ∷ (some 2) ∷ [])))) image-6518
-    ∷ outcome (answered (replied (numbers ((some 7) ∷ (some 0) ∷ (some 4) ∷ [])))) image-6518
-    ∷ outcome (answered (replied (numbers ((some 0) ∷ (some 1) ∷ (some 0) ∷ (some 0) ∷ (some 1) ∷ (some 1) ∷ (some 1) ∷ [])))) image-6518
-    ∷ outcome (answered (replied (numbers ((some 98299) ∷ [])))) image-6518
-    ∷ outcome (answered (replied (numbers ((some 32768) ∷ [])))) image-6518
-    ∷ outcome (answered (replied (numbers ((some 1) ∷ [])))) image-6518
-    ∷ outcome (answered (replied (numbers ((some 2) ∷ [])))) image-6518
-    ∷ outcome (answered (replied (numbers ((some 2) ∷ [])))) image-6518
-    ∷ outcome (answered (replied (numbers ((some 2) ∷ [])))) image-6518
-    ∷ outcome (answered (replied (numbers ((some 1) ∷ [])))) image-6518
-    ∷ outcome (answered (replied (numbers ((some 2) ∷ [])))) image-6518
-    ∷ outcome (answered (replied (numbers ((some 2) ∷ [])))) image-6518
-    ∷ outcome (answered (replied (numbers ((some 32768) ∷ [])))) image-6518
-    ∷ outcome (answered (replied (numbers ((some 32768) ∷ [])))) image-6518
-    ∷ outcome (answered (replied (numbers ((some 32763) ∷ [])))) image-6518
-    ∷ outcome (answered (replied (numbers ((some 16384) ∷ [])))) image-6518
-    ∷ outcome (answered (replied (numbers ((some 0) ∷ [])))) image-6518
-    ∷ outcome (answered (replied (numbers ((some 7) ∷ [])))) image-6518
-    ∷ outcome (answered (replied (numbers ((some 3) ∷ [])))) image-6518
-    ∷ outcome (answered (replied (numbers ((some 1) ∷ [])))) image-6518
-    ∷ outcome (answered (replied (numbers ((some 2) ∷ [])))) image-6518
-    ∷ outcome (answered (replied (numbers ((some 0) ∷ [])))) image-6518
-    ∷ outcome (answered (replied (numbers ((some 0) ∷ [])))) image-6518
-    ∷ outcome (answered (replied (numbers ((some 1) ∷ [])))) image-6518
-    ∷ outcome (answered (replied (numbers ((some 0) ∷ [])))) image-6518
-    ∷ outcome (answered (replied (numbers ((some 0) ∷ [])))) image-6518
-    ∷ outcome (answered (replied (numbers ((some 1) ∷ [])))) image-6518
-    ∷ outcome (answered (replied (numbers ((some 1) ∷ [])))) image-6518
-    ∷ outcome (answered (replied (numbers ((some 0) ∷ [])))) image-6518
-    ∷ outcome (answered (replied (numbers ((some 0) ∷ [])))) image-6518
-    ∷ outcome (answered (replied (numbers ((some 1) ∷ [])))) image-6518
-    ∷ outcome (answered (replied (numbers ((some 0) ∷ [])))) image-6518
-    ∷ outcome (answered (replied (numbers ((some 0) ∷ [])))) image-6518
-    ∷ outcome (answered (replied (numbers ((some 0) ∷ [])))) image-6518
-    ∷ outcome (answered (replied (numbers ((some 0) ∷ [])))) image-6518
-    ∷ outcome (answered (replied (numbers ((some 1) ∷ [])))) image-6518
-    ∷ outcome (answered (replied (numbers ((some 7) ∷ [])))) image-6518
-    ∷ outcome (answered (replied (numbers ((some 0) ∷ [])))) image-6518
-    ∷ outcome (answered (replied (numbers ((some 4) ∷ [])))) image-6518
-    ∷ outcome (answered (replied (numbers ((some 3) ∷ none ∷ (some 0) ∷ (some 1) ∷ [])))) image-6518
-    ∷ outcome (answered (replied (numbers ((some 1) ∷ none ∷ (some 0) ∷ (some 0) ∷ [])))) image-6518
-    ∷ outcome (answered (replied (numbers ((some 2) ∷ none ∷ (some 1) ∷ (some 0) ∷ [])))) image-6518
-    ∷ outcome (answered (replied (numbers ((some 0) ∷ (some 1) ∷ (some 0) ∷ (some 0) ∷ (some 1) ∷ (some 1) ∷ (some 1) ∷ [])))) image-6518
-    ∷ outcome (answered (replied (numbers ((some 1) ∷ (some 0) ∷ (some 0) ∷ (some 0) ∷ (some 0) ∷ (some 0) ∷ (some 0) ∷ [])))) image-6518
-    ∷ outcome (answered (replied (numbers ((some 2) ∷ (some 2) ∷ (some 0) ∷ (some 0) ∷ (some 0) ∷ (some 0) ∷ (some 0) ∷ [])))) image-6518
-    ∷ outcome (answered (replied (numbers ((some 18446744073709551615) ∷ none ∷ [])))) image-6518
-    ∷ outcome (answered (replied (numbers (none ∷ none ∷ [])))) image-6518
-    ∷ outcome (answered (replied (numbers (none ∷ none ∷ [])))) image-6518
-    ∷ outcome (answered (replied (numbers ((some 1) ∷ (some 2) ∷ (some 18446744073709551615) ∷ (some 3) ∷ (some 0) ∷ none ∷ [])))) image-6518
-    ∷ outcome (answered (replied nothing)) image-6518
-    ∷ outcome (answered (replied nothing)) image-6518
-    ∷ outcome (answered (replied (numbers ((some 2) ∷ [])))) image-6518
-    ∷ outcome (answered (replied (numbers ((some 0) ∷ [])))) image-6518
-    ∷ outcome (answered (replied (numbers ((some 1) ∷ [])))) image-6518
-    ∷ outcome (answered (replied (numbers ((some 1) ∷ [])))) image-6518
-    ∷ outcome (answered (replied (numbers ((some 4) ∷ [])))) image-6518
-    ∷ outcome (answered (replied (numbers ((some 4) ∷ [])))) image-6518
-    ∷ outcome (answered (replied (numbers ((some 0) ∷ [])))) image-6518
-    ∷ outcome (answered (replied nothing)) image-6518
-    ∷ outcome (answered (replied nothing)) image-6518
-    ∷ outcome (answered (replied (numbers ((some 1) ∷ [])))) image-6518
+    ≡ outcome stands image-6530
+    ∷ outcome (answered (replied (numbers ((some 3) ∷ [])))) image-6530
+    ∷ outcome (answered (replied (numbers ((some 16384) ∷ [])))) image-6530
+    ∷ outcome (answered (replied (numbers ((some 2) ∷ [])))) image-6530
+    ∷ outcome (answered (replied (numbers ((some 16391) ∷ [])))) image-6530
+    ∷ outcome (answered (replied (numbers ((some 0) ∷ [])))) image-6530
+    ∷ outcome (answered (replied (numbers ((some 3) ∷ [])))) image-6530
+    ∷ outcome (answered (replied (numbers ((some 1) ∷ [])))) image-6530
+    ∷ outcome (answered (replied (numbers ((some 1) ∷ [])))) image-6530
+    ∷ outcome (answered (replied (numbers ((some 0) ∷ [])))) image-6530
+    ∷ outcome (answered (replied (numbers ((some 1) ∷ [])))) image-6530
+    ∷ outcome (answered (replied (numbers ((some 0) ∷ [])))) image-6530
+    ∷ outcome (answered (replied (numbers ((some 0) ∷ [])))) image-6530
+    ∷ outcome (answered (replied (numbers ((some 1) ∷ [])))) image-6530
+    ∷ outcome (answered (replied (numbers ((some 1) ∷ [])))) image-6530
+    ∷ outcome (answered (replied (numbers ((some 1) ∷ (some 666) ∷ [])))) image-6530
+    ∷ outcome (answered (replied (numbers ((some 2) ∷ (some 16391) ∷ (some 1) ∷ [])))) image-6530
+    ∷ outcome (answered (replied (numbers ((some 1) ∷ (some 7) ∷ (some 1) ∷ [])))) image-6530
+    ∷ outcome (answered (replied (numbers ((some 1) ∷ (some 7) ∷ (some 1) ∷ [])))) image-6530
+    ∷ outcome (answered (replied (numbers ((some 3) ∷ (some 16391) ∷ (some 1) ∷ [])))) image-6530
+    ∷ outcome (answered (replied (numbers ((some 0) ∷ (some 1) ∷ (some 0) ∷ (some 0) ∷ [])))) image-6530
+    ∷ outcome (answered (replied (numbers ((some 3) ∷ (some 1) ∷ (some 2) ∷ [])))) image-6530
+    ∷ outcome (answered (replied (numbers ((some 7) ∷ (some 0) ∷ (some 4) ∷ [])))) image-6530
+    ∷ outcome (answered (replied (numbers ((some 0) ∷ (some 1) ∷ (some 0) ∷ (some 0) ∷ (some 1) ∷ (some 1) ∷ (some 1) ∷ [])))) image-6530
+    ∷ outcome (answered (replied (numbers ((some 98299) ∷ [])))) image-6530
+    ∷ outcome (answered (replied (numbers ((some 32768) ∷ [])))) image-6530
+    ∷ outcome (answered (replied (numbers ((some 1) ∷ [])))) image-6530
+    ∷ outcome (answered (replied (numbers ((some 2) ∷ [])))) image-6530
+    ∷ outcome (answered (replied (numbers ((some 2) ∷ [])))) image-6530
+    ∷ outcome (answered (replied (numbers ((some 2) ∷ [])))) image-6530
+    ∷ outcome (answered (replied (numbers ((some 1) ∷ [])))) image-6530
+    ∷ outcome (answered (replied (numbers ((some 2) ∷ [])))) image-6530
+    ∷ outcome (answered (replied (numbers ((some 2) ∷ [])))) image-6530
+    ∷ outcome (answered (replied (numbers ((some 32768) ∷ [])))) image-6530
+    ∷ outcome (answered (replied (numbers ((some 32768) ∷ [])))) image-6530
+    ∷ outcome (answered (replied (numbers ((some 32763) ∷ [])))) image-6530
+    ∷ outcome (answered (replied (numbers ((some 16384) ∷ [])))) image-6530
+    ∷ outcome (answered (replied (numbers ((some 0) ∷ [])))) image-6530
+    ∷ outcome (answered (replied (numbers ((some 7) ∷ [])))) image-6530
+    ∷ outcome (answered (replied (numbers ((some 3) ∷ [])))) image-6530
+    ∷ outcome (answered (replied (numbers ((some 1) ∷ [])))) image-6530
+    ∷ outcome (answered (replied (numbers ((some 2) ∷ [])))) image-6530
+    ∷ outcome (answered (replied (numbers ((some 0) ∷ [])))) image-6530
+    ∷ outcome (answered (replied (numbers ((some 0) ∷ [])))) image-6530
+    ∷ outcome (answered (replied (numbers ((some 1) ∷ [])))) image-6530
+    ∷ outcome (answered (replied (numbers ((some 0) ∷ [])))) image-6530
+    ∷ outcome (answered (replied (numbers ((some 0) ∷ [])))) image-6530
+    ∷ outcome (answered (replied (numbers ((some 1) ∷ [])))) image-6530
+    ∷ outcome (answered (replied (numbers ((some 1) ∷ [])))) image-6530
+    ∷ outcome (answered (replied (numbers ((some 0) ∷ [])))) image-6530
+    ∷ outcome (answered (replied (numbers ((some 0) ∷ [])))) image-6530
+    ∷ outcome (answered (replied (numbers ((some 1) ∷ [])))) image-6530
+    ∷ outcome (answered (replied (numbers ((some 0) ∷ [])))) image-6530
+    ∷ outcome (answered (replied (numbers ((some 0) ∷ [])))) image-6530
+    ∷ outcome (answered (replied (numbers ((some 0) ∷ [])))) image-6530
+    ∷ outcome (answered (replied (numbers ((some 0) ∷ [])))) image-6530
+    ∷ outcome (answered (replied (numbers ((some 1) ∷ [])))) image-6530
+    ∷ outcome (answered (replied (numbers ((some 7) ∷ [])))) image-6530
+    ∷ outcome (answered (replied (numbers ((some 0) ∷ [])))) image-6530
+    ∷ outcome (answered (replied (numbers ((some 4) ∷ [])))) image-6530
+    ∷ outcome (answered (replied (numbers ((some 3) ∷ none ∷ (some 0) ∷ (some 1) ∷ [])))) image-6530
+    ∷ outcome (answered (replied (numbers ((some 1) ∷ none ∷ (some 0) ∷ (some 0) ∷ [])))) image-6530
+    ∷ outcome (answered (replied (numbers ((some 2) ∷ none ∷ (some 1) ∷ (some 0) ∷ [])))) image-6530
+    ∷ outcome (answered (replied (numbers ((some 0) ∷ (some 1) ∷ (some 0) ∷ (some 0) ∷ (some 1) ∷ (some 1) ∷ (some 1) ∷ [])))) image-6530
+    ∷ outcome (answered (replied (numbers ((some 1) ∷ (some 0) ∷ (some 0) ∷ (some 0) ∷ (some 0) ∷ (some 0) ∷ (some 0) ∷ [])))) image-6530
+    ∷ outcome (answered (replied (numbers ((some 2) ∷ (some 2) ∷ (some 0) ∷ (some 0) ∷ (some 0) ∷ (some 0) ∷ (some 0) ∷ [])))) image-6530
+    ∷ outcome (answered (replied (numbers ((some 18446744073709551615) ∷ none ∷ [])))) image-6530
+    ∷ outcome (answered (replied (numbers (none ∷ none ∷ [])))) image-6530
+    ∷ outcome (answered (replied (numbers (none ∷ none ∷ [])))) image-6530
+    ∷ outcome (answered (replied (numbers ((some 1) ∷ (some 2) ∷ (some 18446744073709551615) ∷ (some 3) ∷ (some 0) ∷ none ∷ [])))) image-6530
+    ∷ outcome (answered (replied nothing)) image-6530
+    ∷ outcome (answered (replied nothing)) image-6530
+    ∷ outcome (answered (replied (numbers ((some 2) ∷ [])))) image-6530
+    ∷ outcome (answered (replied (numbers ((some 0) ∷ [])))) image-6530
+    ∷ outcome (answered (replied (numbers ((some 1) ∷ [])))) image-6530
+    ∷ outcome (answered (replied (numbers ((some 1) ∷ [])))) image-6530
+    ∷ outcome (answered (replied (numbers ((some 4) ∷ [])))) image-6530
+    ∷ outcome (answered (replied (numbers ((some 4) ∷ [])))) image-6530
+    ∷ outcome (answered (replied (numbers ((some 0) ∷ [])))) image-6530
+    ∷ outcome (answered (replied nothing)) image-6530
+    ∷ outcome (answered (replied nothing)) image-6530
+    ∷ outcome (answered (replied (numbers ((some 1) ∷ [])))) image-6530
     ∷ []
 unfolding replaying
-calls-6518 = refl
+calls-6530 = refl
 
--- call 6671
-calls-6671 :
-    outcomes none
-    (new-line 66 98304 32768
-    ∷ [])
-    ≡ outcome (notDone ShortMemory) []
-    ∷ []
-unfolding replaying
-calls-6671 = refl
-
-abbrev image-6673 : List ℕ
-image-6673 =
+abbrev image-6685 : List ℕ
+image-6685 =
     1 ∷ 0 ∷ 0 ∷ 0 ∷ 0 ∷ 0 ∷ 1 ∷ 128 ∷ 0 ∷ 0 ∷ 0 ∷ 128 ∷ 0 ∷ 0 ∷ 0 ∷ 0 ∷ 0 ∷ 0 ∷ 0 ∷ 0 ∷ 0 ∷ 0 ∷ 3 ∷ 1 ∷
     2 ∷ 0 ∷ 0 ∷ 4 ∷ 4 ∷ 0 ∷ 0 ∷ 0 ∷ 0 ∷ 0 ∷
     2 ∷ 0 ∷ 0 ∷ 4 ∷ 4 ∷ 0 ∷ 0 ∷ 0 ∷ 0 ∷ 0 ∷
     2 ∷ 0 ∷ 0 ∷ 4 ∷ 4 ∷ 0 ∷ 0 ∷ 0 ∷ 0 ∷ 0 ∷ []
 
-abbrev image-6693 : List ℕ
-image-6693 =
+abbrev image-6705 : List ℕ
+image-6705 =
     1 ∷ 0 ∷ 0 ∷ 0 ∷ 0 ∷ 0 ∷ 1 ∷ 128 ∷ 0 ∷ 0 ∷ 0 ∷ 128 ∷ 0 ∷ 0 ∷ 0 ∷ 0 ∷ 0 ∷ 0 ∷ 0 ∷ 0 ∷ 0 ∷ 0 ∷ 3 ∷ 1 ∷
     2 ∷ 0 ∷ 0 ∷ 4 ∷ 4 ∷ 0 ∷ 0 ∷ 0 ∷ 0 ∷ 0 ∷
     2 ∷ 0 ∷ 0 ∷ 4 ∷ 4 ∷ 0 ∷ 0 ∷ 0 ∷ 0 ∷ 0 ∷
     2 ∷ 0 ∷ 1 ∷ 4 ∷ 4 ∷ 0 ∷ 0 ∷ 0 ∷ 0 ∷ 0 ∷ []
 
--- calls 6673 to 6704
-calls-6673 :
+-- calls 6685 to 6716
+calls-6685 :
     outcomes none
     (new-line 67 98304 32768
     ∷ call-line 15 (question (ofPicker num-pieces))
@@ -1016,41 +1016,41 @@ calls-6673 :
     ∷ call-line 1000000 (question (ofPiece blocks-in-piece 3))
     ∷ call-line 1000000 (question (list-place 99))
     ∷ [])
-    ≡ outcome stands image-6673
-    ∷ outcome (answered (refused ShortMemory)) image-6673
-    ∷ outcome (answered (refused ShortMemory)) image-6673
-    ∷ outcome (answered (refused ShortMemory)) image-6673
-    ∷ outcome (answered (replied (numbers ((some 3) ∷ [])))) image-6673
-    ∷ outcome (notDone ShortMemory) image-6673
-    ∷ outcome (answered (replied (numbers ((some 3) ∷ [])))) image-6673
-    ∷ outcome (answered (refused ShortMemory)) image-6673
-    ∷ outcome (answered (replied (numbers ((some 4) ∷ (some 4) ∷ (some 4) ∷ [])))) image-6673
-    ∷ outcome (answered (refused ShortMemory)) image-6673
-    ∷ outcome (answered (replied (numbers []))) image-6673
-    ∷ outcome (answered (refused ShortMemory)) image-6673
-    ∷ outcome (answered (refused OutOfRange)) image-6673
-    ∷ outcome (answered (replied nothing)) image-6673
-    ∷ outcome (notDone ShortMemory) image-6673
-    ∷ outcome (bytesTaken (1 ∷ 0 ∷ 0 ∷ 0 ∷ 0 ∷ 0 ∷ 1 ∷ 128 ∷ 0 ∷ 0 ∷ 0 ∷ 128 ∷ 0 ∷ 0 ∷ 0 ∷ 0 ∷ 0 ∷ 0 ∷ 0 ∷ 0 ∷ 0 ∷ 0 ∷ 3 ∷ 1 ∷ 2 ∷ 0 ∷ 0 ∷ 4 ∷ 4 ∷ 0 ∷ 0 ∷ 0 ∷ 0 ∷ 0 ∷ 2 ∷ 0 ∷ 0 ∷ 4 ∷ 4 ∷ 0 ∷ 0 ∷ 0 ∷ 0 ∷ 0 ∷ 2 ∷ 0 ∷ 0 ∷ 4 ∷ 4 ∷ 0 ∷ 0 ∷ 0 ∷ 0 ∷ 0 ∷ [])) image-6673
-    ∷ outcome (answered (refused FewDraws)) image-6673
-    ∷ outcome (answered (refused OutOfRange)) image-6673
-    ∷ outcome (answered (refused OutOfRange)) image-6673
-    ∷ outcome (answered (done 0)) image-6693
-    ∷ outcome (answered (refused OutOfRange)) image-6693
-    ∷ outcome (answered (refused OutOfRange)) image-6693
-    ∷ outcome (answered (refused OutOfRange)) image-6693
-    ∷ outcome (answered (refused OutOfRange)) image-6693
-    ∷ outcome (answered (refused OutOfRange)) image-6693
-    ∷ outcome (answered (refused OutOfRange)) image-6693
-    ∷ outcome (answered (refused OutOfRange)) image-6693
-    ∷ outcome (answered (refused OutOfRange)) image-6693
-    ∷ outcome (answered (replied staleList)) image-6693
+    ≡ outcome stands image-6685
+    ∷ outcome (answered (refused ShortMemory)) image-6685
+    ∷ outcome (answered (refused ShortMemory)) image-6685
+    ∷ outcome (answered (refused ShortMemory)) image-6685
+    ∷ outcome (answered (replied (numbers ((some 3) ∷ [])))) image-6685
+    ∷ outcome (notDone ShortMemory) image-6685
+    ∷ outcome (answered (replied (numbers ((some 3) ∷ [])))) image-6685
+    ∷ outcome (answered (refused ShortMemory)) image-6685
+    ∷ outcome (answered (replied (numbers ((some 4) ∷ (some 4) ∷ (some 4) ∷ [])))) image-6685
+    ∷ outcome (answered (refused ShortMemory)) image-6685
+    ∷ outcome (answered (replied (numbers []))) image-6685
+    ∷ outcome (answered (refused ShortMemory)) image-6685
+    ∷ outcome (answered (refused OutOfRange)) image-6685
+    ∷ outcome (answered (replied nothing)) image-6685
+    ∷ outcome (notDone ShortMemory) image-6685
+    ∷ outcome (bytesTaken (1 ∷ 0 ∷ 0 ∷ 0 ∷ 0 ∷ 0 ∷ 1 ∷ 128 ∷ 0 ∷ 0 ∷ 0 ∷ 128 ∷ 0 ∷ 0 ∷ 0 ∷ 0 ∷ 0 ∷ 0 ∷ 0 ∷ 0 ∷ 0 ∷ 0 ∷ 3 ∷ 1 ∷ 2 ∷ 0 ∷ 0 ∷ 4 ∷ 4 ∷ 0 ∷ 0 ∷ 0 ∷ 0 ∷ 0 ∷ 2 ∷ 0 ∷ 0 ∷ 4 ∷ 4 ∷ 0 ∷ 0 ∷ 0 ∷ 0 ∷ 0 ∷ 2 ∷ 0 ∷ 0 ∷ 4 ∷ 4 ∷ 0 ∷ 0 ∷ 0 ∷ 0 ∷ 0 ∷ [])) image-6685
+    ∷ outcome (answered (refused FewDraws)) image-6685
+    ∷ outcome (answered (refused OutOfRange)) image-6685
+    ∷ outcome (answered (refused OutOfRange)) image-6685
+    ∷ outcome (answered (done 0)) image-6705
+    ∷ outcome (answered (refused OutOfRange)) image-6705
+    ∷ outcome (answered (refused OutOfRange)) image-6705
+    ∷ outcome (answered (refused OutOfRange)) image-6705
+    ∷ outcome (answered (refused OutOfRange)) image-6705
+    ∷ outcome (answered (refused OutOfRange)) image-6705
+    ∷ outcome (answered (refused OutOfRange)) image-6705
+    ∷ outcome (answered (refused OutOfRange)) image-6705
+    ∷ outcome (answered (refused OutOfRange)) image-6705
+    ∷ outcome (answered (replied staleList)) image-6705
     ∷ []
 unfolding replaying
-calls-6673 = refl
+calls-6685 = refl
 
-abbrev image-6713 : List ℕ
-image-6713 =
+abbrev image-6725 : List ℕ
+image-6725 =
     1 ∷ 0 ∷ 0 ∷ 0 ∷ 0 ∷ 0 ∷ 1 ∷ 128 ∷ 0 ∷ 0 ∷ 0 ∷ 128 ∷ 0 ∷ 0 ∷ 0 ∷ 0 ∷ 0 ∷ 0 ∷ 0 ∷ 0 ∷ 0 ∷ 0 ∷ 3 ∷ 1 ∷
     2 ∷ 3 ∷ 232 ∷ 0 ∷ 4 ∷ 0 ∷ 0 ∷ 0 ∷ 0 ∷ 0 ∷
     2 ∷ 0 ∷ 0 ∷ 4 ∷ 4 ∷ 0 ∷ 0 ∷ 0 ∷ 0 ∷ 0 ∷
@@ -1059,50 +1059,50 @@ image-6713 =
     4 ∷ 1 ∷ 3 ∷ 232 ∷ 1 ∷ 0 ∷ 0 ∷ 0 ∷ 0 ∷ 0 ∷ 0 ∷ 0 ∷ 4 ∷
     4 ∷ 0 ∷ 3 ∷ 232 ∷ 0 ∷ 0 ∷ 0 ∷ 0 ∷ 0 ∷ 0 ∷ 0 ∷ 0 ∷ 0 ∷ []
 
--- calls 6713 to 6715
-calls-6713 :
+-- calls 6725 to 6727
+calls-6725 :
     outcomes none
-    (read-line 1000000 image-6713
+    (read-line 1000000 image-6725
     ∷ call-line 1000000 (inc-refcount 0 (words 4352 []))
     ∷ call-line 1000000 inc-refcount-all
     ∷ [])
-    ≡ outcome stands image-6713
-    ∷ outcome (answered (refused TooManyPeers)) image-6713
-    ∷ outcome (answered (refused TooManyPeers)) image-6713
+    ≡ outcome stands image-6725
+    ∷ outcome (answered (refused TooManyPeers)) image-6725
+    ∷ outcome (answered (refused TooManyPeers)) image-6725
     ∷ []
 unfolding replaying
-calls-6713 = refl
+calls-6725 = refl
 
-abbrev image-6858 : List ℕ
-image-6858 =
+abbrev image-6870 : List ℕ
+image-6870 =
     1 ∷ 0 ∷ 0 ∷ 0 ∷ 0 ∷ 0 ∷ 0 ∷ 0 ∷ 3 ∷ 0 ∷ 0 ∷ 0 ∷ 1 ∷ 0 ∷ 0 ∷ 0 ∷ 0 ∷ 0 ∷ 0 ∷ 0 ∷ 0 ∷ 0 ∷ 3 ∷ 1 ∷
     2 ∷ 0 ∷ 0 ∷ 4 ∷ 4 ∷ 0 ∷ 0 ∷ 0 ∷ 0 ∷ 0 ∷
     2 ∷ 0 ∷ 0 ∷ 4 ∷ 4 ∷ 0 ∷ 0 ∷ 0 ∷ 0 ∷ 0 ∷
     2 ∷ 0 ∷ 0 ∷ 4 ∷ 4 ∷ 0 ∷ 0 ∷ 0 ∷ 0 ∷ 0 ∷ []
 
-abbrev image-6863 : List ℕ
-image-6863 =
+abbrev image-6875 : List ℕ
+image-6875 =
     1 ∷ 0 ∷ 0 ∷ 0 ∷ 0 ∷ 0 ∷ 0 ∷ 0 ∷ 3 ∷ 0 ∷ 0 ∷ 0 ∷ 1 ∷ 0 ∷ 0 ∷ 0 ∷ 0 ∷ 0 ∷ 0 ∷ 0 ∷ 0 ∷ 0 ∷ 3 ∷ 1 ∷
     2 ∷ 0 ∷ 1 ∷ 4 ∷ 4 ∷ 0 ∷ 0 ∷ 0 ∷ 0 ∷ 0 ∷
     2 ∷ 0 ∷ 0 ∷ 4 ∷ 4 ∷ 0 ∷ 0 ∷ 0 ∷ 0 ∷ 0 ∷
     2 ∷ 0 ∷ 0 ∷ 4 ∷ 4 ∷ 0 ∷ 0 ∷ 0 ∷ 0 ∷ 0 ∷ []
 
-abbrev image-6864 : List ℕ
-image-6864 =
+abbrev image-6876 : List ℕ
+image-6876 =
     1 ∷ 0 ∷ 0 ∷ 0 ∷ 0 ∷ 0 ∷ 0 ∷ 0 ∷ 3 ∷ 0 ∷ 0 ∷ 0 ∷ 1 ∷ 0 ∷ 0 ∷ 0 ∷ 0 ∷ 0 ∷ 0 ∷ 0 ∷ 0 ∷ 0 ∷ 3 ∷ 1 ∷
     2 ∷ 0 ∷ 1 ∷ 4 ∷ 4 ∷ 0 ∷ 0 ∷ 0 ∷ 0 ∷ 0 ∷
     2 ∷ 0 ∷ 1 ∷ 4 ∷ 4 ∷ 0 ∷ 0 ∷ 0 ∷ 0 ∷ 0 ∷
     2 ∷ 0 ∷ 0 ∷ 4 ∷ 4 ∷ 0 ∷ 0 ∷ 0 ∷ 0 ∷ 0 ∷ []
 
-abbrev image-6866 : List ℕ
-image-6866 =
+abbrev image-6878 : List ℕ
+image-6878 =
     1 ∷ 0 ∷ 0 ∷ 0 ∷ 0 ∷ 0 ∷ 0 ∷ 0 ∷ 3 ∷ 0 ∷ 0 ∷ 0 ∷ 1 ∷ 0 ∷ 0 ∷ 0 ∷ 0 ∷ 0 ∷ 0 ∷ 0 ∷ 0 ∷ 0 ∷ 3 ∷ 1 ∷
     2 ∷ 0 ∷ 1 ∷ 4 ∷ 4 ∷ 0 ∷ 0 ∷ 0 ∷ 0 ∷ 0 ∷
     2 ∷ 0 ∷ 1 ∷ 4 ∷ 4 ∷ 0 ∷ 0 ∷ 0 ∷ 0 ∷ 0 ∷
     2 ∷ 0 ∷ 1 ∷ 4 ∷ 4 ∷ 0 ∷ 0 ∷ 0 ∷ 0 ∷ 0 ∷ []
 
-abbrev image-6870 : List ℕ
-image-6870 =
+abbrev image-6882 : List ℕ
+image-6882 =
     1 ∷ 0 ∷ 0 ∷ 0 ∷ 0 ∷ 0 ∷ 0 ∷ 0 ∷ 3 ∷ 0 ∷ 0 ∷ 0 ∷ 1 ∷ 0 ∷ 0 ∷ 0 ∷ 0 ∷ 0 ∷ 0 ∷ 0 ∷ 0 ∷ 0 ∷ 3 ∷ 1 ∷
     2 ∷ 0 ∷ 1 ∷ 6 ∷ 4 ∷ 0 ∷ 0 ∷ 0 ∷ 0 ∷ 0 ∷
     2 ∷ 0 ∷ 1 ∷ 4 ∷ 4 ∷ 0 ∷ 0 ∷ 0 ∷ 0 ∷ 0 ∷
@@ -1111,8 +1111,8 @@ image-6870 =
     4 ∷ 1 ∷ 0 ∷ 1 ∷ 1 ∷ 255 ∷ 255 ∷ 255 ∷ 255 ∷ 255 ∷ 255 ∷ 255 ∷ 255 ∷
     5 ∷ 0 ∷ 0 ∷ 0 ∷ 0 ∷ []
 
-abbrev image-6871 : List ℕ
-image-6871 =
+abbrev image-6883 : List ℕ
+image-6883 =
     1 ∷ 0 ∷ 0 ∷ 0 ∷ 0 ∷ 0 ∷ 0 ∷ 0 ∷ 3 ∷ 0 ∷ 0 ∷ 0 ∷ 1 ∷ 0 ∷ 0 ∷ 0 ∷ 0 ∷ 0 ∷ 0 ∷ 0 ∷ 0 ∷ 0 ∷ 3 ∷ 1 ∷
     2 ∷ 0 ∷ 1 ∷ 6 ∷ 4 ∷ 0 ∷ 0 ∷ 0 ∷ 0 ∷ 0 ∷
     2 ∷ 0 ∷ 1 ∷ 4 ∷ 4 ∷ 0 ∷ 0 ∷ 0 ∷ 0 ∷ 0 ∷
@@ -1121,8 +1121,8 @@ image-6871 =
     4 ∷ 1 ∷ 0 ∷ 1 ∷ 1 ∷ 0 ∷ 0 ∷ 0 ∷ 0 ∷ 0 ∷ 0 ∷ 0 ∷ 0 ∷
     5 ∷ 0 ∷ 0 ∷ 0 ∷ 0 ∷ []
 
--- calls 6858 to 6872
-calls-6858 :
+-- calls 6870 to 6884
+calls-6870 :
     outcomes none
     (new-line 9223372036854775807 3 1
     ∷ read-line 1000000 (171 ∷ 205 ∷ [])
@@ -1138,25 +1138,25 @@ calls-6858 :
     ∷ call-line 1000000 (mark-as-canceled 0 0 (some 0) (words 4352 []))
     ∷ call-line 1000000 (question (listOfPicker get-availability-vec 0))
     ∷ [])
-    ≡ outcome stands image-6858
-    ∷ outcome (notDone (IllFormedImage 0)) image-6858
-    ∷ outcome (notDone (IllFormedImage 0)) image-6858
-    ∷ outcome (answered (refused ShortMemory)) image-6858
-    ∷ outcome (answered (replied (numbers ((some 3) ∷ [])))) image-6858
-    ∷ outcome (answered (done 0)) image-6863
-    ∷ outcome (answered (done 0)) image-6864
-    ∷ outcome (answered (refused FewDraws)) image-6864
-    ∷ outcome (answered (done 0)) image-6866
-    ∷ outcome (answered (picked ((pieceBlock 2 0) ∷ []) 1024 (0 ∷ 0 ∷ 0 ∷ 0 ∷ 0 ∷ 0 ∷ 0 ∷ []) 1)) image-6866
-    ∷ outcome (answered (said true 0)) image-6870
-    ∷ outcome (answered (done 0)) image-6871
-    ∷ outcome (answered (refused ShortMemory)) image-6871
+    ≡ outcome stands image-6870
+    ∷ outcome (notDone (IllFormedImage 0)) image-6870
+    ∷ outcome (notDone (IllFormedImage 0)) image-6870
+    ∷ outcome (answered (refused ShortMemory)) image-6870
+    ∷ outcome (answered (replied (numbers ((some 3) ∷ [])))) image-6870
+    ∷ outcome (answered (done 0)) image-6875
+    ∷ outcome (answered (done 0)) image-6876
+    ∷ outcome (answered (refused FewDraws)) image-6876
+    ∷ outcome (answered (done 0)) image-6878
+    ∷ outcome (answered (picked ((pieceBlock 2 0) ∷ []) 1024 (0 ∷ 0 ∷ 0 ∷ 0 ∷ 0 ∷ 0 ∷ 0 ∷ []) 1)) image-6878
+    ∷ outcome (answered (said true 0)) image-6882
+    ∷ outcome (answered (done 0)) image-6883
+    ∷ outcome (answered (refused ShortMemory)) image-6883
     ∷ []
 unfolding replaying
-calls-6858 = refl
+calls-6870 = refl
 
-abbrev image-7695 : List ℕ
-image-7695 =
+abbrev image-7707 : List ℕ
+image-7707 =
     1 ∷ 0 ∷ 0 ∷ 0 ∷ 0 ∷ 0 ∷ 0 ∷ 0 ∷ 28 ∷ 0 ∷ 0 ∷ 0 ∷ 5 ∷ 0 ∷ 0 ∷ 0 ∷ 0 ∷ 0 ∷ 4 ∷ 0 ∷ 0 ∷ 0 ∷ 6 ∷ 1 ∷
     2 ∷ 0 ∷ 3 ∷ 1 ∷ 7 ∷ 0 ∷ 0 ∷ 0 ∷ 0 ∷ 5 ∷
     2 ∷ 3 ∷ 232 ∷ 6 ∷ 7 ∷ 0 ∷ 0 ∷ 0 ∷ 0 ∷ 0 ∷
@@ -1178,8 +1178,8 @@ image-7695 =
     4 ∷ 0 ∷ 3 ∷ 232 ∷ 1 ∷ 0 ∷ 0 ∷ 0 ∷ 0 ∷ 0 ∷ 0 ∷ 0 ∷ 2 ∷
     5 ∷ 0 ∷ 0 ∷ 0 ∷ 0 ∷ []
 
-abbrev image-7696 : List ℕ
-image-7696 =
+abbrev image-7708 : List ℕ
+image-7708 =
     1 ∷ 0 ∷ 0 ∷ 0 ∷ 0 ∷ 0 ∷ 0 ∷ 0 ∷ 28 ∷ 0 ∷ 0 ∷ 0 ∷ 5 ∷ 0 ∷ 0 ∷ 0 ∷ 0 ∷ 0 ∷ 4 ∷ 0 ∷ 0 ∷ 0 ∷ 6 ∷ 0 ∷
     2 ∷ 0 ∷ 3 ∷ 1 ∷ 7 ∷ 0 ∷ 0 ∷ 0 ∷ 0 ∷ 5 ∷
     2 ∷ 3 ∷ 232 ∷ 6 ∷ 7 ∷ 0 ∷ 0 ∷ 0 ∷ 0 ∷ 0 ∷
@@ -1202,32 +1202,32 @@ image-7696 =
     5 ∷ 0 ∷ 0 ∷ 0 ∷ 0 ∷
     6 ∷ 0 ∷ 0 ∷ 0 ∷ 1 ∷ []
 
--- calls 7695 to 7697
-calls-7695 :
+-- calls 7707 to 7709
+calls-7707 :
     outcomes none
-    (read-line 1000000 image-7695
+    (read-line 1000000 image-7707
     ∷ call-line 1000000 (pick-pieces (asking 18 2 3 10 (some 3) 6 (75 ∷ []) []) 4351 (words 4352 (3 ∷ [])))
     ∷ call-line 1000000 (pick-pieces (asking 193 11 0 0 (some 3) 6 (255 ∷ []) (1 ∷ [])) 4351 (words 4352 (3097071445 ∷ 1949205856 ∷ 3284149954 ∷ [])))
     ∷ [])
-    ≡ outcome stands image-7695
-    ∷ outcome (answered (picked [] 14416 (0 ∷ 0 ∷ 1 ∷ 0 ∷ 0 ∷ 0 ∷ 1 ∷ []) 1)) image-7696
-    ∷ outcome (answered (picked ((pieceBlock 0 0) ∷ []) 106541 (1 ∷ 1 ∷ 0 ∷ 1 ∷ 0 ∷ 0 ∷ 2 ∷ []) 3)) image-7696
+    ≡ outcome stands image-7707
+    ∷ outcome (answered (picked [] 14416 (0 ∷ 0 ∷ 1 ∷ 0 ∷ 0 ∷ 0 ∷ 1 ∷ []) 1)) image-7708
+    ∷ outcome (answered (picked ((pieceBlock 0 0) ∷ []) 106541 (1 ∷ 1 ∷ 0 ∷ 1 ∷ 0 ∷ 0 ∷ 2 ∷ []) 3)) image-7708
     ∷ []
 unfolding replaying
-calls-7695 = refl
+calls-7707 = refl
 
--- call 8119
-calls-8119 :
+-- call 8131
+calls-8131 :
     outcomes none
     (read-line 1000000 (1 ∷ 0 ∷ 0 ∷ 0 ∷ 0 ∷ 0 ∷ 0 ∷ 128 ∷ 0 ∷ 0 ∷ 0 ∷ 64 ∷ 0 ∷ 1 ∷ 46 ∷ 0 ∷ 0 ∷ 0 ∷ 0 ∷ 0 ∷ 0 ∷ 0 ∷ 1 ∷ 1 ∷ 2 ∷ 0 ∷ 3 ∷ 6 ∷ 1 ∷ 0 ∷ 0 ∷ 0 ∷ 32 ∷ 215 ∷ 2 ∷ 2 ∷ 186 ∷ 1 ∷ 4 ∷ 0 ∷ 0 ∷ 0 ∷ 64 ∷ 0 ∷ 3 ∷ 0 ∷ 0 ∷ 0 ∷ 0 ∷ 6 ∷ 4 ∷ 1 ∷ 0 ∷ 1 ∷ 0 ∷ 0 ∷ 0 ∷ 0 ∷ 0 ∷ [])
     ∷ [])
     ≡ outcome (notDone (IllFormedImage 50)) []
     ∷ []
 unfolding replaying
-calls-8119 = refl
+calls-8131 = refl
 
-abbrev image-8237 : List ℕ
-image-8237 =
+abbrev image-8249 : List ℕ
+image-8249 =
     1 ∷ 0 ∷ 0 ∷ 0 ∷ 0 ∷ 0 ∷ 0 ∷ 2 ∷ 1 ∷ 0 ∷ 0 ∷ 0 ∷ 1 ∷ 0 ∷ 1 ∷ 0 ∷ 0 ∷ 0 ∷ 8 ∷ 0 ∷ 0 ∷ 1 ∷ 183 ∷ 0 ∷
     2 ∷ 0 ∷ 1 ∷ 1 ∷ 4 ∷ 0 ∷ 0 ∷ 0 ∷ 0 ∷ 1 ∷
     2 ∷ 0 ∷ 1 ∷ 3 ∷ 0 ∷ 0 ∷ 0 ∷ 0 ∷ 0 ∷ 1 ∷
@@ -2930,18 +2930,18 @@ image-8237 =
     6 ∷ 0 ∷ 0 ∷ 0 ∷ 108 ∷
     6 ∷ 0 ∷ 0 ∷ 0 ∷ 175 ∷ []
 
--- calls 8237 to 8240
-calls-8237 :
+-- calls 8249 to 8252
+calls-8249 :
     outcomes none
-    (read-line 1000000 image-8237
+    (read-line 1000000 image-8249
     ∷ call-line 1000000 (mark-as-downloading 512 0 none 0 (words 4352 []))
     ∷ call-line 1000000 (mark-as-writing 512 0 (some 1) (words 4352 []))
     ∷ call-line 1000000 (mark-as-finished 512 0 (some 1) (words 4352 []))
     ∷ [])
-    ≡ outcome stands image-8237
-    ∷ outcome (answered (refused TooManyPartials)) image-8237
-    ∷ outcome (answered (refused TooManyPartials)) image-8237
-    ∷ outcome (answered (refused TooManyPartials)) image-8237
+    ≡ outcome stands image-8249
+    ∷ outcome (answered (refused TooManyPartials)) image-8249
+    ∷ outcome (answered (refused TooManyPartials)) image-8249
+    ∷ outcome (answered (refused TooManyPartials)) image-8249
     ∷ []
 unfolding replaying
-calls-8237 = refl
+calls-8249 = refl
