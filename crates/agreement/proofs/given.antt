@@ -1,3 +1,4 @@
+pub mod AddLaws
 pub mod EachLaws
 pub mod LikeLaws
 pub mod SpanPieces
