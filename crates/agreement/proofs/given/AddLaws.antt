@@ -1,6 +1,6 @@
 -- What a piece adds: where each block of a free Open piece, and each free block of a free partial, is fine, so is all that is given and
 -- set aside. Assumes nothing.
-use mathlib.Core.Path.{_≡_, refl, sym, _∙_}
+use mathlib.Core.Path.{_≡_, sym, subst, _∙_}
 use Prim.Native.Nat.{ℕ, suc, _+_, _-_, _%_, _≤_, _<_}
 use native.Mathlib.Nat.{mod-lt}
 use native.Mathlib.Omega.{arith}
@@ -12,7 +12,7 @@ use Rattle.types.specs.declared.queue.DownloadQueue.the-variants.{Downloading}
 use Rattle.types.specs.declared.block.BlockState.the-variants.{None}
 use Rattle.types.specs.Queue.{unreverse}
 use Rattle.model.specs.Lists.{least, from, each, filter, len, when, branch, walk, forEach}
-use Rattle.model.specs.State.{DownloadingPiece, Picker, sameQueue, isOpen, sameBlockState, pieceAt, blocksInPiece, payloadBlocksInPiece}
+use Rattle.model.specs.State.{Piece, DownloadingPiece, Picker, sameQueue, isOpen, sameBlockState, pieceAt, blocksInPiece, payloadBlocksInPiece}
 use Rattle.model.specs.State.{blocksPerPiece}
 use Rattle.model.specs.Options.{onParole, prioritizePartials, randomPieces, randLoops}
 use Rattle.model.specs.change.Partials.{partialOf, blockAt}
@@ -181,3 +181,38 @@ module _ (s : Picker) (a : PickRequest) (Ok : PieceBlock → Type 0) (ok : Allow
       let held = requestedFrom (a .peer) d in
       when-keeps (Clean s Ok) (hasBit a (d .piece) && (not (d .locked) && (not (option onParole a) || held .exclusive))) (useFree d held) w h
       (λ e. clean-use d u e held w h)
+
+  -- ---- a piece
+  module _ (named : (i : ℕ) (d : DownloadingPiece) → partialOf s i ≡ some d → d .piece ≡ i) where
+    clean-partial : (i : ℕ) (o : Option DownloadingPiece) (w : PickState) → partialOf s i ≡ o → isPieceFree a s i ≡ true
+        → sameQueue (unreverse (pieceAt s i .state)) Downloading ≡ true → Clean s Ok w → Clean s Ok (addPartialOf a o w)
+    unfolding addPartialOf
+    clean-partial i none w e f q h = h
+    clean-partial i (some d) w e f q h =
+        let n = named i d e in
+        clean-downloading d w (record {
+          partial = subst (λ (k : ℕ). partialOf s k ≡ some d) (sym n) e;
+          free = subst (λ (k : ℕ). isPieceFree a s k ≡ true) (sym n) f;
+          state = subst (λ (k : ℕ). sameQueue (unreverse (pieceAt s k .state)) Downloading ≡ true) (sym n) q;
+        }) h
+
+    clean-standing : (i : ℕ) (w : PickState) → isPieceFree a s i ≡ true → sameQueue (unreverse (pieceAt s i .state)) Downloading ≡ true
+        → Clean s Ok w → Clean s Ok (addStanding a i w)
+    unfolding addStanding
+    clean-standing i w f q h =
+        unless-keeps (Clean s Ok) (option prioritizePartials a) (addPartialOf a (partialOf (w .picker) i)) w h
+        (λ e. clean-partial i (partialOf (w .picker) i) w (sym (like-partial s (w .picker) (h .like) i)) f q h)
+
+    -- what a free piece adds
+    pub clean-blocks : (i : ℕ) (w : PickState) → isPieceFree a s i ≡ true → Clean s Ok w → Clean s Ok (addBlocks a i w)
+    unfolding addBlocks canPick
+    clean-blocks i w f h =
+        let p = pieceAt (w .picker) i in
+        let same : p ≡ pieceAt s i = like-piece s (w .picker) (h .like) i in
+        let g = when (sameQueue (unreverse (p .state)) Downloading) (addStanding a i) in
+        unless-keeps (Clean s Ok) (isIgnored i w) (branch (isOpen (p .state)) (keepingContiguous (addNewPiece a i)) g) w h
+        (λ e. branch-arms (Clean s Ok) (isOpen (p .state)) (keepingContiguous (addNewPiece a i)) g w
+        (λ o. clean-kept (addNewPiece a i) w
+        (clean-new i w (true-both (isPieceFree a s i) (isOpen (pieceAt s i .state)) f (subst (λ (x : Piece). isOpen (x .state) ≡ true) same o)) h))
+        (λ o. when-keeps (Clean s Ok) (sameQueue (unreverse (p .state)) Downloading) (addStanding a i) w h
+        (λ q. clean-standing i w f (subst (λ (x : Piece). sameQueue (unreverse (x .state)) Downloading ≡ true) same q) h)))
