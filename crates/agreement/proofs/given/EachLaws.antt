@@ -53,6 +53,12 @@ module _ {A : Type 0} {P : A → Type 0} where
   each-nth e (x ∷ xs) zero l h = first-has h
   each-nth e (x ∷ xs) (suc k) l h = each-nth e xs k (omega arith) (others-have h)
 
+  -- and the other way
+  pub each-places : (e : A) (xs : List A) → ((k : ℕ) → k < len xs → P (nth e xs k)) → Each P xs
+  unfolding nth len
+  each-places e [] f = none-left
+  each-places e (x ∷ xs) f = and-then (f 0 (omega arith)) (each-places e xs (λ k l. f (suc k) (omega arith)))
+
   -- put in by a test, and sorted
   pub each-insert : (before : A → A → Bool) (y : A) (xs : List A) → P y → Each P xs → Each P (insertBy before y xs)
   unfolding insertBy

@@ -5,6 +5,7 @@ use mathlib.Core.Bool.{Bool, true, false, cond, not, _&&_, _||_}
 use mathlib.Core.List.{List, [], _∷_}
 use mathlib.Core.Option.{Option, none, some}
 use lib.Dec.{eqb, ltb}
+use borrow.Author.Tests.{not-false}
 use Rattle.types.specs.declared.queue.DownloadQueue.{DownloadQueue}
 use Rattle.types.specs.declared.queue.DownloadQueue.the-variants.{Downloading}
 use Rattle.types.specs.Queue.{unreverse}
@@ -199,10 +200,6 @@ module _ (s : Picker) (a : PickRequest) (Ok : PieceBlock → Type 0) (ok : Allow
       (true-both (isPieceFree a s i) (isOpen (pieceAt s i .state)) f
       (subst (λ (p : Piece). isOpen (p .state) ≡ true) (like-piece s (w .picker) (h .like) i) (and-right (contiguousAbove 1 (w .contiguous)) t e))) h)
       (λ e. clean-blocks s a Ok ok named i (flagged randomPieces w) f (clean-flag s Ok w h randomPieces))
-
-  not-false : (b : Bool) → not b ≡ false → b ≡ true
-  not-false true e = refl
-  not-false false e = sym e
 
   -- where a lap does not end the piece may be visited
   open-free : (x : RandomWalk) → Clean s Ok (x .work) → lapEnds a x ≡ false → isPieceFree a s (x .place) ≡ true
