@@ -1,5 +1,6 @@
 -- A predicate that each element of a list has, and the lists that keep it. Assumes nothing.
-use mathlib.Core.Path.{_≡_, refl, sym, ap, _∙_}
+use mathlib.Core.Path.{_≡_, refl, subst}
+use mathlib.Core.Logic.{_⊎_, inl, inr}
 use Prim.Native.Nat.{ℕ, zero, suc, _+_, _-_, _≤_, _<_}
 use native.Mathlib.Omega.{arith}
 use mathlib.Core.Bool.{Bool, true, false, cond}
@@ -106,6 +107,24 @@ each-from k (suc n) =
 pub each-range : (k end : ℕ) → Each (λ i. (k ≤ i) × (i < end)) (range k end)
 unfolding range
 each-range k end = each-so (λ i h. let l = h .0 in let m = h .1 in (l, omega arith)) (from k (end - k)) (each-from k (end - k))
+
+-- ---- an element wherever it stands
+module _ {A : Type 0} {P : A → Type 0} where
+  -- between others
+  pub each-between : (before : List A) (x : A) (after : List A) → Each P (before ++ (x ∷ after)) → P x
+  each-between [] x after h = first-has h
+  each-between (y ∷ before) x after h = each-between before x after (others-have h)
+
+-- it is the last one, or one of those before
+pub last-or-before : {A : Type 0} {P : A → Type 0} (front : List A) (z : A) (before : List A) (x : A) (after : List A)
+    → front ++ (z ∷ []) ≡ before ++ (x ∷ after) → Each P front → ((x ≡ z) × (after ≡ [])) ⊎ P x
+last-or-before [] z [] x after e h = let p : x ≡ z = cc in let q : after ≡ [] = cc in inl (p, q)
+last-or-before [] z (y ∷ []) x after e h = let c : _≡_ {A = ℕ} 0 1 = cc in absurd (omega arith)
+last-or-before [] z (y ∷ y₂ ∷ before) x after e h = let c : _≡_ {A = ℕ} 0 1 = cc in absurd (omega arith)
+last-or-before {A} {P} (y ∷ front) z [] x after e h = let p : y ≡ x = cc in inr (subst P p (first-has h))
+last-or-before (y ∷ front) z (y₂ ∷ before) x after e h =
+    let t : front ++ (z ∷ []) ≡ before ++ (x ∷ after) = cc in
+    last-or-before front z before x after t (others-have h)
 
 -- ---- walks whose steps are made at elements that have it
 module _ {A S : Type 0} {P : A → Type 0} (I : S → Type 0) (step : A → S → S) (keeps : (x : A) (t : S) → P x → I t → I (step x t)) where
