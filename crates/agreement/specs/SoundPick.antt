@@ -26,7 +26,7 @@ pub record InWantedPiece (s : Picker) (request : PickRequest) (b : PieceBlock) :
 
 -- why it is given, where the blocks of `after` are given after it
 pub data Why (s : Picker) (request : PickRequest) (b : PieceBlock) (after : List PieceBlock) : Type 0 where
-  -- its piece is Open, and no block of it was asked for. It may be one of pad bytes alone: the random walk takes those of a run too
+  -- its piece is Open: no partial stands for it, and each of its blocks is free. In the random walk a run takes those of pad bytes, too
   FreeOfOpen : (state : pieceAt s (b .piece) .state ≡ Open) → Why s request b after
   -- its piece is Downloading, plain or reverse, and not locked; the block is free; on parole no other peer has a block of the piece
   FreeOfPartial :
