@@ -14,7 +14,7 @@ from typing import NamedTuple
 
 from compare import lists, small_picks
 from compare.lists import peer_word
-from compare.states import a_picker, small_geometry, wide_geometry
+from compare.states import a_picker, an_order, small_geometry, wide_geometry
 from reference.blocks import Ask, requested_from
 from reference.calls import Refused, bits_of, check_pick
 from reference.geometry import blocks_in_piece, payload_blocks_in_piece
@@ -23,11 +23,11 @@ from reference.options import FLAG_END_GAME, ON_PAROLE, PIECE_EXTENT_AFFINITY, P
 from reference.partials import find, progress, queue
 from reference.pick_pieces import pick_pieces
 from reference.script import call_of
-from reference.state import DOWNLOADING, FULL, NONE, OPEN, REQUESTED, TOP
+from reference.state import DOWNLOADING, FULL, MAX_COUNT, NONE, OPEN, REQUESTED, TOP
 
 CASES = ("free of open", "free of partial", "end game")
 SEEN = ("pad blocks", "blocks given twice")
-SHARE = 1000  # of so many picks, each case and each reason is met at least once, a reason where no other holds
+SHARE = 250  # in so many picks each case and each reason is met at least once, a reason where no other holds
 
 
 class Pick(NamedTuple):
@@ -42,12 +42,29 @@ class Broken(Exception):
 
 
 # ---- picks
-def a_sequential_pick(rng):
-    """All wanted in order: pieces of wish 7 then stand behind others in the list, or between the cursors."""
+def changed(line, **fields):
+    """The line of a pick with other arguments."""
+    places = {"options": 1, "wanted": 2, "run": 3, "peers": 4, "peer": 5, "bits": 6, "bytes": 7, "suggestions": 8}
+    words = line.split(" ")
+    for name, value in fields.items():
+        words[places[name]] = str(value)
+    return " ".join(words)
+
+
+def a_sequential_picker(rng):
+    """Most of the torrent between the cursors; pieces of wish 7 with many peers, so that they stand behind others in the list."""
     s = a_picker(rng, *small_geometry(rng))
-    words = lists.pick_line(rng, s).split(" ")
-    words[1:3] = str(SEQUENTIAL | rng.choice([0, 0, PIECE_EXTENT_AFFINITY, PRIORITIZE_PARTIALS, ON_PAROLE])), "300"
-    return Pick(s, " ".join(words[:9]) + lists.some_draws(rng))
+    peers = lambda p: p._replace(count=rng.choice([p.count, min(9, MAX_COUNT - s.seeds)])) if p.wish == TOP else p
+    ends = {"cursor": min(s.cursor, 1), "reverse_cursor": max(s.reverse_cursor, len(s.pieces) - 1)}
+    s = s._replace(pieces=tuple(peers(p) for p in s.pieces), **ends)
+    return s if s.stale else s._replace(order=an_order(rng, s))
+
+
+def a_sequential_pick(rng):
+    """As many blocks in order as there are."""
+    s = a_sequential_picker(rng)
+    options = SEQUENTIAL | rng.choice([0, 0, PIECE_EXTENT_AFFINITY, PRIORITIZE_PARTIALS, ON_PAROLE])
+    return Pick(s, changed(lists.pick_line(rng, s), options=options, wanted=300) + lists.some_draws(rng))
 
 
 def a_pick(rng):
@@ -216,14 +233,6 @@ def simpler_states(s):
     yield s._replace(pieces=tuple(p._replace(count=min(p.count, 1)) for p in s.pieces))
 
 
-def changed(line, **fields):
-    places = {"options": 1, "wanted": 2, "run": 3, "peers": 4, "peer": 5, "bits": 6, "bytes": 7, "suggestions": 8}
-    words = line.split(" ")
-    for name, value in fields.items():
-        words[places[name]] = str(value)
-    return " ".join(words)
-
-
 def simpler_lines(line):
     """The pick with an argument less: the draws, the suggestions, the run, the peer, or an option."""
     words = line.split(" ")
@@ -262,8 +271,8 @@ def report(figures):
 
 
 def too_seldom(figures):
-    least = figures["picks"] // SHARE
-    return [name for name in (*CASES, *SEEN, *(f"only for {name}" for name in REASONS)) if figures[name] < max(1, least)]
+    names = (*CASES, *SEEN, *(f"only for {name}" for name in REASONS))
+    return [name for name in names if figures[name] < figures["picks"] // SHARE]
 
 
 def run(picks, seed):

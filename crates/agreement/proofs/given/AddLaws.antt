@@ -1,31 +1,31 @@
 -- What a piece adds: where each block of a free Open piece, and each free block of a free partial, is fine, so is all that is given and
 -- set aside. Assumes nothing.
 use mathlib.Core.Path.{_≡_, sym, subst, _∙_}
-use Prim.Native.Nat.{ℕ, suc, _+_, _-_, _%_, _≤_, _<_}
+use Prim.Native.Nat.{ℕ, _+_, _%_, _≤_, _<_}
 use native.Mathlib.Nat.{mod-lt}
 use native.Mathlib.Omega.{arith}
-use mathlib.Core.Bool.{Bool, true, false, cond, not, _&&_, _||_}
-use mathlib.Core.List.{List, [], _∷_, _++_}
+use mathlib.Core.Bool.{true, cond, not, _&&_, _||_}
+use mathlib.Core.List.{List, [], _∷_}
 use mathlib.Core.Option.{Option, none, some}
 use lib.ListN.{take}
 use Rattle.types.specs.declared.queue.DownloadQueue.the-variants.{Downloading}
 use Rattle.types.specs.declared.block.BlockState.the-variants.{None}
 use Rattle.types.specs.Queue.{unreverse}
-use Rattle.model.specs.Lists.{least, from, each, filter, len, when, branch, walk, forEach}
-use Rattle.model.specs.State.{Piece, DownloadingPiece, Picker, sameQueue, isOpen, sameBlockState, pieceAt, blocksInPiece, payloadBlocksInPiece}
-use Rattle.model.specs.State.{blocksPerPiece}
+use Rattle.model.specs.Lists.{least, from, each, len, when, branch, walk, forEach}
+use Rattle.model.specs.State.{Piece, DownloadingPiece, Picker, sameQueue, isOpen, sameBlockState, pieceAt, blocksInPiece}
+use Rattle.model.specs.State.{payloadBlocksInPiece, blocksPerPiece}
 use Rattle.model.specs.Options.{onParole, prioritizePartials, randomPieces, randLoops}
 use Rattle.model.specs.change.Partials.{partialOf, blockAt}
 use Rattle.model.specs.pick.Blocks.{PickRequest, option, hasBit, Contiguous, PieceBlock, PickState, withOut, withContiguous, withBackup}
 use Rattle.model.specs.pick.Blocks.{ignore, flagged, steps, withPicker, isIgnored, contiguousIsZero, contiguousAbove, shorter, wholePieces}
 use Rattle.model.specs.pick.Blocks.{isPieceFree, canPick, expandPiece, piecesOf, pieceBlock, took, contiguousMet, contiguousOver, spanStep}
 use Rattle.model.specs.pick.Blocks.{takeSpan, takePayload, addNewPiece, RequestedFrom, requestedFrom, freeFrom, enoughAside, putAside}
-use Rattle.model.specs.pick.Blocks.{setAside, freeHalt, takeFree, keepingContiguous, useFree, addBlocksDownloading, addPartialOf, addStanding}
-use Rattle.model.specs.pick.Blocks.{addBlocks, appendBlocks}
+use Rattle.model.specs.pick.Blocks.{setAside, freeHalt, takeFree, keepingContiguous, useFree, addBlocksDownloading, addPartialOf}
+use Rattle.model.specs.pick.Blocks.{addStanding, addBlocks, appendBlocks}
 use Rattle.model.specs.pick.Pick.{randStep, takeAll}
 use Rattle.model.proofs.base.WalkLaws.{unless-keeps, when-keeps}
 use Rattle.model.proofs.base.Phases.{branch-arms}
-use Rattle.model.proofs.base.Truths.{and-left, and-right, true-both}
+use Rattle.model.proofs.base.Truths.{true-both}
 use Rattle.model.proofs.pick.SpanLaws.{least-left}
 use Rattle.agreement.proofs.given.EachLaws.{Each, none-left, and-then, each-append, each-take, each-filter, each-image, each-so}
 use Rattle.agreement.proofs.given.EachLaws.{each-from, walk-each, forEach-each}
@@ -77,19 +77,32 @@ module _ (s : Picker) (Ok : PieceBlock → Type 0) (w : PickState) (h : Clean s 
   -- a block given
   pub clean-took : (i j : ℕ) → Ok (pieceBlock i j) → Clean s Ok (took i j w)
   unfolding took withOut
-  clean-took i j o = record { like = h .like; out = each-append (w .out) (pieceBlock i j ∷ []) (h .out) (and-then o none-left); backup = h .backup }
+  clean-took i j o = record {
+    like = h .like;
+    out = each-append (w .out) (pieceBlock i j ∷ []) (h .out) (and-then o none-left);
+    backup = h .backup;
+  }
 
   -- a block set aside
   pub clean-aside : (i j : ℕ) → Ok (pieceBlock i j) → Clean s Ok (putAside i j w)
   unfolding putAside withBackup
-  clean-aside i j o = record { like = h .like; out = h .out; backup = each-append (w .backup) (pieceBlock i j ∷ []) (h .backup) (and-then o none-left) }
+  clean-aside i j o = record {
+    like = h .like;
+    out = h .out;
+    backup = each-append (w .backup) (pieceBlock i j ∷ []) (h .backup)
+        (and-then o none-left);
+  }
 
   -- those set aside, given
   pub clean-append : Clean s Ok (appendBlocks w)
   unfolding appendBlocks withBackup withOut
   clean-append =
       let n = least (len (w .backup)) (w .left) in
-      record { like = h .like; out = each-append (w .out) (take n (w .backup)) (h .out) (each-take n (w .backup) (h .backup)); backup = none-left }
+      record {
+        like = h .like;
+        out = each-append (w .out) (take n (w .backup)) (h .out) (each-take n (w .backup) (h .backup));
+        backup = none-left;
+      }
 
 module _ (s : Picker) (a : PickRequest) (Ok : PieceBlock → Type 0) (ok : Allows s a Ok) where
   -- ---- Open pieces
@@ -100,7 +113,8 @@ module _ (s : Picker) (a : PickRequest) (Ok : PieceBlock → Type 0) (ok : Allow
   clean-payload : (i : ℕ) (w : PickState) → canPick a s i ≡ true → Clean s Ok w → Clean s Ok (takePayload i w)
   unfolding takePayload walk
   clean-payload i w c h =
-      walk-each (Clean s Ok) (took i) (λ j t o g. clean-took s Ok t g i j o) (λ j t. contiguousMet (took i j t)) (from 0 (payloadBlocksInPiece (w .picker) i)) w
+      walk-each (Clean s Ok) (took i) (λ j t o g. clean-took s Ok t g i j o) (λ j t. contiguousMet (took i j t))
+      (from 0 (payloadBlocksInPiece (w .picker) i)) w
       (blocks-ok i (payloadBlocksInPiece (w .picker) i) c (like-payload s (w .picker) (h .like) i)) h
 
   clean-all : (i : ℕ) (w : PickState) → canPick a s i ≡ true → Clean s Ok w → Clean s Ok (takeAll i w)
@@ -108,10 +122,12 @@ module _ (s : Picker) (a : PickRequest) (Ok : PieceBlock → Type 0) (ok : Allow
   clean-all i w c h =
       walk-each (Clean s Ok) (randStep i) (λ j t o g. clean-took s Ok (steps 1 randLoops t) (clean-steps s Ok t g 1 randLoops) i j o)
       (λ j t. contiguousOver (randStep i j t)) (from 0 (blocksInPiece (w .picker) i)) (flagged randomPieces w)
-      (blocks-ok i (blocksInPiece (w .picker) i) c (omega (arith, like-blocks s (w .picker) (h .like) i))) (clean-flag s Ok w h randomPieces)
+      (blocks-ok i (blocksInPiece (w .picker) i) c (omega (arith, like-blocks s (w .picker) (h .like) i)))
+      (clean-flag s Ok w h randomPieces)
 
   -- a span
-  clean-pieces : (takes : ℕ → PickState → PickState) → ((i : ℕ) (w : PickState) → canPick a s i ≡ true → Clean s Ok w → Clean s Ok (takes i w))
+  clean-pieces : (takes : ℕ → PickState → PickState)
+      → ((i : ℕ) (w : PickState) → canPick a s i ≡ true → Clean s Ok w → Clean s Ok (takes i w))
       → (is : List ℕ) (w : PickState) → Each (λ i. canPick a s i ≡ true) is → Clean s Ok w → Clean s Ok (takeSpan takes is w)
   unfolding takeSpan spanStep
   clean-pieces takes f is w c h =
@@ -129,16 +145,23 @@ module _ (s : Picker) (a : PickRequest) (Ok : PieceBlock → Type 0) (ok : Allow
       (span-each a q i (wholePieces (blocksPerPiece q) (w .contiguous)) (like-can s q (h .like) a i ∙ c))
 
   -- its blocks in the random walk
-  pub clean-span : (i : ℕ) (w : PickState) → canPick a s i ≡ true → Clean s Ok w → Clean s Ok (takeSpan takeAll (piecesOf (expandPiece a i w)) w)
+  pub clean-span : (i : ℕ) (w : PickState) → canPick a s i ≡ true → Clean s Ok w
+      → Clean s Ok (takeSpan takeAll (piecesOf (expandPiece a i w)) w)
   clean-span i w c h = clean-pieces takeAll clean-all (piecesOf (expandPiece a i w)) w (span-ok i w c h) h
 
   clean-new : (i : ℕ) (w : PickState) → canPick a s i ≡ true → Clean s Ok w → Clean s Ok (addNewPiece a i w)
   unfolding addNewPiece
   clean-new i w c h =
       let n = least (payloadBlocksInPiece (w .picker) i) (w .left) in
-      branch-arms (Clean s Ok) (contiguousIsZero (w .contiguous)) (forEach (took i) (from 0 n)) (takeSpan takePayload (piecesOf (expandPiece a i w))) w
+      branch-arms (Clean s Ok) (contiguousIsZero (w .contiguous)) (forEach (took i) (from 0 n))
+      (takeSpan takePayload (piecesOf (expandPiece a i w))) w
       (λ e. forEach-each (Clean s Ok) (took i) (λ j t o g. clean-took s Ok t g i j o) (from 0 n) w
-      (blocks-ok i n c (omega (arith, least-left (payloadBlocksInPiece (w .picker) i) (w .left), like-payload s (w .picker) (h .like) i))) h)
+      (blocks-ok i n c (omega (
+        arith,
+        least-left (payloadBlocksInPiece (w .picker) i) (w .left),
+        like-payload s (w .picker) (h .like)
+            i,
+      ))) h)
       (λ e. clean-pieces takePayload clean-payload (piecesOf (expandPiece a i w)) w (span-ok i w c h) h)
 
   clean-kept : (f : PickState → PickState) (w : PickState) → Clean s Ok (f w) → Clean s Ok (keepingContiguous f w)
@@ -159,19 +182,22 @@ module _ (s : Picker) (a : PickRequest) (Ok : PieceBlock → Type 0) (ok : Allow
     clean-free : (first : ℕ) (w : PickState) → Clean s Ok w → Clean s Ok (takeFree d first w)
     unfolding takeFree
     clean-free first w h =
-        walk-each (Clean s Ok) (took (d .piece)) (λ j t o g. clean-took s Ok t g (d .piece) j o) (freeHalt (d .piece)) (freeFrom d first) w (free-ok first) h
+        walk-each (Clean s Ok) (took (d .piece)) (λ j t o g. clean-took s Ok t g (d .piece) j o) (freeHalt (d .piece))
+        (freeFrom d first) w (free-ok first) h
 
     clean-set : (first : ℕ) (w : PickState) → Clean s Ok w → Clean s Ok (setAside d first w)
     unfolding setAside
     clean-set first w h =
         unless-keeps (Clean s Ok) (enoughAside w) (forEach (putAside (d .piece)) (freeFrom d first)) w h
-        (λ e. forEach-each (Clean s Ok) (putAside (d .piece)) (λ j t o g. clean-aside s Ok t g (d .piece) j o) (freeFrom d first) w (free-ok first) h)
+        (λ e. forEach-each (Clean s Ok) (putAside (d .piece)) (λ j t o g. clean-aside s Ok t g (d .piece) j o) (freeFrom d first) w
+        (free-ok first) h)
 
     clean-use : (held : RequestedFrom) (w : PickState) → Clean s Ok w → Clean s Ok (useFree d held w)
     unfolding useFree
     clean-use held w h =
         let first = cond (contiguousIsZero (w .contiguous)) 0 (held .first) in
-        branch-arms (Clean s Ok) (contiguousAbove (held .longest) (w .contiguous) && held .active) (setAside d first) (keepingContiguous (takeFree d first)) w
+        branch-arms (Clean s Ok) (contiguousAbove (held .longest) (w .contiguous) && held .active) (setAside d first)
+        (keepingContiguous (takeFree d first)) w
         (λ e. clean-set first w h) (λ e. clean-kept (takeFree d first) w (clean-free first w h))
 
   -- what a partial adds
@@ -179,7 +205,8 @@ module _ (s : Picker) (a : PickRequest) (Ok : PieceBlock → Type 0) (ok : Allow
   unfolding addBlocksDownloading
   clean-downloading d w u h =
       let held = requestedFrom (a .peer) d in
-      when-keeps (Clean s Ok) (hasBit a (d .piece) && (not (d .locked) && (not (option onParole a) || held .exclusive))) (useFree d held) w h
+      when-keeps (Clean s Ok) (hasBit a (d .piece) && (not (d .locked) && (not (option onParole a) || held .exclusive)))
+      (useFree d held) w h
       (λ e. clean-use d u e held w h)
 
   -- ---- a piece
@@ -213,6 +240,7 @@ module _ (s : Picker) (a : PickRequest) (Ok : PieceBlock → Type 0) (ok : Allow
         unless-keeps (Clean s Ok) (isIgnored i w) (branch (isOpen (p .state)) (keepingContiguous (addNewPiece a i)) g) w h
         (λ e. branch-arms (Clean s Ok) (isOpen (p .state)) (keepingContiguous (addNewPiece a i)) g w
         (λ o. clean-kept (addNewPiece a i) w
-        (clean-new i w (true-both (isPieceFree a s i) (isOpen (pieceAt s i .state)) f (subst (λ (x : Piece). isOpen (x .state) ≡ true) same o)) h))
+        (clean-new i w (true-both (isPieceFree a s i) (isOpen (pieceAt s i .state)) f
+        (subst (λ (x : Piece). isOpen (x .state) ≡ true) same o)) h))
         (λ o. when-keeps (Clean s Ok) (sameQueue (unreverse (p .state)) Downloading) (addStanding a i) w h
         (λ q. clean-standing i w f (subst (λ (x : Piece). sameQueue (unreverse (x .state)) Downloading ≡ true) same q) h)))

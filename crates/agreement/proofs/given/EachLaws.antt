@@ -5,7 +5,7 @@ use Prim.Native.Nat.{ℕ, zero, suc, _+_, _-_, _≤_, _<_}
 use native.Mathlib.Omega.{arith}
 use mathlib.Core.Bool.{Bool, true, false, cond}
 use mathlib.Core.List.{List, [], _∷_, _++_}
-use lib.ListN.{length, getD, set, take}
+use lib.ListN.{take}
 use Rattle.model.specs.Lists.{from, range, filter, each, nth, setNth, len, lastOr, forEach, walkUntil, insertBy, sortBy}
 use Rattle.model.proofs.base.WalkLaws.{walkUntil-ends, forEach-ends}
 
@@ -72,7 +72,8 @@ module _ {A : Type 0} {P : A → Type 0} where
 
   pub each-sort : (before : A → A → Bool) (xs : List A) → Each P xs → Each P (sortBy before xs)
   unfolding sortBy
-  each-sort before xs h = forEach-ends (λ ys zs. Each P ys × Each P zs) (insertBy before) (λ x ys zs g. (others-have (g .0), each-insert before x zs (first-has (g .0)) (g .1))) xs [] (h, none-left) .1
+  each-sort before xs h = forEach-ends (λ ys zs. Each P ys × Each P zs) (insertBy before)
+      (λ x ys zs g. (others-have (g .0), each-insert before x zs (first-has (g .0)) (g .1))) xs [] (h, none-left) .1
 
 -- those that pass a test: they pass it
 pub each-filter : {A : Type 0} {P : A → Type 0} (t : A → Bool) (xs : List A) → Each P xs → Each (λ x. P x × (t x ≡ true)) (filter t xs)
@@ -80,12 +81,14 @@ unfolding filter
 each-filter t [] h = none-left
 each-filter {A} {P} t (x ∷ xs) h = go (t x) refl (each-filter t xs (others-have h))
   where
-    go : (b : Bool) → t x ≡ b → Each (λ y. P y × (t y ≡ true)) (filter t xs) → Each (λ y. P y × (t y ≡ true)) (cond b (x ∷ filter t xs) (filter t xs))
+    go : (b : Bool) → t x ≡ b → Each (λ y. P y × (t y ≡ true)) (filter t xs)
+        → Each (λ y. P y × (t y ≡ true)) (cond b (x ∷ filter t xs) (filter t xs))
     go true e g = and-then (first-has h, e) g
     go false e g = g
 
 -- what a function gives
-pub each-image : {A B : Type 0} {P : A → Type 0} {Q : B → Type 0} (f : A → B) → ((x : A) → P x → Q (f x)) → (xs : List A) → Each P xs → Each Q (each f xs)
+pub each-image : {A B : Type 0} {P : A → Type 0} {Q : B → Type 0} (f : A → B) → ((x : A) → P x → Q (f x)) → (xs : List A) → Each P xs
+    → Each Q (each f xs)
 unfolding each
 each-image f g [] h = none-left
 each-image f g (x ∷ xs) h = and-then (g x (first-has h)) (each-image f g xs (others-have h))

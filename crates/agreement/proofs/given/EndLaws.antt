@@ -3,29 +3,28 @@
 use mathlib.Core.Path.{_≡_, refl, sym, subst}
 use Prim.Native.Nat.{ℕ, zero, suc, _-_, _<_}
 use native.Mathlib.Omega.{arith}
-use mathlib.Core.Bool.{Bool, true, false, not, _&&_, _||_, true≢false}
+use mathlib.Core.Bool.{true, false, not, _&&_, _||_, true≢false}
 use mathlib.Core.List.{List, [], _∷_, _++_}
 use mathlib.Core.Option.{some}
 use lib.Dec.{eqb}
-use lib.ListN.{take}
 use borrow.Author.Tests.{eqb-false}
 use Rattle.types.specs.declared.queue.DownloadQueue.the-variants.{Full}
 use Rattle.types.specs.declared.block.BlockState.the-variants.{Requested}
 use Rattle.types.specs.Queue.{unreverse}
 use Rattle.model.specs.Lists.{from, filter, nth, setNth, len, lastOr}
 use Rattle.model.specs.State.{Piece, DownloadingPiece, Picker, sameQueue, sameBlockState, samePeer, pieceAt}
-use Rattle.model.specs.Options.{onParole, backup1, endGame, busyLoops}
+use Rattle.model.specs.Options.{onParole, backup1, busyLoops}
 use Rattle.model.specs.list.Order.{draw}
 use Rattle.model.specs.change.Partials.{partialOf, blockAt, inQueue}
 use Rattle.model.specs.pick.Blocks.{PickRequest, option, hasBit, PieceBlock, PickState, startState, spent, withOut, withPicker, flagged}
 use Rattle.model.specs.pick.Blocks.{steps, pieceBlock, appendBlocks}
-use Rattle.model.specs.pick.Pick.{effectiveRequest, startPick, pickPartials, pickSuggested, busyBlocks, maxEndGamePieces, fullPartials, EndGame}
+use Rattle.model.specs.pick.Pick.{effectiveRequest, startPick, busyBlocks, maxEndGamePieces, fullPartials, EndGame}
 use Rattle.model.specs.pick.Pick.{noPartial, swapRemove, endGameTry, endGameStep, endGameDone, pickEndGame, pickRest, phases, pickPieces}
 use Rattle.model.proofs.base.WalkLaws.{unless-keeps, repeat-keeps}
 use Rattle.model.proofs.base.Truths.{or-no-left, or-no-right}
 use Rattle.model.proofs.list.GroupMoves.{draw-le}
 use Rattle.model.proofs.pick.PhaseLaws.{phases-ends, startPick-keeps}
-use Rattle.agreement.proofs.given.EachLaws.{Each, none-left, and-then, each-take, each-set, each-last, each-nth, each-filter, each-so}
+use Rattle.agreement.proofs.given.EachLaws.{Each, none-left, each-take, each-set, each-last, each-nth, each-filter, each-so}
 use Rattle.agreement.proofs.given.EachLaws.{each-from}
 use Rattle.agreement.proofs.given.LikeLaws.{like-self, like-piece}
 use Rattle.agreement.proofs.given.AddLaws.{Allows, Clean, clean-flag, clean-steps, clean-picker, clean-append}
@@ -41,14 +40,16 @@ pub record Busy (s : Picker) (a : PickRequest) (d : DownloadingPiece) : Type 0 w
 pub record AllowsLast (s : Picker) (a : PickRequest) (Last : PieceBlock → Type 0) : Type 0 where
   pub ofFull :
       (d : DownloadingPiece) (j : ℕ) → Busy s a d → option onParole a ≡ false → j < len (d .blocks)
-      → (sameBlockState (blockAt d j .state) Requested && not (samePeer (blockAt d j .peer) (a .peer))) ≡ true → Last (pieceBlock (d .piece) j)
+      → (sameBlockState (blockAt d j .state) Requested && not (samePeer (blockAt d j .peer) (a .peer))) ≡ true
+      → Last (pieceBlock (d .piece) j)
 
 -- what is given: fine, but for the last one where the end game gave it
 pub data Ends (Ok Last : PieceBlock → Type 0) (blocks : List PieceBlock) : Type 0 where
   all-fine : Each Ok blocks → Ends Ok Last blocks
   one-more : (front : List PieceBlock) (b : PieceBlock) → Each Ok front → Last b → blocks ≡ front ++ (b ∷ []) → Ends Ok Last blocks
 
-module _ (s : Picker) (a : PickRequest) (Ok Last : PieceBlock → Type 0) (last : AllowsLast s a Last) (parole : option onParole a ≡ false) where
+module _ (s : Picker) (a : PickRequest) (Ok Last : PieceBlock → Type 0) (last : AllowsLast s a Last)
+    (parole : option onParole a ≡ false) where
   -- the end game: until a block is found all is fine
   Trying : EndGame → Type 0
   Trying x = (x .found ≡ false → Clean s Ok (x .work)) × Ends Ok Last (x .work .out) × Each (Busy s a) (x .pieces)
@@ -58,7 +59,8 @@ module _ (s : Picker) (a : PickRequest) (Ok Last : PieceBlock → Type 0) (last 
   busy-ok d u =
       let n = len (d .blocks) in
       each-so (λ j h. let l = h .0 .1 in last .ofFull d j u parole (omega arith) (h .1)) _
-      (each-filter (λ j. sameBlockState (blockAt d j .state) Requested && not (samePeer (blockAt d j .peer) (a .peer))) (from 0 n) (each-from 0 n))
+      (each-filter (λ j. sameBlockState (blockAt d j .state) Requested && not (samePeer (blockAt d j .peer) (a .peer))) (from 0 n)
+      (each-from 0 n))
 
   swap-each : (k : ℕ) (ds : List DownloadingPiece) → 0 < len ds → Each (Busy s a) ds → Each (Busy s a) (swapRemove k ds)
   unfolding swapRemove
@@ -73,7 +75,8 @@ module _ (s : Picker) (a : PickRequest) (Ok Last : PieceBlock → Type 0) (last 
       let n = draw ds (x .work .used) (len js) in
       let chosen = nth 0 (j ∷ js) n in (
         (λ e. absurd (true≢false e)),
-        one-more (x .work .out) (pieceBlock (d .piece) chosen) (h .out) (each-nth 0 (j ∷ js) n (omega (arith, draw-le ds (x .work .used) (len js))) o) refl,
+        one-more (x .work .out) (pieceBlock (d .piece) chosen) (h .out)
+            (each-nth 0 (j ∷ js) n (omega (arith, draw-le ds (x .work .used) (len js))) o) refl,
         u,
       )
 
@@ -96,18 +99,21 @@ module _ (s : Picker) (a : PickRequest) (Ok Last : PieceBlock → Type 0) (last 
       positive zero z = absurd (z refl)
       positive (suc n) z = omega arith
 
-  full-busy : (found : Each (λ d. partialOf s (d .piece) ≡ some d) (s .partials)) (w : PickState) → Clean s Ok w → Each (Busy s a) (fullPartials a (w .picker))
+  full-busy : (found : Each (λ d. partialOf s (d .piece) ≡ some d) (s .partials)) (w : PickState) → Clean s Ok w
+      → Each (Busy s a) (fullPartials a (w .picker))
   unfolding fullPartials inQueue
   full-busy found w h =
       let q = w .picker in
-      let ds : Each (λ d. partialOf s (d .piece) ≡ some d) (q .partials) = subst (Each (λ d. partialOf s (d .piece) ≡ some d)) (sym (h .like .partials)) found in
+      let ds : Each (λ d. partialOf s (d .piece) ≡ some d) (q .partials) = subst (Each (λ d. partialOf s (d .piece) ≡ some d))
+      (sym (h .like .partials)) found in
       each-take maxEndGamePieces (filter (λ d. hasBit a (d .piece)) (inQueue Full q))
       (each-so (λ d g. record {
         partial = g .0 .0;
         has = g .1;
         state = subst (λ (x : Piece). sameQueue (unreverse (x .state)) Full ≡ true) (like-piece s q (h .like) (d .piece)) (g .0 .1);
       }) _
-      (each-filter (λ d. hasBit a (d .piece)) (inQueue Full q) (each-filter (λ d. sameQueue (unreverse (pieceAt q (d .piece) .state)) Full) (q .partials) ds)))
+      (each-filter (λ d. hasBit a (d .piece)) (inQueue Full q)
+      (each-filter (λ d. sameQueue (unreverse (pieceAt q (d .piece) .state)) Full) (q .partials) ds)))
 
   pub pickEndGame-ends : (found : Each (λ d. partialOf s (d .piece) ≡ some d) (s .partials)) (ds : List ℕ) (w : PickState) → Clean s Ok w
       → Ends Ok Last (pickEndGame ds a w .out)
@@ -136,7 +142,8 @@ module _ (s : Picker) (a : PickRequest) (Ok Last : PieceBlock → Type 0) (ok : 
       (λ v g. all-fine (g .out)) (λ v e g. rest-ends ds v g) w (pickPartials-clean s a Ok ok named found w h)
 
 -- a pick on s, by what is asked after the forcing rule
-pub pick-given : (s : Picker) (a : PickRequest) (Ok Last : PieceBlock → Type 0) → Allows s (effectiveRequest s a) Ok → AllowsLast s (effectiveRequest s a) Last
+pub pick-given : (s : Picker) (a : PickRequest) (Ok Last : PieceBlock → Type 0) → Allows s (effectiveRequest s a) Ok
+    → AllowsLast s (effectiveRequest s a) Last
     → ((i : ℕ) (d : DownloadingPiece) → partialOf s i ≡ some d → d .piece ≡ i) → Each (λ d. partialOf s (d .piece) ≡ some d) (s .partials)
     → (ds : List ℕ) → Ends Ok Last (pickPieces ds s a .out)
 unfolding pickPieces startState

@@ -1,6 +1,6 @@
 -- Pickers that differ in list and extents alone: all that a pick asks of a piece is the same. Assumes nothing.
 use mathlib.Core.Path.{_≡_, refl, ap, _∙_}
-use Prim.Native.Nat.{ℕ, _-_, _≤_}
+use Prim.Native.Nat.{ℕ, _≤_}
 use native.Mathlib.Omega.{arith}
 use mathlib.Core.List.{List}
 use Rattle.model.specs.Lists.{nth}
@@ -8,7 +8,7 @@ use Rattle.model.specs.State.{Picker, Piece, noPiece, withRecentExtents, pieceA
 use Rattle.model.specs.list.Order.{drawing, updatePieces}
 use Rattle.model.specs.change.Partials.{partialOf, findDlPiece}
 use Rattle.model.specs.pick.Blocks.{PickRequest, isPieceFree, canPick}
-use Rattle.model.proofs.list.ListingLaws.{OnlyListing, updatePieces-only}
+use Rattle.model.proofs.list.ListingLaws.{updatePieces-only}
 
 -- q is s but for list, extents, seeds and cursors
 pub record Like (s q : Picker) : Type 0 where

@@ -1,21 +1,20 @@
 -- The phases of a pick up to the backup blocks give and set aside only what may be given. Assumes nothing.
-use mathlib.Core.Path.{_≡_, refl, sym, subst, ap, _∙_}
+use mathlib.Core.Path.{_≡_, sym, subst, _∙_}
 use Prim.Native.Nat.{ℕ, suc, _-_}
-use mathlib.Core.Bool.{Bool, true, false, cond, not, _&&_, _||_}
-use mathlib.Core.List.{List, [], _∷_}
+use mathlib.Core.Bool.{true, false, not, _&&_, _||_}
+use mathlib.Core.List.{List}
 use mathlib.Core.Option.{Option, none, some}
-use lib.Dec.{eqb, ltb}
+use lib.Dec.{eqb}
 use borrow.Author.Tests.{not-false}
-use Rattle.types.specs.declared.queue.DownloadQueue.{DownloadQueue}
 use Rattle.types.specs.declared.queue.DownloadQueue.the-variants.{Downloading}
 use Rattle.types.specs.Queue.{unreverse}
-use Rattle.model.specs.Lists.{from, range, rangeDown, filter, nth, len, removeNth, reversed, unless, when, walk, sortBy}
+use Rattle.model.specs.Lists.{from, range, rangeDown, filter, nth, len, removeNth, reversed, when, walk, sortBy}
 use Rattle.model.specs.State.{Piece, DownloadingPiece, Picker, sameQueue, isOpen, listOf, pieceAt, piecesIn, extentStart, extentEnd}
-use Rattle.model.specs.Options.{reverse, onParole, prioritizePartials, sequential, rarestFirst, pieceExtentAffinity, partialRatio}
-use Rattle.model.specs.Options.{preferContiguous, prioritizedPartials, rarestFirstPartials, rarestFirstPieces, reverseRarestFirst}
-use Rattle.model.specs.Options.{suggestedPieces, prioSequentialPieces, sequentialPieces, randomPieces, reverseSequential, backup1}
+use Rattle.model.specs.Options.{reverse, prioritizePartials, sequential, rarestFirst, pieceExtentAffinity}
+use Rattle.model.specs.Options.{prioritizedPartials, rarestFirstPartials, rarestFirstPieces, reverseRarestFirst}
+use Rattle.model.specs.Options.{suggestedPieces, prioSequentialPieces, sequentialPieces, randomPieces, reverseSequential}
 use Rattle.model.specs.Options.{extentAffinity, partialLoops, suggestLoops, reverseRareLoops, rareLoops, randStartLoops}
-use Rattle.model.specs.list.Order.{drawing, draw, updatePieces}
+use Rattle.model.specs.list.Order.{draw}
 use Rattle.model.specs.change.Partials.{partialOf, inQueue}
 use Rattle.model.specs.pick.Blocks.{PickRequest, option, PieceBlock, PickState, spent, withPicker, ignore, flagged, steps, contiguousAbove}
 use Rattle.model.specs.pick.Blocks.{isPieceFree, canPick, addBlocks, appendBlocks, enoughAside, isIgnored}
@@ -30,7 +29,7 @@ use Rattle.model.proofs.base.Phases.{branch-arms, cond-arms}
 use Rattle.model.proofs.base.Truths.{and-left, and-right, or-no-left, true-both}
 use Rattle.model.proofs.pick.ScanLaws.{scan-work, scan-partials}
 use Rattle.agreement.proofs.given.EachLaws.{Each, each-filter, each-so, each-sort, walk-each}
-use Rattle.agreement.proofs.given.LikeLaws.{Like, like-piece, like-free, like-updated, like-extents}
+use Rattle.agreement.proofs.given.LikeLaws.{like-piece, like-free, like-updated, like-extents}
 use Rattle.agreement.proofs.given.AddLaws.{Usable, Allows, Clean, clean-flag, clean-steps, clean-ignore, clean-picker, clean-append}
 use Rattle.agreement.proofs.given.AddLaws.{clean-downloading, clean-blocks, clean-span}
 
@@ -44,14 +43,16 @@ module _ (s : Picker) (a : PickRequest) (Ok : PieceBlock → Type 0) (ok : Allow
   scanned-usable w h =
       let q = w .picker in
       let same : (i : ℕ) → pieceAt q i ≡ pieceAt s i = like-piece s q (h .like) in
-      let ds : Each (λ d. partialOf s (d .piece) ≡ some d) (q .partials) = subst (Each (λ d. partialOf s (d .piece) ≡ some d)) (sym (h .like .partials)) found in
+      let ds : Each (λ d. partialOf s (d .piece) ≡ some d) (q .partials) = subst (Each (λ d. partialOf s (d .piece) ≡ some d))
+      (sym (h .like .partials)) found in
       rw (scan-partials a w)
       (each-so (λ d g. record {
         partial = g .0 .0;
         free = sym (like-free s q (h .like) a (d .piece)) ∙ and-left (isPieceFree a q (d .piece)) (not (d .locked)) (g .1);
         state = subst (λ (x : Piece). sameQueue (unreverse (x .state)) Downloading ≡ true) (same (d .piece)) (g .0 .1);
       }) (filter (usable a q) (inQueue Downloading q))
-      (each-filter (usable a q) (inQueue Downloading q) (each-filter (λ d. sameQueue (unreverse (pieceAt q (d .piece) .state)) Downloading) (q .partials) ds)))
+      (each-filter (usable a q) (inQueue Downloading q)
+      (each-filter (λ d. sameQueue (unreverse (pieceAt q (d .piece) .state)) Downloading) (q .partials) ds)))
 
   walkPartials-clean : (ds : List DownloadingPiece) (w : PickState) → Each (Usable s a) ds → Clean s Ok w → Clean s Ok (walkPartials a ds w)
   unfolding walkPartials partialStep walk
@@ -99,7 +100,8 @@ module _ (s : Picker) (a : PickRequest) (Ok : PieceBlock → Type 0) (ok : Allow
       let k = clean-steps s Ok w h 1 suggestLoops in
       when-keeps (Clean s Ok) (isPieceFree a (w .picker) i) (λ u. ignore i (addBlocks a i (flagged suggestedPieces u))) v k
       (λ e. clean-ignore s Ok (addBlocks a i (flagged suggestedPieces v))
-      (clean-blocks s a Ok ok named i (flagged suggestedPieces v) (sym (like-free s (w .picker) (h .like) a i) ∙ e) (clean-flag s Ok v k suggestedPieces)) i)
+      (clean-blocks s a Ok ok named i (flagged suggestedPieces v) (sym (like-free s (w .picker) (h .like) a i) ∙ e)
+      (clean-flag s Ok v k suggestedPieces)) i)
 
   pub pickSuggested-clean : (w : PickState) → Clean s Ok w → Clean s Ok (pickSuggested a w)
   unfolding pickSuggested walk
@@ -115,7 +117,8 @@ module _ (s : Picker) (a : PickRequest) (Ok : PieceBlock → Type 0) (ok : Allow
   unfolding pickRange
   range-clean w h =
       let q = w .picker in
-      branch-arms (Clean s Ok) (option reverse a) (walk (visitBelowTop a reverseSequential) spent (rangeDown (q .cursor) (q .reverseCursor)))
+      branch-arms (Clean s Ok) (option reverse a)
+      (walk (visitBelowTop a reverseSequential) spent (rangeDown (q .cursor) (q .reverseCursor)))
       (walk (visitBelowTop a sequentialPieces) spent (range (q .cursor) (q .reverseCursor))) w
       (λ e. pieces-clean (visitBelowTop a reverseSequential) (below-clean reverseSequential) (rangeDown (q .cursor) (q .reverseCursor)) w h)
       (λ e. pieces-clean (visitBelowTop a sequentialPieces) (below-clean sequentialPieces) (range (q .cursor) (q .reverseCursor)) w h)
@@ -170,7 +173,8 @@ module _ (s : Picker) (a : PickRequest) (Ok : PieceBlock → Type 0) (ok : Allow
   rarest-clean : (w : PickState) → Clean s Ok w → Clean s Ok (pickRarest a w)
   unfolding pickRarest
   rarest-clean w h =
-      branch-arms (Clean s Ok) (option reverse a) (walk (reverseRareStep a) spent (reversed (listOf (w .picker .listing)))) (pickForward a) w
+      branch-arms (Clean s Ok) (option reverse a) (walk (reverseRareStep a) spent (reversed (listOf (w .picker .listing))))
+      (pickForward a) w
       (λ e. pieces-clean (reverseRareStep a) reverseRare-clean (reversed (listOf (w .picker .listing))) w h) (λ e. forward-clean w h)
 
   listed-clean : (ds : List ℕ) (w : PickState) → Clean s Ok w → Clean s Ok (pickListed ds a w)
@@ -189,7 +193,8 @@ module _ (s : Picker) (a : PickRequest) (Ok : PieceBlock → Type 0) (ok : Allow
       repeat-keeps (λ y. Clean s Ok (y .work)) (skipStep start) (skipDone a) (λ y e g. clean-steps s Ok (y .work) g 1 randStartLoops)
       (piecesIn (x .work .picker)) (record { work = x .work; place = x .place; back = false; seen = x .seen; over = x .over }) h
 
-  randomVisit-clean : (start : ℕ) (x : RandomWalk) → isPieceFree a s (x .place) ≡ true → Clean s Ok (x .work) → Clean s Ok (randomVisit a start x .work)
+  randomVisit-clean : (start : ℕ) (x : RandomWalk) → isPieceFree a s (x .place) ≡ true → Clean s Ok (x .work)
+      → Clean s Ok (randomVisit a start x .work)
   unfolding randomVisit randomSpan randomPiece arrive canPick
   randomVisit-clean start x f h =
       let w = x .work in
@@ -198,7 +203,8 @@ module _ (s : Picker) (a : PickRequest) (Ok : PieceBlock → Type 0) (ok : Allow
       branch-arms (λ y. Clean s Ok (y .work)) (contiguousAbove 1 (w .contiguous) && t) (randomSpan a start) (randomPiece a start) x
       (λ e. clean-span s a Ok ok i w
       (true-both (isPieceFree a s i) (isOpen (pieceAt s i .state)) f
-      (subst (λ (p : Piece). isOpen (p .state) ≡ true) (like-piece s (w .picker) (h .like) i) (and-right (contiguousAbove 1 (w .contiguous)) t e))) h)
+      (subst (λ (p : Piece). isOpen (p .state) ≡ true) (like-piece s (w .picker) (h .like) i)
+      (and-right (contiguousAbove 1 (w .contiguous)) t e))) h)
       (λ e. clean-blocks s a Ok ok named i (flagged randomPieces w) f (clean-flag s Ok w h randomPieces))
 
   -- where a lap does not end the piece may be visited

@@ -1,5 +1,5 @@
 -- A pick gives nothing that it should not.
-use mathlib.Core.Path.{_≡_, refl, sym, ap, subst, _∙_}
+use mathlib.Core.Path.{_≡_, refl, sym, subst, _∙_}
 use mathlib.Core.Logic.{⊎-elim}
 use Prim.Native.Nat.{ℕ, _+_, _<_}
 use native.Mathlib.Omega.{arith}
@@ -10,7 +10,6 @@ use lib.Dec.{ltb}
 use borrow.Author.Tests.{not-true, not-false}
 use Rattle.types.specs.declared.queue.DownloadQueue.the-variants.{Downloading, Full, Open}
 use Rattle.types.specs.declared.block.BlockState.the-variants.{None, Requested}
-use Rattle.types.specs.declared.refusal.Refusal.{Refusal}
 use Rattle.types.specs.declared.refusal.Refusal.the-variants.{ShortMemory, FewDraws, PickArguments, ShortOutput}
 use Rattle.types.specs.Queue.{unreverse}
 use Rattle.model.specs.Lists.{len}
@@ -21,15 +20,15 @@ use Rattle.model.specs.change.Partials.{partialOf, blockAt}
 use Rattle.model.specs.pick.Blocks.{PickRequest, option, hasBit, PieceBlock, pieceBlock, requestedFrom, isPieceFree, canPick}
 use Rattle.model.specs.pick.Pick.{effectiveRequest, pickPieces, noPartial}
 use Rattle.model.specs.image.Sound.{Sound}
-use Rattle.model.specs.Calls.{Answer, refused, picked, Call, check, refuseFewDraws, refusal, bitfieldFits, requestFits, memoryNeeded}
+use Rattle.model.specs.Calls.{picked, check, refuseFewDraws, refusal, bitfieldFits, requestFits, memoryNeeded}
 use Rattle.model.specs.Calls.{pick-pieces, lentRequest, answering, picking, act, unlessRefused, step}
 use Rattle.model.proofs.base.Truths.{and-left, and-right, three-true}
 use Rattle.model.proofs.sound.PartialLaws.{findDlPiece-at}
 use Rattle.model.proofs.sound.SoundLaws.{wellFormed-sound}
-use Rattle.agreement.specs.SoundPick.{InWantedPiece, Why, FreeOfOpen, FreeOfPartial, EndGame, Given, SoundPick}
+use Rattle.agreement.specs.SoundPick.{InWantedPiece, FreeOfOpen, FreeOfPartial, EndGame, Given, SoundPick}
 use Rattle.agreement.proofs.given.EachLaws.{Each, each-places, each-between, last-or-before}
-use Rattle.agreement.proofs.given.AddLaws.{Usable, Allows}
-use Rattle.agreement.proofs.given.EndLaws.{Busy, AllowsLast, Ends, all-fine, one-more, pick-given}
+use Rattle.agreement.proofs.given.AddLaws.{Usable}
+use Rattle.agreement.proofs.given.EndLaws.{Busy, Ends, all-fine, one-more, pick-given}
 use Rattle.agreement.proofs.given.WantedLaws.{queue-is, block-state-is, asked-peer, asked-has, asked-parole, has-within, FreePiece}
 use Rattle.agreement.proofs.given.WantedLaws.{free-piece, full-missing, full-priority}
 
@@ -62,7 +61,8 @@ module _ (s : Picker) (h : Sound s) (a : PickRequest) (f : requestFits s a ≡ t
 
   partial-given : (d : DownloadingPiece) (j : ℕ) → Usable s asked d
       → (hasBit asked (d .piece) && (not (d .locked) && (not (option onParole asked) || requestedFrom (asked .peer) d .exclusive))) ≡ true
-      → j < len (d .blocks) → sameBlockState (blockAt d j .state) None ≡ true → (after : List PieceBlock) → Given s a (pieceBlock (d .piece) j) after
+      → j < len (d .blocks) → sameBlockState (blockAt d j .state) None ≡ true → (after : List PieceBlock)
+      → Given s a (pieceBlock (d .piece) j) after
   unfolding pieceBlock asked
   partial-given d j u may l e after =
       let i = d .piece in
@@ -74,11 +74,13 @@ module _ (s : Picker) (h : Sound s) (a : PickRequest) (f : requestFits s a ≡ t
         why =
             FreeOfPartial d (u .partial) (queue-is (unreverse (pieceAt s i .state)) Downloading (u .state)) (not-true (d .locked) (k .1))
             (block-state-is (blockAt d j .state) None e)
-            (λ p. subst (λ (x : Option ℕ). requestedFrom x d .exclusive ≡ true) (asked-peer s a) (other (option onParole asked) held (k .2) (asked-parole s a ∙ p)));
+            (λ p. subst (λ (x : Option ℕ). requestedFrom x d .exclusive ≡ true) (asked-peer s a)
+            (other (option onParole asked) held (k .2) (asked-parole s a ∙ p)));
       }
 
   last-given : (d : DownloadingPiece) (j : ℕ) → Busy s asked d → option onParole asked ≡ false → j < len (d .blocks)
-      → (sameBlockState (blockAt d j .state) Requested && not (samePeer (blockAt d j .peer) (asked .peer))) ≡ true → Given s a (pieceBlock (d .piece) j) []
+      → (sameBlockState (blockAt d j .state) Requested && not (samePeer (blockAt d j .peer) (asked .peer))) ≡ true
+      → Given s a (pieceBlock (d .piece) j) []
   unfolding pieceBlock asked
   last-given d j u p l e =
       let i = d .piece in
@@ -97,8 +99,10 @@ module _ (s : Picker) (h : Sound s) (a : PickRequest) (f : requestFits s a ≡ t
           priority = full-priority (pieceAt s i) d (sound .state) (u .state);
         };
         why =
-            EndGame d (u .partial) (queue-is (unreverse (pieceAt s i .state)) Full (u .state)) (block-state-is (blockAt d j .state) Requested (and-left t n e))
-            (subst (λ (x : Option ℕ). samePeer (blockAt d j .peer) x ≡ false) (asked-peer s a) (not-true (samePeer (blockAt d j .peer) (asked .peer)) (and-right t n e)))
+            EndGame d (u .partial) (queue-is (unreverse (pieceAt s i .state)) Full (u .state))
+            (block-state-is (blockAt d j .state) Requested (and-left t n e))
+            (subst (λ (x : Option ℕ). samePeer (blockAt d j .peer) x ≡ false) (asked-peer s a)
+            (not-true (samePeer (blockAt d j .peer) (asked .peer)) (and-right t n e)))
             (sym (asked-parole s a) ∙ p) refl;
       }
 
@@ -116,7 +120,8 @@ module _ (s : Picker) (h : Sound s) (a : PickRequest) (f : requestFits s a ≡ t
 
   -- one of them, wherever it stands
   one-given : (blocks before : List PieceBlock) (b : PieceBlock) (after : List PieceBlock)
-      → Ends (λ c. (rest : List PieceBlock) → Given s a c rest) (λ c. Given s a c []) blocks → blocks ≡ before ++ (b ∷ after) → Given s a b after
+      → Ends (λ c. (rest : List PieceBlock) → Given s a c rest) (λ c. Given s a c []) blocks → blocks ≡ before ++ (b ∷ after)
+      → Given s a b after
   one-given blocks before b after (all-fine g) e =
       each-between before b after (subst (Each (λ c. (rest : List PieceBlock) → Given s a c rest)) e g) after
   one-given blocks before b after (one-more front c g l p) e =
@@ -132,15 +137,18 @@ unfolding requestFits lentRequest option bitfieldFits
 lent-fits s a = refl
 
 -- an answer with blocks: the request is in range, and they are what the pick gave
-answered-fits : (s : Picker) (lent : ℕ) (a : PickRequest) (free : ℕ) (draws : Draws) (blocks : List PieceBlock) (flags : ℕ) (loops : List ℕ) (used : ℕ)
+answered-fits : (s : Picker) (lent : ℕ) (a : PickRequest) (free : ℕ) (draws : Draws) (blocks : List PieceBlock) (flags : ℕ)
+    (loops : List ℕ) (used : ℕ)
     → step s (record { lent = lent; action = pick-pieces a free draws }) .answer ≡ picked blocks flags loops used
     → (requestFits s a ≡ true) × (pickPieces draws s (lentRequest a) .out ≡ blocks)
 unfolding step refusal refuseFewDraws check unlessRefused act picking answering
 answered-fits s lent a free draws blocks flags loops used e =
-    go (ltb lent (memoryNeeded s)) (ltb (len draws) minDraws) (not (requestFits s a)) (ltb free (a .wanted + a .contiguous + spareOutput)) refl e
+    go (ltb lent (memoryNeeded s)) (ltb (len draws) minDraws) (not (requestFits s a))
+    (ltb free (a .wanted + a .contiguous + spareOutput)) refl e
   where
     go : (t₁ t₂ t₃ t₄ : Bool) → not (requestFits s a) ≡ t₃
-        → unlessRefused (check t₁ ShortMemory (check t₂ FewDraws (check t₃ PickArguments (check t₄ ShortOutput none)))) s (pick-pieces a free draws) .answer ≡ picked blocks flags loops used
+        → unlessRefused (check t₁ ShortMemory (check t₂ FewDraws (check t₃ PickArguments (check t₄ ShortOutput none)))) s
+        (pick-pieces a free draws) .answer ≡ picked blocks flags loops used
         → (requestFits s a ≡ true) × (pickPieces draws s (lentRequest a) .out ≡ blocks)
     go true t₂ t₃ t₄ p e = let z : _≡_ {A = ℕ} 0 1 = cc in absurd (omega arith)
     go false true t₃ t₄ p e = let z : _≡_ {A = ℕ} 0 1 = cc in absurd (omega arith)

@@ -12,7 +12,7 @@ use Rattle.types.specs.declared.queue.DownloadQueue.the-variants.{DownloadingRe
 use Rattle.types.specs.declared.block.BlockState.{BlockState}
 use Rattle.types.specs.Queue.{queueNumber, unreverse}
 use Rattle.types.specs.Block.{blockStateNumber}
-use Rattle.types.specs.Bits.{meets, union}
+use Rattle.types.specs.Bits.{meets}
 use Rattle.types.proofs.Bits.{union-bit}
 use Rattle.types.proofs.QueueNumbers.{queue-numbers}
 use Rattle.types.proofs.BlockNumbers.{block-state-numbers}
@@ -21,7 +21,7 @@ use Rattle.model.specs.Bep3.{bitAt, bitfieldBytes}
 use Rattle.model.specs.State.{Piece, DownloadingPiece, Picker, sameQueue, isOpen, sameBlockState, pieceAt, piecesIn, pieceSizeAt}
 use Rattle.model.specs.State.{maxPeers, maxPriority, maxWanted, maxContiguous, maxSuggestions}
 use Rattle.model.specs.Options.{onParole, rarestFirst, sequential}
-use Rattle.model.specs.change.Partials.{progress, newState}
+use Rattle.model.specs.change.Partials.{newState}
 use Rattle.model.specs.pick.Blocks.{PickRequest, option, hasBit, isPieceFree}
 use Rattle.model.specs.pick.Pick.{isForced, forcedRequest, effectiveRequest}
 use Rattle.model.specs.image.WellFormed.{pieceOk, stateOk}
@@ -85,7 +85,8 @@ fits-bits s a h =
     let orders = not (option rarestFirst a && option sequential a) in
     let few = leb (len (a .suggestions)) maxSuggestions in
     let peers = leb (a .peers) maxPeers in
-    let p = four-true (leb 1 (a .wanted)) (leb (a .wanted) maxWanted) (leb (a .contiguous) maxContiguous) (peers && (few && (orders && (bits && bytes)))) h in
+    let p = four-true (leb 1 (a .wanted)) (leb (a .wanted) maxWanted) (leb (a .contiguous) maxContiguous)
+    (peers && (few && (orders && (bits && bytes)))) h in
     let q = four-true peers few orders (bits && bytes) (p .3) in
     eqb-true (a .bits) (piecesIn s) (and-left bits bytes (q .3))
 
@@ -118,7 +119,8 @@ flushed-no true o h e = absurd (true≢false (sym h ∙ e))
 flushed-no false o h e = refl
 
 -- a Full piece is not flushed: a flushed one is Open
-pub full-missing : (s : Picker) (i : ℕ) → Sound s → i < piecesIn s → sameQueue (unreverse (pieceAt s i .state)) Full ≡ true → pieceAt s i .flushed ≡ false
+pub full-missing : (s : Picker) (i : ℕ) → Sound s → i < piecesIn s → sameQueue (unreverse (pieceAt s i .state)) Full ≡ true
+    → pieceAt s i .flushed ≡ false
 unfolding pieceOk
 full-missing s i h l q =
     let p = pieceAt s i in
