@@ -1,8 +1,9 @@
 """`python3 -m compare.passing PICKS SEED`: random picks of the reference, and what the two theorems about a pick say of each.
 
 Sound: a block that is given lies in a piece that the peer has, that is not had and is wished for, and is free: any block of an Open
-piece, or one in state None of a Downloading partial that is not locked. Or it is the last one given, by the end game. Complete: where
-blocks are still wanted, each free block of such a piece is given, unless one of REASONS holds of the piece.
+piece, or one in state None of a Downloading partial that is not locked, ON_PAROLE of one that no other peer has a block of. Or it is the
+last one given, by the end game. Complete: where blocks are still wanted, each free block of such a piece is given, unless one of REASONS
+holds of the piece.
 
 Prints the figures. An exception ends it with status 1, with the smallest script that it could be brought to; so does a case or a reason
 that was met too seldom."""
@@ -103,10 +104,11 @@ def case_of(s, ask, i, j, last):
     if s.pieces[i].state == OPEN:
         return "free of open"
     d, state = find(s, i), queue(s.pieces[i].state)
+    parole = contains(ask.options, ON_PAROLE)
     if state == DOWNLOADING and not d.locked and d.blocks[j].state == NONE:
-        return "free of partial"
+        return "free of partial" if not parole or requested_from(d, ask.peer).exclusive else None
     busy = state == FULL and d.blocks[j].state == REQUESTED and d.blocks[j].peer != ask.peer
-    return "end game" if busy and last and not contains(ask.options, ON_PAROLE) else None
+    return "end game" if busy and last and not parole else None
 
 
 def check_sound(s, ask, w, figures):
