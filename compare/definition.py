@@ -143,10 +143,8 @@ class Definition:
         return value_of(self.wrapper, self.arguments(found[0], values, found[1]))
 
     # ---- answers in the script's words
-    def refused(self, refusal, place=NONE):
-        """A refusal is a number, with the place of a fault beside it, or a case of the declared enum."""
-        if isinstance(refusal, int):
-            return f"refused {refusal}" + ("" if place == NONE else f" {place[1]}")
+    def refused(self, refusal):
+        """A case of the declared enum, as its number and what is given with it."""
         values = self.program.call(REFUSAL_VALUES, refusal)
         return " ".join(map(str, ["refused", self.program.call(REFUSAL_NUMBER, refusal), *values]))
 
@@ -185,12 +183,10 @@ class Definition:
 
     def printed(self, data):
         """What the pick program prints for these bytes on standard input."""
-        kind, what = self.program.call(PROGRAM, data)
-        if kind.name == "refusedAt":
-            return f"refused 13 {what}\n"
-        if what[0].name == "refused":
-            return self.refused(*what[1:]) + "\n"
-        blocks, flags, loops, used = what[1:]
+        kind, *rest = self.program.call(PROGRAM, data)
+        if kind.name == "refused":
+            return self.refused(*rest) + "\n"
+        blocks, flags, loops, used = rest
         shown = [" ".join(str(self.program.get(b, f)) for f in BLOCK) for b in blocks]
         return "\n".join([*shown, f"flags {flags}", f"draws {used}", f"loops {' '.join(map(str, loops))}", ""])
 

@@ -16,6 +16,7 @@ SCRIPTS = {
     "reverse-full": "reverse-full",
     "ring-walk": "ring-walk",
     "totals": "totals",
+    "totals-canceled": "totals",
     "totals-given-back": "totals",
     "zero-run": "zero-run",
 }

@@ -1,4 +1,4 @@
-"""`python3 -m compare.everything`: writes crates/model/proofs/Everything.antt, which opens every shut definition (`unfoldable pub`) of
+"""`python3 -m compare.everything`: writes crates/model/proofs/cases/Everything.antt, which opens every shut definition (`unfoldable pub`) of
 crates/model/specs at once. With `--check` it writes nothing and fails where the file is not what the definitions give.
 
 A name that an earlier module has already is imported as NAME·MODULE."""
@@ -11,7 +11,7 @@ import sys
 from compare.run import TOP
 
 SPECS = os.path.join(TOP, "crates", "model", "specs")
-FILE = os.path.join(TOP, "crates", "model", "proofs", "Everything.antt")
+FILE = os.path.join(TOP, "crates", "model", "proofs", "cases", "Everything.antt")
 MODULES = "Rattle.model.specs"
 WIDTH = 140
 HEAD = """\
@@ -87,12 +87,12 @@ def main():
     check = ap.parse_args().check
     text, many = everything()
     if check and text_of(FILE) != text:
-        print("everything: crates/model/proofs/Everything.antt is stale; run python3 -m compare.everything", file=sys.stderr)
+        print("everything: crates/model/proofs/cases/Everything.antt is stale; run python3 -m compare.everything", file=sys.stderr)
         return 1
     if not check:
         with open(FILE, "w", encoding="utf-8") as f:
             f.write(text)
-    print(f"{many} definitions opened in crates/model/proofs/Everything.antt")
+    print(f"{many} definitions opened in crates/model/proofs/cases/Everything.antt")
     return 0
 
 

@@ -5,7 +5,7 @@ wish of an Open piece, the rebuild of a stale list by a pick; or it makes the li
 each, words parted by spaces, lists by commas (`-` for none):
 
     start WORDS QUEUE QUEUE QUEUE QUEUE
-    relist PIECE USED SEEDS PIECES DRAWS AFTER
+    update PIECE USED SEEDS PIECES DRAWS AFTER
     stale
     rebuild USED SEEDS PIECES DRAWS AFTER
 
@@ -66,7 +66,7 @@ def operation(before, after, i, used, draws):
     if i is None and not before.stale:
         return None
     words = shown(draws[k] for k in range(used if before.stale else SHOWN_DRAWS))
-    what = "rebuild" if before.stale else f"relist {i}"
+    what = "rebuild" if before.stale else f"update {i}"
     return f"{what} {used} {pieces(after)} {words} {shown(after.order)}"
 
 

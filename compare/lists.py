@@ -9,9 +9,10 @@ from reference.geometry import blocks_in_piece, blocks_per_piece, num_extents, n
 from reference.image import image, read
 from reference.options import RAREST_FIRST, SEQUENTIAL
 from reference.script import call_of
-from reference.state import MIN_DRAWS
+from reference.state import MAX_PARTIALS, MIN_DRAWS
 
 WRONG = 0.04
+CROWDED = 0.01
 
 
 class Step(NamedTuple):
@@ -170,6 +171,7 @@ DRAWING = [
     (14, block_call("mark_as_downloading", downloading_tail)),
     (8, block_call("mark_as_writing", peer_tail)),
     (10, block_call("mark_as_finished", peer_tail)),
+    (8, block_call("mark_as_canceled", peer_tail)),
     (8, block_call("abort_download", peer_tail)),
     (24, pick_line),
 ]
@@ -198,8 +200,23 @@ def new_line(rng, total, size):
     return f"new {total} {size}"
 
 
+def crowded_geometry(rng):
+    """Pieces of a byte, more than there may be partials."""
+    return rng.choice([600, 1024, 1500]), 1
+
+
+def crowded_line(rng):
+    """A picker with as many partials as may stand, so that one more is refused."""
+    while True:
+        s = a_picker(rng, *crowded_geometry(rng))
+        if len(s.partials) == MAX_PARTIALS:
+            return f"read {image(s).hex()}"
+
+
 def start_line(rng, geometry):
     """A picker made new, or read from an image built field by field."""
+    if geometry is crowded_geometry:
+        return crowded_line(rng)
     total, size = geometry(rng)
     if rng.random() < 0.35:
         return new_line(rng, total, size)
@@ -267,6 +284,8 @@ def taken_up(rng, steps):
 
 def geometry_of(rng, huge):
     kind = rng.random()
+    if kind > 1 - CROWDED:
+        return crowded_geometry
     return huge_geometry if kind < huge else wide_geometry if kind < 0.2 + huge else small_geometry
 
 

@@ -1,24 +1,12 @@
-"""`python3 -m compare.programs`: the reference's programs as a user meets them: document 01's pick example and its refusals, and bad
-scripts, which get a message with the line, status 2 and nothing on standard output."""
+"""`python3 -m compare.programs`: the reference's programs as a user meets them: document 01's pick example and its refusals, and the bad
+scripts that the oracle is tried with, too."""
+import io
 import subprocess
 import sys
 
+from compare.bad_scripts import TOP, Ended, bad_scripts, program, tried
 from compare.pick_programs import PICKS
-from compare.run import TOP
-
-# scripts that are no scripts, and the line to be named
-BAD_SCRIPTS = {
-    "no end": ("new 5 5\n", "line 2"),
-    "unknown call": ("new 5 5\nfrobnicate\nend\n", "line 2"),
-    "too few arguments": ("new 5\nend\n", "line 1"),
-    "too many arguments": ("new 5 5 5\nend\n", "line 1"),
-    "no number": ("new five 5\nend\n", "line 1"),
-    "half a byte": ("read 012\nend\n", "line 1"),
-    "an option twice": ("new 5 5 mem=1 mem=1\nend\n", "line 1"),
-    "an option of another call": ("new 5 5\nnum_pieces draws=5\nend\n", "line 2"),
-    "words past those lent": ("inc_refcount 0 draws=1:1,2\nend\n", "line 1"),
-    "something after the end": ("end\nnew 5 5\n", "line 2"),
-}
+from reference.run import run as run_script
 
 
 def run(module, data):
@@ -32,19 +20,25 @@ def wrong_picks():
             yield f"pick, {name}: {out.stdout.decode()!r}"
 
 
-def wrong_scripts():
-    for name, (text, place) in BAD_SCRIPTS.items():
-        out = run("reference.run", text.encode())
-        if out.returncode != 2 or out.stdout or place not in out.stderr.decode():
-            yield f"script, {name}: status {out.returncode}, {out.stderr.decode()!r}"
+def reference_ended(script):
+    """How the reference ends on a script, without a process of its own."""
+    out, err = io.StringIO(), io.StringIO()
+    return Ended(run_script(script, out, err), out.getvalue(), err.getvalue())
+
+
+def wrong_scripts(scripts):
+    """Every one without a process of its own, some as a user runs them."""
+    yield from tried(reference_ended, scripts)
+    yield from tried(program([sys.executable, "-m", "reference.run"]), scripts[::20])
 
 
 def main():
-    wrong = list(wrong_picks()) + list(wrong_scripts())
+    scripts = list(bad_scripts())
+    wrong = list(wrong_picks()) + list(wrong_scripts(scripts))
     for line in wrong:
         print(f"programs: {line}", file=sys.stderr)
     if not wrong:
-        print(f"{len(PICKS)} picks and {len(BAD_SCRIPTS)} bad scripts as they should be")
+        print(f"{len(PICKS)} picks and {len(scripts)} bad scripts as they should be")
     return 1 if wrong else 0
 
 

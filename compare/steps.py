@@ -13,7 +13,7 @@ import sys
 
 from compare.record import CALLS, OUTCOMES
 from compare.run import TOP
-from compare.terms import LIBRARY, REPLAY, Terms, theorem, used_draws
+from compare.terms import LIBRARY, OPENING, REPLAY, Terms, theorem, used_draws
 from reference.script import SHAPES, WITH_DRAWS, calls_of
 
 # ---- sizes
@@ -21,6 +21,7 @@ LEAST = 1500
 PART = 250
 FIRST, REST = "replayed", "replayed_more"
 SMALL = 400
+BY_HAND = "Replaying.antt"
 
 
 # ---- what is recorded
@@ -155,11 +156,12 @@ def left_out(steps, picked):
 
 
 # ---- files
-def module(runs, replay, what):
-    """The text of a proof file."""
+def module(runs, own, what):
+    """The text of a proof file; `own` says whether it is one of the first crate, which has the words of a replay."""
     t = Terms()
     theorems = "\n".join(theorem(t, run) for run in runs)
-    used = {replay if m == REPLAY else m: names for m, names in t.used.items()}
+    words = {m: f"Rattle.{FIRST}.{m.split('.')[0]}.{m}" if own else f"Rattle.{FIRST}.{m}" for m in (REPLAY, OPENING)}
+    used = {words.get(m, m): names for m, names in t.used.items()}
     uses = "".join(f"use {m}.{{{', '.join(sorted(names))}}}\n" for m, names in sorted(used.items()))
     return f"-- {what}, computed. Written by compare/steps.py: not to be edited.\n{LIBRARY}{uses}\n{theorems}"
 
@@ -198,7 +200,7 @@ EDITS = (
     ("another_block", "a pick is recorded to give another block first", r"picked \(\(pieceBlock", r"pieceBlock \d+", "pieceBlock 9"),
     ("fewer_draws", "a pick is recorded to use no draws", r"\) [1-9]\d*\)\) image-", r"\) \d+\)\) image-", ") 0)) image-"),
     ("another_image", "a piece in an image is recorded with another count", r"^    2 ∷ 0 ∷", r"2 ∷ 0", "2 ∷ 9"),
-    ("another_place", "an image is recorded to be at fault elsewhere", r"outcome \(refusedAt 13", r"\(some ", "(some 9"),
+    ("another_place", "an image is recorded to be at fault elsewhere", r"outcome \(notDone \(IllFormedImage", r"IllFormedImage ", "IllFormedImage 9"),
 )
 
 
@@ -217,19 +219,20 @@ def edit_files(text):
 def files(picked):
     """Every file by its path: two runs in a crate of their own, which is small for its must-fail edits, and the others."""
     first = of_first(picked)
-    few = module(first, f"Rattle.{FIRST}.specs.Replay", "Recorded calls, a few")
-    out = {f"{FIRST}/proofs/Lib.antt": "pub mod Steps\n", f"{FIRST}/proofs/Steps.antt": few, f"{REST}/proofs/Lib.antt": ""}
+    few = module(first, True, "Recorded calls, a few")
+    out = {f"{FIRST}/proofs/Lib.antt": "pub mod Replaying\npub mod Steps\n", f"{FIRST}/proofs/Steps.antt": few, f"{REST}/proofs/Lib.antt": ""}
     for k, runs in enumerate(parts([run for run in picked if run not in first]), 1):
         out[f"{REST}/proofs/Lib.antt"] += f"pub mod Steps{k}\n"
         what = f"Recorded calls {runs[0][0].number} to {runs[-1][-1].number}, those that are replayed"
-        out[f"{REST}/proofs/Steps{k}.antt"] = module(runs, f"Rattle.{FIRST}.specs.Replay", what)
+        out[f"{REST}/proofs/Steps{k}.antt"] = module(runs, False, what)
     return {os.path.join(TOP, "crates", path): text for path, text in (out | edit_files(few)).items()}
 
 
 def standing():
     """The files that stand."""
     folders = [os.path.join(TOP, "crates", crate, part) for crate in (FIRST, REST) for part in ("proofs", "must-fail")]
-    return {path: read_text(path) for folder in folders for path in glob.glob(os.path.join(folder, "*"))}
+    paths = [path for folder in folders for path in glob.glob(os.path.join(folder, "*"))]
+    return {path: read_text(path) for path in paths if os.path.basename(path) != BY_HAND}
 
 
 def read_text(path):

@@ -13,30 +13,41 @@ use mathlib.Core.List.{List, [], _∷_}
 use mathlib.Core.Option.{none, some}
 """
 ACTIONS = "Rattle.model.specs.Calls"
-QUESTIONS = "Rattle.model.specs.Questions"
-BLOCKS = "Rattle.model.specs.Blocks"
-QUESTION, DONE, SAID, TOLD, PICKED, REFUSED = "question", "done", "said", "told", "picked", "refused"
+QUESTIONS = "Rattle.model.specs.ask.Questions"
+BLOCKS = "Rattle.model.specs.pick.Blocks"
+REFUSALS = "Rattle.types.specs.declared.refusal.Refusal.the-variants"
+QUESTION, DONE, SAID, REPLIED, PICKED, REFUSED = "question", "done", "said", "replied", "picked", "refused"
 OF = {"ofPicker": WHOLE, "listOfPicker": LISTS, "ofPiece": OF_PIECE, "listOfPiece": LISTS_OF_PIECE, "ofBlock": OF_BLOCK}
 NUMBERS, NOTHING, STALE = "numbers", "nothing", "staleList"
 PIECE_BLOCK = "pieceBlock"
 # questions whose name is that of a field, too
-MARKED = {"cursor", "reverse_cursor", "locked", "hashing"}
+MARKED = {"cursor", "reverse_cursor", "locked", "hashing", "dirty"}
 # of crates/replayed/specs/Replay.antt
 REPLAY = "specs.Replay"
 NEW, READ, TAKE, CALL = "new-line", "read-line", "image-line", "call-line"
-STANDS, REFUSED_AT, BYTES_TAKEN, ANSWERED = "stands", "refusedAt", "bytesTaken", "answered"
-OUTCOMES_OF, OUTCOME, WORDS, ASKING, REPLAYING = "outcomes", "outcome", "words", "asking", "replaying"
+STANDS, NOT_DONE, BYTES_TAKEN, ANSWERED = "stands", "notDone", "bytesTaken", "answered"
+OUTCOMES_OF, OUTCOME, WORDS, ASKING = "outcomes", "outcome", "words", "asking"
+# of crates/replayed/proofs/Replaying.antt
+OPENING, REPLAYING = "proofs.Replaying", "replaying"
 
 # words and places lent where the script lends enough
 MANY = 1000000
+ENOUGH_WORDS = 5000
 # numbers of a question's answer for each record, and which of them are a peer's flag and number
 PEER_AT = {"get_downloader": (2, 0), "get_downloaders": (2, 0), "block_peer": (2, 0), "blocks_for_piece": (4, 2)}
 WITH_PEER = ("mark_as_downloading", "mark_as_writing", "mark_as_finished", "abort_download", "mark_as_canceled")
 
 
-def refusal(number):
-    """A refusal as the definition has it."""
-    return str(number)
+# the enum's cases, in the order of the table
+CASES = (
+    *("Geometry", "ShortMemory", "IllFormedMemory", "FewDraws", "OutOfRange", "TooManyPeers", "NoPeerToTake", "HavePiece", "NotWriting"),
+    *("TooManyPartials", "PickArguments", "ShortOutput", "IllFormedImage"),
+)
+
+
+def refusal(t, number, *place):
+    """A refusal as the definition has it; 13 has a place."""
+    return t.call(t.take(REFUSALS, CASES[int(number) - 1]), *place)
 
 
 # ---- terms
@@ -85,9 +96,10 @@ def used_draws(step):
 
 
 def words(t, step):
-    """The lent words: those that are used, then zeros. Only used words matter, so the answer is that for the recorded words."""
+    """The lent words: those that are used, then zeros. Only used words matter, and whether they are enough, so the answer is that for the
+    recorded words; a list longer than enough is cut."""
     draws = step.call.draws
-    return t.call(t.take(REPLAY, WORDS), draws.many, t.numbers([draws[k] for k in range(used_draws(step))]))
+    return t.call(t.take(REPLAY, WORDS), min(draws.many, ENOUGH_WORDS), t.numbers([draws[k] for k in range(used_draws(step))]))
 
 
 def question(t, step):
@@ -158,14 +170,14 @@ def answer_of(t, step):
     """The answer of a call, as the definition has it."""
     kind = step.answer[0]
     if kind == "refused":
-        return t.call(t.take(ACTIONS, REFUSED), refusal(step.answer[1]))
+        return t.call(t.take(ACTIONS, REFUSED), refusal(t, *step.answer[1:2]))
     if kind == "picked":
         return picked_answer(t, step)
     if kind == "done":
         return t.call(t.take(ACTIONS, DONE), used_draws(step))
     if step.call.name in WITH_DRAWS:
         return t.call(t.take(ACTIONS, SAID), "true" if step.answer[1] == "1" else "false", used_draws(step))
-    return t.call(t.take(ACTIONS, TOLD), told(t, step))
+    return t.call(t.take(ACTIONS, REPLIED), told(t, step))
 
 
 def given(t, step):
@@ -173,7 +185,7 @@ def given(t, step):
         return t.call(t.take(REPLAY, ANSWERED), answer_of(t, step))
     kind, *rest = step.answer
     if kind == "refused":
-        return t.call(t.take(REPLAY, REFUSED_AT), refusal(rest[0]), t.option(rest[1] if rest[1:] else None))
+        return t.call(t.take(REPLAY, NOT_DONE), refusal(t, *rest))
     if kind == "bytes":
         return t.call(t.take(REPLAY, BYTES_TAKEN), t.numbers(bytes.fromhex(rest[0])))
     return t.take(REPLAY, STANDS)
@@ -199,6 +211,6 @@ def theorem(t, run):
     lines = "\n    ∷ ".join([line(t, step, name) for step, name in zip(run, names)] + ["[]"])
     ends = "\n    ∷ ".join([f"{t.take(REPLAY, OUTCOME)} {given(t, step)} {name}" for step, name in zip(run, names)] + ["[]"])
     statement = f"    {t.take(REPLAY, OUTCOMES_OF)} none\n    ({lines})\n    ≡ {ends}\n"
-    proof = f"unfolding {t.take(REPLAY, REPLAYING)}\ncalls-{first} = refl\n"
+    proof = f"unfolding {t.take(OPENING, REPLAYING)}\ncalls-{first} = refl\n"
     calls = f"calls {first} to {last}" if first < last else f"call {first}"
     return "\n".join(made + [f"-- {calls}\ncalls-{first} :\n{statement}{proof}"])

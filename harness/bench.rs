@@ -8,7 +8,7 @@ use floor::{parts_alone, rank_table};
 use std::hint::black_box;
 use std::time::Instant;
 
-#[link(name = "well_formed_c", kind = "static")]
+#[link(name = "link_memory", kind = "static")]
 extern "C" {
     fn wf_well_formed(mem: *const u64, len: usize) -> bool;
 }

@@ -1,9 +1,9 @@
-//! Runs the exported functions of `bitfield_c` beside the Rust bitfield and compares every answer and every byte.
+//! Runs the exported functions of `link_bitfield` beside the Rust bitfield and compares every answer and every byte.
 //! `harness/run` builds it. Prints how many comparisons were made; ends with status 1 at the first difference, 2 after fewer than LEAST.
 
 use bitfield_rs::Bitfield;
 
-#[link(name = "bitfield_c", kind = "static")]
+#[link(name = "link_bitfield", kind = "static")]
 extern "C" {
     fn bf_with_size(buf: *mut u8, len: usize, bits: usize) -> u8;
     fn bf_with_value(buf: *mut u8, len: usize, bits: usize, val: bool) -> u8;

@@ -4,7 +4,7 @@
 mod list_operations;
 
 use bitdaemon_common::{Bitfield, DownloadPriority, PieceIndex};
-use list_operations::{rank, refresh, relist};
+use list_operations::{rank, update_pieces, update};
 use picker_rs::{NullPickerStats, PickerOptions, PiecePicker};
 use std::hint::black_box;
 use std::time::Instant;
@@ -109,19 +109,19 @@ fn our_rebuild(counts: &[u64], draws: &[u32]) -> f64 {
     best(|| {
         mem[5..7].copy_from_slice(&[1, 0]);
         let start = Instant::now();
-        black_box(refresh(&mut mem, draws));
+        black_box(update_pieces(&mut mem, draws));
         since(start)
     })
 }
 
 fn our_moves(counts: &[u64], draws: &[u32]) -> Moves {
     let mut mem = memory(counts);
-    refresh(&mut mem, draws);
+    update_pieces(&mut mem, draws);
     let pieces = spread(counts.len());
     let mut set = |field: usize, i: usize, to: u64| {
         let old = rank(&mem, i);
         mem[16 + field * counts.len() + i] = to;
-        relist(&mut mem, i, old, draws);
+        update(&mut mem, i, old, draws);
     };
     best_moves(|| {
         let up = each(&pieces, |i| set(0, i, counts[i] + 1));

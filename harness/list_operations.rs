@@ -1,10 +1,10 @@
-//! The list operations of the crate `lists_c`, on memory in which a picker stands.
+//! The list operations of the crate `link_lists`, on memory in which a picker stands.
 
-#[link(name = "lists_c", kind = "static")]
+#[link(name = "link_lists", kind = "static")]
 extern "C" {
     fn ls_rank(mem: *const u64, len: usize, piece: usize) -> u64;
-    fn ls_relist(mem: *mut u64, len: usize, piece: usize, old: u64, draws: *const u32, draws_len: usize) -> usize;
-    fn ls_refresh(mem: *mut u64, len: usize, draws: *const u32, draws_len: usize) -> usize;
+    fn ls_update(mem: *mut u64, len: usize, piece: usize, old: u64, draws: *const u32, draws_len: usize) -> usize;
+    fn ls_update_pieces(mem: *mut u64, len: usize, draws: *const u32, draws_len: usize) -> usize;
 }
 
 /// The number of pieces of the picker.
@@ -19,12 +19,12 @@ pub fn rank(mem: &[u64], piece: usize) -> u64 {
 }
 
 /// The list mended after a piece came from rank `old` to the one it has. It was right before.
-pub fn relist(mem: &mut [u64], piece: usize, old: u64, draws: &[u32]) -> usize {
+pub fn update(mem: &mut [u64], piece: usize, old: u64, draws: &[u32]) -> usize {
     assert!(piece < pieces(mem));
-    unsafe { ls_relist(mem.as_mut_ptr(), mem.len(), piece, old, draws.as_ptr(), draws.len()) }
+    unsafe { ls_update(mem.as_mut_ptr(), mem.len(), piece, old, draws.as_ptr(), draws.len()) }
 }
 
 /// The list made anew where it is stale.
-pub fn refresh(mem: &mut [u64], draws: &[u32]) -> usize {
-    unsafe { ls_refresh(mem.as_mut_ptr(), mem.len(), draws.as_ptr(), draws.len()) }
+pub fn update_pieces(mem: &mut [u64], draws: &[u32]) -> usize {
+    unsafe { ls_update_pieces(mem.as_mut_ptr(), mem.len(), draws.as_ptr(), draws.len()) }
 }

@@ -5,7 +5,7 @@
 use std::io::BufRead;
 use std::process::exit;
 
-#[link(name = "well_formed_c", kind = "static")]
+#[link(name = "link_memory", kind = "static")]
 extern "C" {
     fn wf_well_formed(mem: *const u64, len: usize) -> bool;
 }

@@ -151,7 +151,7 @@ def check_finished(s, i, j, peer):
     check_opening(s, i)
 
 
-def check_abort(s, i, j, peer):
+def check_given_back(s, i, j, peer):
     check_block(s, i, j)
 
 
@@ -173,7 +173,8 @@ DRAWING = {
     "mark_as_downloading": (check_downloading, changes.mark_as_downloading),
     "mark_as_writing": (check_writing, changes.mark_as_writing),
     "mark_as_finished": (check_finished, changes.mark_as_finished),
-    "abort_download": (check_abort, changes.abort_download),
+    "mark_as_canceled": (check_given_back, changes.mark_as_canceled),
+    "abort_download": (check_given_back, changes.abort_download),
 }
 
 STILL = {

@@ -238,6 +238,25 @@ def mark_as_finished(s, i, j, peer, draws):
     return None, s, used
 
 
+def give_back(s, d, j, block, draws):
+    """Block j, which was in use, becomes `block`, which is free. A partial without a block in use is closed, unless it is hashed."""
+    s, d = put_block(s, d, j, block)
+    close_it = progress(d) == 0 and not d.hashing
+    return shut(s, d.piece, draws, 0) if close_it else update_piece_state(s, d.piece, draws, 0)
+
+
+def mark_as_canceled(s, i, j, peer, draws):
+    """A Writing block is given back. It and every other one that is not Finished goes to the peer named, its requesters as they were."""
+    d = find(s, i)
+    if d is None or d.blocks[j].state == FINISHED:
+        return None, s, 0
+    block = d.blocks[j]._replace(peer=peer)
+    if block.state != WRITING:
+        return None, put_block(s, d, j, block)[0], 0
+    s, used = give_back(s, d, j, block._replace(state=NONE), draws)
+    return None, s, used
+
+
 def abort_download(s, i, j, peer, draws):
     d = find(s, i)
     if d is None or d.blocks[j].state != REQUESTED:
@@ -247,11 +266,7 @@ def abort_download(s, i, j, peer, draws):
     if requesters > 0:
         left = Block(REQUESTED, requesters, None if block.peer == peer else block.peer)
         return None, put_block(s, d, j, left)[0], 0
-    s, d = put_block(s, d, j, Block(NONE, 0, None))
-    if progress(d) == 0 and not d.hashing:
-        s, used = shut(s, i, draws, 0)
-    else:
-        s, used = update_piece_state(s, i, draws, 0)
+    s, used = give_back(s, d, j, Block(NONE, 0, None), draws)
     return None, s, used
 
 

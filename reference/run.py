@@ -21,17 +21,19 @@ def outcomes(calls):
         last = now
 
 
-def main():
+def run(script, out, err):
+    """The outcomes of a script, or a message; answers the exit status."""
     try:
-        calls = calls_of(sys.stdin.read())
-    except (Malformed, UnicodeDecodeError) as why:
-        print(f"reference: {why}", file=sys.stderr)
+        # a character for each byte: the reader names the line of one that is not ASCII
+        calls = calls_of(script.decode("latin-1"))
+    except Malformed as why:
+        print(f"reference: {why}", file=err)
         return 2
     for line in outcomes(calls):
-        print(line)
-    print(f"end {len(calls)}")
+        print(line, file=out)
+    print(f"end {len(calls)}", file=out)
     return 0
 
 
 if __name__ == "__main__":
-    sys.exit(main())
+    sys.exit(run(sys.stdin.buffer.read(), sys.stdout, sys.stderr))

@@ -7,21 +7,29 @@ from .state import MIN_DRAWS
 
 NUMBER, PEER, OPTIONS, HEX, LIST = range(5)
 DEFAULT_FREE = 4351
+QUOTED = 80
+LONGEST_NUMBER = len(str(-(2**63)))
 
 
 class Malformed(Exception):
     pass
 
 
+def quoted(word):
+    """A word for a message, cut where it is long."""
+    return repr(word[:QUOTED])
+
+
 def number(word, lowest=-(2**63), highest=2**63 - 1):
-    if not re.fullmatch(r"-?[0-9]+", word) or not lowest <= int(word) <= highest:
-        raise Malformed(f"not a number from {lowest} to {highest}: {word}")
+    """A number in its one way of writing: no zero in front, and no sign but a `-` below 0."""
+    if len(word) > LONGEST_NUMBER or not re.fullmatch(r"0|-?[1-9][0-9]*", word) or not lowest <= int(word) <= highest:
+        raise Malformed(f"not a number from {lowest} to {highest}: {quoted(word)}")
     return int(word)
 
 
 def hexadecimal(word):
     if not re.fullmatch(r"-|([0-9a-fA-F]{2})+", word):
-        raise Malformed(f"not bytes in hexadecimal: {word[:40]}")
+        raise Malformed(f"not bytes in hexadecimal: {quoted(word)}")
     return b"" if word == "-" else bytes.fromhex(word)
 
 
@@ -46,6 +54,7 @@ SHAPES = {
     "mark_as_downloading": (NUMBER, NUMBER, PEER, OPTIONS),
     "mark_as_writing": (NUMBER, NUMBER, PEER),
     "mark_as_finished": (NUMBER, NUMBER, PEER),
+    "mark_as_canceled": (NUMBER, NUMBER, PEER),
     "abort_download": (NUMBER, NUMBER, PEER),
     "lock_piece": (NUMBER,),
     "piece_passed": (NUMBER,),
@@ -66,15 +75,15 @@ WITH_ROOM = set(LISTS) | set(LISTS_OF_PIECE) | {"image"}
 
 
 def lent_words(text):
-    many, mark, rest = re.fullmatch(r"([0-9]+)(?:([:~])(.*))?", text).groups() if re.match(r"[0-9]+([:~]|$)", text) else (None,) * 3
-    if many is None:
-        raise Malformed(f"not lent words: {text[:40]}")
-    if mark == "~":
-        return Seeded(number(many), number(rest, 0, 2**64 - 1))
-    words = () if mark is None else tuple(number(w, 0, 2**32 - 1) for w in rest.split(","))
-    if len(words) > number(many):
+    count, mark, seed = text.partition("~")
+    if mark:
+        return Seeded(number(count, 0), number(seed, 0, 2**64 - 1))
+    count, mark, listed = text.partition(":")
+    many = number(count, 0)
+    words = tuple(number(w, 0, 2**32 - 1) for w in listed.split(",")) if mark else ()
+    if len(words) > many:
         raise Malformed("more words listed than lent")
-    return Zeros(number(many), words)
+    return Zeros(many, words)
 
 
 def allowed(name):
@@ -88,7 +97,7 @@ def options_of(name, words):
     for word in words:
         key, mark, value = word.partition("=")
         if not mark or key not in allowed(name) or key in out:
-            raise Malformed(f"no option of {name} here: {word[:40]}")
+            raise Malformed(f"no option of {name} here: {quoted(word)}")
         out[key] = lent_words(value) if key == "draws" else number(value, 0)
     return out
 
@@ -96,7 +105,7 @@ def options_of(name, words):
 def call_of(line):
     name, *words = line.split(" ")
     if name not in SHAPES:
-        raise Malformed(f"no such call: {name[:40]}")
+        raise Malformed(f"no such call: {quoted(name)}")
     shape = SHAPES[name]
     if len(words) < len(shape):
         raise Malformed(f"{name} takes {len(shape)} arguments")
@@ -116,6 +125,8 @@ def calls_of(text):
     """The calls of a whole script; Malformed names the line."""
     calls, ended = [], False
     for k, line in enumerate(text.split("\n"), 1):
+        if not line.isascii():
+            raise Malformed(f"line {k}: not ASCII")
         if line == "" or line.startswith("#"):
             continue
         if ended:

@@ -1,19 +1,22 @@
 -- Term 3 holds.
-use mathlib.Core.Path.{_≡_, refl, ap, _∙_, subst}
+use mathlib.Core.Path.{_≡_, refl, sym, ap, _∙_, subst}
 use Prim.Native.Nat.{ℕ, _≤_}
 use native.Mathlib.Omega.{arith}
 use mathlib.Core.Bool.{Bool, true, false, cond}
-use mathlib.Core.List.{List}
-use mathlib.Core.Option.{none}
+use mathlib.Core.List.{List, [], _∷_, _++_}
 use lib.Dec.{ltb}
 use borrow.Author.Tests.{le-ltb}
+use Rattle.types.specs.declared.refusal.Refusal.the-variants.{Geometry, ShortMemory}
+use Rattle.model.specs.Lists.{len}
 use Rattle.model.specs.State.{Picker, validGeometry, new}
 use Rattle.model.specs.image.WellFormed.{wellFormed}
 use Rattle.model.specs.image.Sound.{Sound}
 use Rattle.model.specs.image.Image.{image, Read, accepted, faultAt, readImage}
-use Rattle.model.specs.Calls.{answers, run, memoryNeeded, made, notMade, within, newPicker, readWithin, readPicker}
+use Rattle.model.specs.Calls.{Call, step, answers, run, memoryNeeded, made, notMade, within, newPicker, readWithin, readPicker, taken}
+use Rattle.model.specs.Calls.{notTaken, takeImage}
 use Rattle.model.proofs.sound.NewSound.{new-sound}
 use Rattle.model.proofs.keep.KeepCalls.{run-keeps}
+use Rattle.model.proofs.keep.KeepTorrent.{run-memory}
 use Rattle.model.proofs.sound.SoundLaws.{wellFormed-sound, sound-wellFormed}
 use Rattle.model.proofs.image.ImageLaws.{image-accepted, accepted-image, image-injective}
 use Rattle.agreement.specs.Term3.{Started, fromNew, fromImage, Reached, after, Term3}
@@ -25,15 +28,17 @@ within-made : (lent : ℕ) (s t : Picker) → within lent s ≡ made t → s ≡
 unfolding within
 within-made lent s t e = go (ltb lent (memoryNeeded s)) e
   where
-    go : (b : Bool) → cond b (notMade 2 none) (made s) ≡ made t → s ≡ t
+    go : (b : Bool) → cond b (notMade ShortMemory) (made s) ≡ made t → s ≡ t
     go true e = let z : _≡_ {A = ℕ} 0 1 = cc in absurd (omega arith)
     go false e = cc
 
-made-new : (lent totalSize pieceSize : ℕ) (s : Picker) → newPicker lent totalSize pieceSize ≡ made s → (validGeometry totalSize pieceSize ≡ true) × (new totalSize pieceSize ≡ s)
+made-new : (lent totalSize pieceSize : ℕ) (s : Picker) → newPicker lent totalSize pieceSize ≡ made s
+    → (validGeometry totalSize pieceSize ≡ true) × (new totalSize pieceSize ≡ s)
 unfolding newPicker
 made-new lent totalSize pieceSize s e = go (validGeometry totalSize pieceSize) refl e
   where
-    go : (b : Bool) → validGeometry totalSize pieceSize ≡ b → cond b (within lent (new totalSize pieceSize)) (notMade 1 none) ≡ made s → (validGeometry totalSize pieceSize ≡ true) × (new totalSize pieceSize ≡ s)
+    go : (b : Bool) → validGeometry totalSize pieceSize ≡ b → cond b (within lent (new totalSize pieceSize)) (notMade Geometry) ≡ made s
+        → (validGeometry totalSize pieceSize ≡ true) × (new totalSize pieceSize ≡ s)
     go true p e = (p, within-made lent (new totalSize pieceSize) s e)
     go false p e = let z : _≡_ {A = ℕ} 0 1 = cc in absurd (omega arith)
 
@@ -49,6 +54,22 @@ within-enough : (lent : ℕ) (s : Picker) → memoryNeeded s ≤ lent → within
 unfolding within
 within-enough lent s h = rw (le-ltb lent (memoryNeeded s) h)
 
+-- ---- taking the image
+-- with memory and room enough
+image-taken : (s : Picker) (lent room : ℕ) → memoryNeeded s ≤ lent → len (image s) ≤ room → takeImage s lent room ≡ taken (image s)
+unfolding takeImage
+image-taken s lent room h g = rw (le-ltb lent (memoryNeeded s) h, le-ltb room (len (image s)) g)
+
+-- what is taken is the image
+taken-image : (s : Picker) (lent room : ℕ) (bytes : List ℕ) → takeImage s lent room ≡ taken bytes → bytes ≡ image s
+unfolding takeImage
+taken-image s lent room bytes e = go (ltb lent (memoryNeeded s)) (ltb room (len (image s))) e
+  where
+    go : (a b : Bool) → cond a (notTaken ShortMemory) (cond b (notTaken ShortMemory) (taken (image s))) ≡ taken bytes → bytes ≡ image s
+    go true b e = let z : _≡_ {A = ℕ} 0 1 = cc in absurd (omega arith)
+    go false true e = let z : _≡_ {A = ℕ} 0 1 = cc in absurd (omega arith)
+    go false false e = cc
+
 -- ---- reached pickers are well-formed
 started-sound : {s : Picker} → Started s → Sound s
 started-sound (fromNew lent totalSize pieceSize s e) =
@@ -62,9 +83,23 @@ reached-sound (after b calls) = run-keeps _ calls (started-sound b)
 reached-well : {s : Picker} → Reached s → wellFormed s ≡ true
 reached-well r = sound-wellFormed _ (reached-sound r)
 
+-- ---- lists of calls
+-- one list after another is one list
+run-append : (s : Picker) (cs ds : List Call) → run (run s cs) ds ≡ run s (cs ++ ds)
+unfolding run
+run-append s [] ds = refl
+run-append s (c ∷ cs) ds = run-append (step s c .after) cs ds
+
+reached-stays : (s : Picker) → Reached s → (calls : List Call) → Reached (run s calls)
+reached-stays _ (after {s} b before) calls = subst Reached (sym (run-append s before calls)) (after b (before ++ calls))
+
+-- ---- the image is accepted
+accepted-back : (s : Picker) → Reached s → (lent : ℕ) → memoryNeeded s ≤ lent → readPicker lent (image s) ≡ made s
+unfolding readPicker readWithin
+accepted-back s r lent h = ap (readWithin lent) (image-accepted s (reached-well r)) ∙ within-enough lent s h
+
 -- ---- the theorem
 pub term-3 : Term3
-unfolding readPicker readWithin
 term-3 = record {
   agree = λ s t p q. (
     (λ e calls. ap (λ (x : Picker). answers x calls) (image-injective s t (reached-well p) (reached-well q) e)),
@@ -73,5 +108,14 @@ term-3 = record {
   imagesStay = λ s t p q e calls.
       ap (λ (x : Picker). image (run x calls)) (image-injective s t (reached-well p) (reached-well q) e);
   imageKept = λ lent bytes s e. accepted-image bytes s (made-read lent bytes s e) .0;
-  imageAccepted = λ s p lent h. ap (readWithin lent) (image-accepted s (reached-well p)) ∙ within-enough lent s h;
+  imageAccepted = accepted-back;
+  imageTaken = image-taken;
+  takenImage = taken-image;
+  reachedStays = reached-stays;
+  memoryStays = run-memory;
+  setBack = λ s r lent room bytes e away lent′ h. record {
+    picker = s;
+    read = ap (readPicker lent′) (taken-image s lent room bytes e) ∙ accepted-back s r lent′ (rw (run-memory s away) at h);
+    answersAs = λ later. refl;
+  };
 }

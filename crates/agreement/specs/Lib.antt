@@ -1,2 +1,3 @@
 pub mod Cases
+pub mod SoundPick
 pub mod Term3

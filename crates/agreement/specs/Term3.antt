@@ -3,9 +3,10 @@ use mathlib.Core.Path.{_≡_}
 use mathlib.Core.Logic.{_↔_}
 use Prim.Native.Nat.{ℕ, _≤_}
 use mathlib.Core.List.{List}
+use Rattle.model.specs.Lists.{len}
 use Rattle.model.specs.State.{Picker}
 use Rattle.model.specs.image.Image.{image}
-use Rattle.model.specs.Calls.{Call, answers, run, memoryNeeded, made, newPicker, readPicker}
+use Rattle.model.specs.Calls.{Call, answers, run, memoryNeeded, made, newPicker, readPicker, taken, takeImage}
 
 -- a picker made new, or read from an image, by a call that was not refused
 pub data Started : Picker → Type 0 where
@@ -16,7 +17,13 @@ pub data Started : Picker → Type 0 where
 pub data Reached : Picker → Type 0 where
   after : {s : Picker} → Started s → (calls : List Call) → Reached (run s calls)
 
--- For any two pickers that are reached, whatever their torrents:
+-- the bytes, read in so many words of memory, give a picker that answers every later list of calls as s does
+pub record SetBack (s : Picker) (lent : ℕ) (bytes : List ℕ) : Type 0 where
+  pub picker : Picker
+  pub read : readPicker lent bytes ≡ made picker
+  pub answersAs : (later : List Call) → answers picker later ≡ answers s later
+
+-- For any pickers that are reached, whatever their torrents:
 pub record Term3 : Type 0 where
   -- images are equal exactly when every later list of calls is answered alike
   pub agree :
@@ -28,3 +35,15 @@ pub record Term3 : Type 0 where
   pub imageKept : (lent : ℕ) (bytes : List ℕ) (s : Picker) → readPicker lent bytes ≡ made s → image s ≡ bytes
   -- the image of a picker is accepted, given memory enough, and gives that picker
   pub imageAccepted : (s : Picker) → Reached s → (lent : ℕ) → memoryNeeded s ≤ lent → readPicker lent (image s) ≡ made s
+  -- taking the image gives it, where memory and room are enough, and never anything else
+  pub imageTaken :
+      (s : Picker) (lent room : ℕ) → memoryNeeded s ≤ lent → len (image s) ≤ room → takeImage s lent room ≡ taken (image s)
+  pub takenImage : (s : Picker) (lent room : ℕ) (bytes : List ℕ) → takeImage s lent room ≡ taken bytes → bytes ≡ image s
+  -- calls lead from a picker that is reached to one that is, and the memory needed does not change on the way
+  pub reachedStays : (s : Picker) → Reached s → (calls : List Call) → Reached (run s calls)
+  pub memoryStays : (s : Picker) → (calls : List Call) → memoryNeeded (run s calls) ≡ memoryNeeded s
+  -- a station takes the image of its picker, goes away by any calls, and reads those bytes in the memory it has, which is enough for the
+  -- picker it has by then: from there on it answers as if it had never left
+  pub setBack :
+      (s : Picker) → Reached s → (lent room : ℕ) (bytes : List ℕ) → takeImage s lent room ≡ taken bytes
+      → (away : List Call) (lent′ : ℕ) → memoryNeeded (run s away) ≤ lent′ → SetBack s lent′ bytes

@@ -17,83 +17,83 @@ use Rattle.bitfield.specs.declared.Step.the-variants.{Bit}
 
 -- ---- reading
 -- bit i; unset from number `bits` on
-unfoldable pub getBit : List ℕ → ℕ → ℕ → Bool
+unfoldable pub getBit : (bytes : List ℕ) (bits i : ℕ) → Bool
 getBit bytes bits i = ltb i bits && bitAt bytes i
 
 -- how many of the bits below `bits` are set
-unfoldable pub countBits : List ℕ → ℕ → ℕ
+unfoldable pub countBits : (bytes : List ℕ) (bits : ℕ) → ℕ
 countBits bytes zero = 0
 countBits bytes (suc n) = countBits bytes n + bit (bitAt bytes n)
 
 -- every bit below `bits` is set
-unfoldable pub everySet : List ℕ → ℕ → Bool
+unfoldable pub everySet : (bytes : List ℕ) (bits : ℕ) → Bool
 everySet bytes zero = true
 everySet bytes (suc n) = bitAt bytes n && everySet bytes n
 
 -- there are bits, and every one is set
-unfoldable pub allSet : List ℕ → ℕ → Bool
+unfoldable pub allSet : (bytes : List ℕ) (bits : ℕ) → Bool
 allSet bytes bits = ltb 0 bits && everySet bytes bits
 
 -- the first set one of the n bits from i on
-unfoldable pub firstFrom : List ℕ → ℕ → ℕ → Found
+unfoldable pub firstFrom : (bytes : List ℕ) (i n : ℕ) → Found
 firstFrom bytes i zero = Nothing
 firstFrom bytes i (suc n) = elim (bitAt bytes i) [ true ↦ At i | false ↦ firstFrom bytes (suc i) n ]
 
 -- the first set bit below `bits`
-unfoldable pub firstSet : List ℕ → ℕ → Found
+unfoldable pub firstSet : (bytes : List ℕ) (bits : ℕ) → Found
 firstSet bytes bits = firstFrom bytes 0 bits
 
 -- the last unset bit below `bits`
-unfoldable pub lastClear : List ℕ → ℕ → Found
+unfoldable pub lastClear : (bytes : List ℕ) (bits : ℕ) → Found
 lastClear bytes zero = Nothing
 lastClear bytes (suc n) = elim (bitAt bytes n) [ true ↦ lastClear bytes n | false ↦ At n ]
 
 -- an iterator at bit i: the bit and the next place, or the end
-unfoldable pub nextBit : List ℕ → ℕ → ℕ → Step
+unfoldable pub nextBit : (bytes : List ℕ) (bits i : ℕ) → Step
 nextBit bytes bits i = cond (ltb i bits) (Bit (bitAt bytes i) (i + 1)) Step.Done
 
 -- ---- writing
 -- the number whose n binary digits, the highest first, are f 0 to f (n - 1)
-unfoldable pub digits : (ℕ → Bool) → ℕ → ℕ
+unfoldable pub digits : (f : ℕ → Bool) (n : ℕ) → ℕ
 digits f zero = 0
 digits f (suc n) = 2 * digits f n + bit (f n)
 
 -- byte b with the bits of m made v
-unfoldable pub withMask : ℕ → ℕ → Bool → ℕ
+unfoldable pub withMask : (b m : ℕ) (v : Bool) → ℕ
 withMask b m v = digits (λ r. cond (bitOf m (7 - r)) v (bitOf b (7 - r))) 8
 
 -- n bytes whose bit i is f i
-unfoldable pub fromBits : (ℕ → Bool) → ℕ → List ℕ
+unfoldable pub fromBits : (f : ℕ → Bool) (n : ℕ) → List ℕ
 fromBits f zero = []
 fromBits f (suc n) = digits f 8 ∷ fromBits (λ i. f (8 + i)) n
 
 -- the bits from `from` up to `to` are f's, every other is as it was
-unfoldable pub putRun : ℕ → ℕ → (ℕ → Bool) → List ℕ → List ℕ
+unfoldable pub putRun : (from to : ℕ) (f : ℕ → Bool) (bytes : List ℕ) → List ℕ
 putRun from to f bytes = fromBits (λ i. cond (leb from i && ltb i to) (f i) (bitAt bytes i)) (length bytes)
 
 -- bit i is v; nothing changes where i is not below `bits`
-unfoldable pub putBit : ℕ → ℕ → Bool → List ℕ → List ℕ
+unfoldable pub putBit : (bits i : ℕ) (v : Bool) (bytes : List ℕ) → List ℕ
 putBit bits i v bytes = cond (ltb i bits) (putRun i (i + 1) (λ j. v) bytes) bytes
 
 -- the bits below `bits` are f's and the spare bits behind them 0; the bytes behind those are as they were
-unfoldable pub filled : ℕ → (ℕ → Bool) → List ℕ → List ℕ
+unfoldable pub filled : (bits : ℕ) (f : ℕ → Bool) (bytes : List ℕ) → List ℕ
 filled bits f bytes = putRun 0 (8 * bitfieldBytes bits) (λ i. ltb i bits && f i) bytes
 
 -- the bits below `old` stay, and those from there on are v
-unfoldable pub grown : List ℕ → ℕ → Bool → ℕ → Bool
+unfoldable pub grown : (bytes : List ℕ) (old : ℕ) (v : Bool) (i : ℕ) → Bool
 grown bytes old v i = cond (ltb i old) (bitAt bytes i) v
 
 -- ---- answers
 -- whether the buffer has room for the bits
-unfoldable pub roomFor : ℕ → List ℕ → Stored
+unfoldable pub roomFor : (bits : ℕ) (buf : List ℕ) → Stored
 roomFor bits buf = cond (leb (bitfieldBytes bits) (length buf)) Done TooShort
 
 -- whether the data has the bits, and then the buffer the room
-unfoldable pub roomFrom : ℕ → List ℕ → List ℕ → Stored
-roomFrom bits from buf = cond (leb (bitfieldBytes bits) (length from)) (roomFor bits buf) DataShort
+unfoldable pub roomFrom : (bits : ℕ) (src buf : List ℕ) → Stored
+roomFrom bits src buf = cond (leb (bitfieldBytes bits) (length src)) (roomFor bits buf) DataShort
 
 -- the new bytes if a call is done, else the old ones
-unfoldable pub onDone : Stored → List ℕ → List ℕ → List ℕ
+unfoldable pub onDone : (want : Stored) (new old : List ℕ) → List ℕ
 onDone Done new old = new
 onDone DataShort new old = old
 onDone TooShort new old = old

@@ -8,6 +8,11 @@ ghost use lib.ListN.{length, take};
 ghost use Rattle.model.specs.Bep3.{partsOf, bitfieldBytes, bitAt, noneSet};
 ghost use Rattle.bitfield.specs.Bitfield.{getBit, countBits, allSet, firstSet, lastClear, nextBit, digits, withMask, putRun, putBit, filled, grown, roomFor, roomFrom, Did};
 
+// A byte with every bit set, and with its first one alone.
+const ALL_BITS: u8 = 255;
+
+const HIGH_BIT: u8 = 128;
+
 // What a call on a buffer answers: where the data or the buffer is too short, nothing is written.
 pub enum Stored {
     Done,
@@ -288,7 +293,7 @@ fn masked(b: u8, m: u8, v: bool) -> u8
 fn whole(v: bool) -> u8
     ensures { λ r. ⌜ r ≡ digits (λ i. v) 8 ⌝ }
 {
-    if v { 255 } else { 0 }
+    if v { ALL_BITS } else { 0 }
 }
 
 // Bit `index` becomes v, where it is below `bits`.
@@ -302,7 +307,7 @@ fn put_bit(buf: &mut [u8], bits: usize, index: usize, v: bool)
     if buf.len() <= at {
         return;
     }
-    buf[at] = masked(buf[at], 128 >> (index % 8), v);
+    buf[at] = masked(buf[at], HIGH_BIT >> (index % 8), v);
 }
 
 // The bits from number `from` to the end of its byte become v.
@@ -313,7 +318,7 @@ fn fill_rest(buf: &mut [u8], from: usize, v: bool)
     if buf.len() <= at {
         return;
     }
-    buf[at] = masked(buf[at], 255 >> (from % 8), v);
+    buf[at] = masked(buf[at], ALL_BITS >> (from % 8), v);
 }
 
 // The bits of the bytes from number `from` up to `to` become v.

@@ -23,23 +23,42 @@ pub record Parts (n partials blocks extents places : ℕ) : Type 0 where
   pub places-most : places ≤ maxPieces
 
 -- ---- bytes
+-- of the records of an image
+abbrev pub headBytes : ℕ
+headBytes = 24
+
+abbrev pub pieceBytes : ℕ
+pieceBytes = 10
+
+abbrev pub partialBytes : ℕ
+partialBytes = 6
+
+abbrev pub blockBytes : ℕ
+blockBytes = 13
+
+abbrev pub extentBytes : ℕ
+extentBytes = 5
+
+abbrev pub placeBytes : ℕ
+placeBytes = 5
+
 -- a head, and records of a piece, a partial, a block, an extent and a list place; `blocks` are those of all partials together
-unfoldable pub imageLength : ℕ → ℕ → ℕ → ℕ → ℕ → ℕ
+unfoldable pub imageLength : (n partials blocks extents places : ℕ) → ℕ
 imageLength n partials blocks extents places =
-    24 + 10 * n + 6 * partials + 13 * blocks + 5 * extents + 5 * places
+    headBytes + pieceBytes * n + partialBytes * partials + blockBytes * blocks + extentBytes * extents + placeBytes * places
 
 -- the blocks of all partials together
-unfoldable pub blocksOf : List DownloadingPiece → ℕ
+unfoldable pub blocksOf : (partials : List DownloadingPiece) → ℕ
 blocksOf [] = 0
 blocksOf (d ∷ ds) = len (d .blocks) + blocksOf ds
 
 -- with as many of each as there can be
-unfoldable pub largestImage : ℕ → ℕ → ℕ
+unfoldable pub largestImage : (n b : ℕ) → ℕ
 largestImage n b = imageLength n (least n maxPartials) (least n maxPartials * b) maxExtents n
 
 -- ---- of a geometry, 0 where it is not valid
-unfoldable pub wordsFor : ℕ → ℕ → ℕ
+unfoldable pub wordsFor : (totalSize pieceSize : ℕ) → ℕ
 wordsFor totalSize pieceSize = cond (validGeometry totalSize pieceSize) (wordsNeeded (numPieces totalSize pieceSize) (wholePieceBlocks pieceSize)) 0
 
-unfoldable pub bytesFor : ℕ → ℕ → ℕ
+unfoldable pub bytesFor : (totalSize pieceSize : ℕ) → ℕ
 bytesFor totalSize pieceSize = cond (validGeometry totalSize pieceSize) (largestImage (numPieces totalSize pieceSize) (wholePieceBlocks pieceSize)) 0

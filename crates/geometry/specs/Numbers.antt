@@ -6,18 +6,18 @@ use Rattle.model.specs.Bep3.{numPieces, blockLength, wholePieceBlocks, pieceBlo
 use Rattle.model.specs.State.{maxPieces, maxPieceSize, extentBlocks, extentSize}
 
 -- the blocks of piece i that hold more than pad bytes, where it has so many pad bytes
-unfoldable pub payloadBlocks : ℕ → ℕ → ℕ → ℕ → ℕ
+unfoldable pub payloadBlocks : (totalSize pieceSize i pad : ℕ) → ℕ
 payloadBlocks totalSize pieceSize i pad = pieceBlocks totalSize pieceSize i - pad / blockLength pieceSize
 
 -- the extent of piece i
-unfoldable pub extentOf : ℕ → ℕ → ℕ
+unfoldable pub extentOf : (b i : ℕ) → ℕ
 extentOf b i = i / extentSize b
 
 -- the first piece of extent e, and the one past its last
-unfoldable pub extentBegin : ℕ → ℕ → ℕ
+unfoldable pub extentBegin : (b e : ℕ) → ℕ
 extentBegin b e = e * extentSize b
 
-unfoldable pub extentEnd : ℕ → ℕ → ℕ → ℕ
+unfoldable pub extentEnd : (n b e : ℕ) → ℕ
 extentEnd n b e = least (extentBegin b e + extentSize b) n
 
 -- ---- the bounds of a valid geometry

@@ -4,6 +4,7 @@ use crate::parts::parts_of;
 use crate::pieces::number_of;
 use crate::pieces::piece_length;
 use crate::pieces::piece_size;
+use types::BLOCK_SIZE;
 use types::PieceIndex;
 ghost use mathlib.Core.Path.{_≡_};
 ghost use Prim.Native.Nat.{_<_};
@@ -15,15 +16,15 @@ ghost use Rattle.geometry.specs.Numbers.{payloadBlocks};
 pub fn block_size(size: u64) -> u64
     ensures { λ r. ⌜ r ≡ blockLength size ⌝ }
 {
-    if 16384 < size { 16384 } else { size }
+    if BLOCK_SIZE < size { BLOCK_SIZE } else { size }
 }
 
 // The number of blocks of so many bytes. The divisor is a constant where pieces are longer than a block.
 fn blocks_of(long: u64, size: u64) -> u64
     ensures { λ r. ⌜ r ≡ blockCount long size ⌝ }
 {
-    if 16384 < size {
-        return parts_of(long, 16384);
+    if BLOCK_SIZE < size {
+        return parts_of(long, BLOCK_SIZE);
     }
     parts_of(long, size)
 }

@@ -1,6 +1,7 @@
 // Extents: runs of 256 / b pieces, where b is the number of blocks of a piece. There are none where that is 256.
 use crate::parts::parts_of;
 use crate::pieces::number_of;
+use types::MAX_PIECE_AFFINITY_EXTENT;
 use types::PieceIndex;
 ghost use mathlib.Core.Path.{_≡_};
 ghost use Prim.Native.Nat.{_<_};
@@ -21,14 +22,14 @@ pub fn extent_size(b: u64) -> u64
     if b == 0 {
         return 0;
     }
-    256 / b
+    MAX_PIECE_AFFINITY_EXTENT / b
 }
 
 // How many extents n pieces have.
 pub fn num_extents(n: u64, b: u64) -> u64
     ensures { λ r. ⌜ r ≡ numExtents n b ⌝ }
 {
-    if b == 256 {
+    if b == MAX_PIECE_AFFINITY_EXTENT {
         return 0;
     }
     parts_of(n, extent_size(b))

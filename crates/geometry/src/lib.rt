@@ -2,6 +2,7 @@
 // `total` is the torrent's length and `size` the length of a whole piece, in bytes; `b` is the number of blocks of a whole piece.
 mod blocks;
 mod extents;
+mod limits;
 mod needs;
 mod parts;
 mod pieces;
@@ -17,6 +18,7 @@ pub use extents::extent_for;
 pub use extents::extent_pieces;
 pub use extents::extent_size;
 pub use extents::num_extents;
+pub use limits::limit_values;
 pub use needs::image_length;
 pub use needs::image_needed;
 pub use needs::largest_image;

@@ -3,16 +3,40 @@ use crate::blocks::blocks_per_piece;
 use crate::parts::lesser;
 use crate::pieces::num_pieces;
 use crate::pieces::valid_geometry;
+use types::MAX_EXTENTS;
+use types::MAX_PARTIALS;
 ghost use mathlib.Core.Path.{_≡_};
 ghost use Rattle.model.specs.Calls.{wordsNeeded};
 ghost use Rattle.geometry.specs.Needs.{Small, Parts, imageLength, largestImage, wordsFor, bytesFor};
+
+// Words of the head, and of each piece, partial and block.
+const HEAD_WORDS: u64 = 16;
+
+const PIECE_WORDS: u64 = 6;
+
+const PARTIAL_WORDS: u64 = 3;
+
+const BLOCK_WORDS: u64 = 4;
+
+// Bytes of the records of an image: the head, and of each piece, partial, block, extent and list place.
+const HEAD_BYTES: u64 = 24;
+
+const PIECE_BYTES: u64 = 10;
+
+const PARTIAL_BYTES: u64 = 6;
+
+const BLOCK_BYTES: u64 = 13;
+
+const EXTENT_BYTES: u64 = 5;
+
+const PLACE_BYTES: u64 = 5;
 
 // Words for a picker of n pieces of b blocks.
 pub fn words_needed(n: u64, b: u64) -> u64
     requires { ⌜ Small n b ⌝ }
     ensures { λ r. ⌜ r ≡ wordsNeeded n b ⌝ }
 {
-    16 + 6 * n + lesser(n, 512) * (3 + 4 * b)
+    HEAD_WORDS + PIECE_WORDS * n + lesser(n, MAX_PARTIALS) * (PARTIAL_WORDS + BLOCK_WORDS * b)
 }
 
 // Bytes of an image of n pieces, so many partials with so many blocks together, extents and list places.
@@ -20,7 +44,12 @@ pub fn image_length(n: u64, partials: u64, blocks: u64, extents: u64, places: u6
     requires { ⌜ Parts n partials blocks extents places ⌝ }
     ensures { λ r. ⌜ r ≡ imageLength n partials blocks extents places ⌝ }
 {
-    24 + 10 * n + 6 * partials + 13 * blocks + 5 * extents + 5 * places
+    HEAD_BYTES
+        + PIECE_BYTES * n
+        + PARTIAL_BYTES * partials
+        + BLOCK_BYTES * blocks
+        + EXTENT_BYTES * extents
+        + PLACE_BYTES * places
 }
 
 // Bytes that no image of a picker of n pieces of b blocks passes.
@@ -28,8 +57,8 @@ pub fn largest_image(n: u64, b: u64) -> u64
     requires { ⌜ Small n b ⌝ }
     ensures { λ r. ⌜ r ≡ largestImage n b ⌝ }
 {
-    let partials = lesser(n, 512);
-    image_length(n, partials, partials * b, 5, n)
+    let partials = lesser(n, MAX_PARTIALS);
+    image_length(n, partials, partials * b, MAX_EXTENTS, n)
 }
 
 // Words for a picker of this geometry; 0 where it is not valid.

@@ -1,6 +1,8 @@
 // Pieces: which geometries are valid, how many pieces there are, and how long each is.
 use crate::parts::part_length;
 use crate::parts::parts_of;
+use types::MAX_PIECE_SIZE;
+use types::MAX_PIECES;
 use types::PieceIndex;
 ghost use mathlib.Core.Path.{_≡_};
 ghost use Prim.Native.Nat.{_<_};
@@ -18,10 +20,10 @@ pub fn valid_geometry(total: u64, size: u64) -> bool
     if size < 1 {
         return false;
     }
-    if size > 4194304 {
+    if size > MAX_PIECE_SIZE {
         return false;
     }
-    total <= 4096 * size
+    total <= MAX_PIECES * size
 }
 
 // The number of pieces.
@@ -44,7 +46,7 @@ pub fn number_of(piece: PieceIndex) -> u64
     ensures { λ r. ⌜ r ≡ indexOf (piece .0) ⌝ }
 {
     let i = piece.get();
-    i as u64
+    types::usize_to_u64(i)
 }
 
 // The length of a piece.

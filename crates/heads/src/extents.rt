@@ -10,7 +10,7 @@ pub fn extent_count(mem: &[u64], s: layout::Shape) -> usize
     requires { ⌜ Room s (now mem) ⌝ }
     ensures { λ r. ⌜ r ≡ len (decode (now (mem .entry)) .recentExtents) ⌝ }
 {
-    layout::idx(layout::head_word(mem, 8))
+    types::u64_to_usize(layout::head_word(mem, 8))
 }
 
 pub fn extent(mem: &[u64], s: layout::Shape, k: usize) -> u64
@@ -26,9 +26,9 @@ pub fn push_extent(mem: &mut [u64], s: layout::Shape, v: u64)
     requires { ⌜ len (decode (now mem) .recentExtents) < 5 ⌝ }
     ensures { λ _. ⌜ Became s (now (mem .entry)) (now (mem .exit)) (withRecentExtents (decode (now (mem .entry)) .recentExtents ++ (v ∷ [])) (decode (now (mem .entry)))) ⌝ }
 {
-    let n = layout::idx(layout::head_word(mem, 8));
+    let n = types::u64_to_usize(layout::head_word(mem, 8));
     layout::set_head_word(mem, 9 + n, v);
-    let w = layout::word(n + 1);
+    let w = types::usize_to_u64(n + 1);
     layout::set_head_word(mem, 8, w);
 }
 
@@ -38,13 +38,13 @@ pub fn remove_extent(mem: &mut [u64], s: layout::Shape, p: usize)
     requires { ⌜ p < len (decode (now mem) .recentExtents) ⌝ }
     ensures { λ _. ⌜ Became s (now (mem .entry)) (now (mem .exit)) (withRecentExtents (removeNth p (decode (now (mem .entry)) .recentExtents)) (decode (now (mem .entry)))) ⌝ }
 {
-    let n = layout::idx(layout::head_word(mem, 8));
+    let n = types::u64_to_usize(layout::head_word(mem, 8));
     let mut j = p;
     while j + 1 < n {
         let v = layout::head_word(mem, 10 + j);
         layout::set_head_word(mem, 9 + j, v);
         j += 1;
     }
-    let w = layout::word(n - 1);
+    let w = types::usize_to_u64(n - 1);
     layout::set_head_word(mem, 8, w);
 }

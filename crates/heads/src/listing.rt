@@ -20,7 +20,7 @@ pub fn list_length(mem: &[u64], s: layout::Shape) -> usize
     requires { ⌜ Room s (now mem) ⌝ }
     ensures { λ r. ⌜ r ≡ len (listOf (decode (now (mem .entry)) .listing)) ⌝ }
 {
-    layout::idx(layout::head_word(mem, 6))
+    types::u64_to_usize(layout::head_word(mem, 6))
 }
 
 // A place of the list's region, within the list or behind it.
@@ -46,7 +46,7 @@ pub fn set_list_length(mem: &mut [u64], s: layout::Shape, len: usize)
     requires { ⌜ len ≤ s .pieces ⌝ }
     ensures { λ _. ⌜ Became s (now (mem .entry)) (now (mem .exit)) (withListing (fresh (front len (listWords (now (mem .entry)) (s .pieces)))) (decode (now (mem .entry)))) ⌝ }
 {
-    let w = layout::word(len);
+    let w = types::usize_to_u64(len);
     layout::set_head_word(mem, 6, w);
     layout::set_head_word(mem, 5, 0);
 }

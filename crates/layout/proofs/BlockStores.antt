@@ -18,7 +18,8 @@ use Rattle.layout.specs.Layout.{partialHeld, partialsHeld, decode, decod
 use Rattle.layout.specs.Layout.{Became}
 use Rattle.layout.proofs.TabLaws.{size-tab, at-tab, tab-ext, tab-put, put-past, choose-same, choose-other}
 use Rattle.layout.proofs.SpotLaws.{block-from, block-below, block-field, block-place, block-index, block-in}
-use Rattle.layout.proofs.Same.{SameHead, SamePieces, SamePartials, SameBeyond, head-same, pieces-above, partials-above, block-other}
+use Rattle.layout.specs.Frames.{Around, BlockPut, SameHead, SamePieces, SamePartials, SameBeyond}
+use Rattle.layout.proofs.Same.{head-same, pieces-above, partials-above, block-other}
 use Rattle.layout.proofs.Same.{beyond-same}
 use Rattle.layout.proofs.Readers.{partial-at, pieces-same, order-same, listing-same, extents-same, block-same, partial-same}
 use Rattle.layout.proofs.Readers.{decode-parts}
@@ -67,13 +68,6 @@ module _ (s : Shape) (xs : List ℕ) (r : Room s xs) where
         ∙ at-tab (pieceBlocks (headWord xs 0) (headWord xs 1) (partialWord xs (s .pieces) 0 k)) (blockHeld xs (s .pieces) (s .blocks) (partialWord xs (s .pieces) 2 k)) j noBlock (omega (arith, here))
 
 -- ---- all regions but the blocks as they were
-pub record Around (s : Shape) (xs ys : List ℕ) : Type 0 where
-  pub long : length ys ≡ length xs
-  pub head : SameHead xs ys
-  pub pieces : SamePieces (s .pieces) xs ys
-  pub partials : SamePartials (s .pieces) xs ys
-  pub beyond : SameBeyond (s .pieces) (s .blocks) xs ys
-
 pub around-none : (s : Shape) (xs : List ℕ) → Around s xs xs
 around-none s xs = record { long = refl; head = λ k h. refl; pieces = λ f i h l. refl; partials = λ f k h l. refl; beyond = λ k h. refl }
 
@@ -109,12 +103,6 @@ module _ (n b : ℕ) (xs : List ℕ) (f p j v : ℕ) (hp : p < placesFor n) (hj 
       block-other xs (blockSpot n b f p j) v n b g q i (λ e. ne (block-place n b g f q p i j hq hp hi hj e) (block-index n b g f q p i j hq hp hi hj e))
 
 -- ---- all four words of a block
--- block x stands at j of place p, and all else is as it was
-pub record BlockPut (s : Shape) (xs ys : List ℕ) (p j : ℕ) (x : Block) : Type 0 where
-  pub around : Around s xs ys
-  pub is : blockHeld ys (s .pieces) (s .blocks) p j ≡ x
-  pub others : (q i : ℕ) → q < placesFor (s .pieces) → i < s .blocks → (q ≡ p → i ≡ j → ⊥) → blockHeld ys (s .pieces) (s .blocks) q i ≡ blockHeld xs (s .pieces) (s .blocks) q i
-
 module _ (s : Shape) (xs : List ℕ) (r : Room s xs) (p j a b c d : ℕ) (hp : p < placesFor (s .pieces)) (hj : j < s .blocks) where
   abbrev spot : ℕ → ℕ
   spot f = blockSpot (s .pieces) (s .blocks) f p j

@@ -16,7 +16,8 @@ use Rattle.layout.specs.Layout.{headWord, pieceWord, yes?, piecesHeld, e
 use Rattle.layout.specs.Layout.{decodeAt, headWith, Room, Kept}
 use Rattle.layout.proofs.TabLaws.{tab-ext, tab-front, tab-more, choose-same, choose-other}
 use Rattle.layout.proofs.SpotLaws.{words-needed}
-use Rattle.layout.proofs.Same.{SamePieces, SamePartials, SameBlocks, SameBeyond, head-other, head-stored, pieces-below}
+use Rattle.layout.specs.Frames.{SamePieces, SamePartials, SameBlocks, SameBeyond}
+use Rattle.layout.proofs.Same.{head-other, head-stored, pieces-below}
 use Rattle.layout.proofs.Same.{partials-below, blocks-below, beyond-same}
 use Rattle.layout.proofs.Readers.{pieces-same, order-same, listing-same, decode-parts}
 use Rattle.layout.proofs.RoomLaws.{kept-steady, partials-same, decoded}

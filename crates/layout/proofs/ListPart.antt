@@ -15,7 +15,7 @@ use Rattle.layout.specs.Layout.{cell, pieceSpot, partialSpot, blockSpot,
 use Rattle.layout.specs.Layout.{listingHeld, decode, decodeAt, inListing, Room, Kept, Became}
 use Rattle.layout.proofs.TabLaws.{size-tab, at-tab}
 use Rattle.layout.proofs.SpotLaws.{cell-below, partial-from, block-from, words-needed}
-use Rattle.layout.proofs.Same.{SameHead, SamePartials, SameBlocks}
+use Rattle.layout.specs.Frames.{SameHead, SamePartials, SameBlocks}
 use Rattle.layout.proofs.Readers.{pieces-same, extents-same, decode-parts}
 use Rattle.layout.proofs.RoomLaws.{kept-same, partials-same, decoded}
 use Rattle.layout.proofs.Meanings.{order-is}

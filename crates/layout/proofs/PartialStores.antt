@@ -15,20 +15,14 @@ use Rattle.layout.specs.Layout.{placesFor, partialSpot, headWord, partia
 use Rattle.layout.specs.Layout.{extentsHeld, decode, decodeAt, noPartial, partialIn, withPartial, withBits, Room, Kept, Became}
 use Rattle.layout.proofs.TabLaws.{tab-put, tab-ext, choose-same, choose-other}
 use Rattle.layout.proofs.SpotLaws.{partial-from, partial-below, partial-field, partial-place, partial-in, words-needed}
-use Rattle.layout.proofs.Same.{SamePieces, SameBlocks, SameBeyond, head-other, head-same, pieces-below, pieces-above, partial-other}
+use Rattle.layout.specs.Frames.{Beside, SamePieces, SameBlocks, SameBeyond}
+use Rattle.layout.proofs.Same.{head-other, head-same, pieces-below, pieces-above, partial-other}
 use Rattle.layout.proofs.Same.{blocks-below, beyond-same}
 use Rattle.layout.proofs.Readers.{partial-at, pieces-same, order-same, listing-same, block-same, blocks-same, partial-same}
 use Rattle.layout.proofs.Readers.{decode-parts}
 use Rattle.layout.proofs.RoomLaws.{Steady, kept-steady, blocks-within, partial-room, place-room, decoded}
 
 -- ---- all as it was but the partials' words and how many they are
-pub record Beside (s : Shape) (xs ys : List ℕ) : Type 0 where
-  pub long : length ys ≡ length xs
-  pub head : (k : ℕ) → k < 16 → k ≢ 7 → headWord ys k ≡ headWord xs k
-  pub pieces : SamePieces (s .pieces) xs ys
-  pub blocks : SameBlocks (s .pieces) (s .blocks) xs ys
-  pub beyond : SameBeyond (s .pieces) (s .blocks) xs ys
-
 pub beside-none : (s : Shape) (xs : List ℕ) → Beside s xs xs
 beside-none s xs = record { long = refl; head = λ k h ne. refl; pieces = λ f i h l. refl; blocks = λ f p j h l m. refl; beyond = λ k h. refl }
 

@@ -12,7 +12,7 @@ use Rattle.layout.specs.Layout.{headWord, pieceWord, partialWord, blockW
 use Rattle.layout.specs.Layout.{blocksHeld, partialFrom, partialHeld, piecesHeld, partialsHeld, extentsHeld, listHeld, listingHeld}
 use Rattle.layout.specs.Layout.{decodeAt}
 use Rattle.layout.proofs.TabLaws.{size-tab, at-tab, tab-ext}
-use Rattle.layout.proofs.Same.{SameHead}
+use Rattle.layout.specs.Frames.{SameHead}
 
 -- ---- what stands at a place
 module _ (n b : ℕ) (xs : List ℕ) where

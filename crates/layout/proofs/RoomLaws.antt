@@ -14,7 +14,7 @@ use Rattle.layout.specs.Layout.{decodeAt, Room, Kept, Became}
 use Rattle.layout.specs.Tables.{tab}
 use Rattle.layout.proofs.TabLaws.{tab-ext}
 use Rattle.geometry.proofs.ValidLaws.{bounds}
-use Rattle.layout.proofs.Same.{SameHead, SamePartials, SameBlocks, SameBeyond}
+use Rattle.layout.specs.Frames.{SameHead, SamePartials, SameBlocks, SameBeyond}
 use Rattle.layout.proofs.Readers.{partial-same, block-same}
 
 -- ---- what they give

@@ -9,22 +9,8 @@ use lib.Seq.{getD-set-same, getD-set-other}
 use lib.ListN.{length}
 use Rattle.model.specs.Calls.{wordsNeeded}
 use Rattle.layout.specs.Layout.{placesFor, pieceSpot, partialSpot, blockSpot, headWord, pieceWord, partialWord, blockWord}
+use Rattle.layout.specs.Frames.{SameHead, SamePieces, SamePartials, SameBlocks, SameBeyond}
 use Rattle.layout.proofs.SpotLaws.{piece-from, piece-below, partial-from, partial-below, block-from}
-
-abbrev pub SameHead : List ℕ → List ℕ → Type 0
-SameHead xs ys = (k : ℕ) → k < 16 → headWord ys k ≡ headWord xs k
-
-abbrev pub SamePieces : ℕ → List ℕ → List ℕ → Type 0
-SamePieces n xs ys = (f i : ℕ) → f < 6 → i < n → pieceWord ys n f i ≡ pieceWord xs n f i
-
-abbrev pub SamePartials : ℕ → List ℕ → List ℕ → Type 0
-SamePartials n xs ys = (f k : ℕ) → f < 3 → k < placesFor n → partialWord ys n f k ≡ partialWord xs n f k
-
-abbrev pub SameBlocks : ℕ → ℕ → List ℕ → List ℕ → Type 0
-SameBlocks n b xs ys = (f p j : ℕ) → f < 4 → p < placesFor n → j < b → blockWord ys n b f p j ≡ blockWord xs n b f p j
-
-abbrev pub SameBeyond : ℕ → ℕ → List ℕ → List ℕ → Type 0
-SameBeyond n b xs ys = (k : ℕ) → wordsNeeded n b ≤ k → getD ys k 0 ≡ getD xs k 0
 
 -- ---- a store at spot p
 module _ (xs : List ℕ) (p v : ℕ) where

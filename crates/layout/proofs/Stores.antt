@@ -16,7 +16,8 @@ use Rattle.layout.specs.Layout.{pieceSpot, headWord, pieceWord, queueFro
 use Rattle.layout.specs.Layout.{listWords, decode, decodeAt, pieceWith, inListing, Room, Kept}
 use Rattle.layout.proofs.TabLaws.{size-tab, tab-ext, tab-put, put-past, choose-same, choose-other, choose-map}
 use Rattle.layout.proofs.SpotLaws.{piece-from, piece-below, piece-field, piece-place, piece-in, words-needed}
-use Rattle.layout.proofs.Same.{SameHead, SamePartials, SameBlocks, head-same, piece-other, partials-below, blocks-below, beyond-same}
+use Rattle.layout.specs.Frames.{SameHead, SamePartials, SameBlocks}
+use Rattle.layout.proofs.Same.{head-same, piece-other, partials-below, blocks-below, beyond-same}
 use Rattle.layout.proofs.Readers.{piece-at, piece-same, pieces-same, order-same, listing-same, extents-same, decode-parts}
 use Rattle.layout.proofs.RoomLaws.{kept-same, partials-same, decoded}
 

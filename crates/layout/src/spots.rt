@@ -15,28 +15,6 @@ pub struct Shape {
     pub places: usize,
 }
 
-// A word as an index.
-pub fn idx(x: u64) -> usize
-    ensures { λ r. ⌜ r ≡ x ⌝ }
-{
-    x as usize
-}
-
-// An index as a word.
-pub fn word(x: usize) -> u64
-    ensures { λ r. ⌜ r ≡ x ⌝ }
-{
-    x as u64
-}
-
-// A small word in 16 bits.
-pub fn short(x: u64) -> u16
-    requires { ⌜ x < 65536 ⌝ }
-    ensures { λ r. ⌜ r ≡ x ⌝ }
-{
-    x as u16
-}
-
 fn lesser(a: usize, b: usize) -> usize
     ensures { λ r. ⌜ r ≡ min a b ⌝ }
 {
@@ -52,8 +30,8 @@ pub fn shape_of(mem: &[u64]) -> Shape
     requires { ⌜ validGeometry (headWord (now mem) 0) (headWord (now mem) 1) ≡ true ⌝ }
     ensures { λ r. ⌜ ShapeOf r (now (mem .entry)) ⌝ }
 {
-    let pieces = idx(num_pieces(mem[0], mem[1]));
-    let blocks = idx(blocks_per_piece(mem[1]));
+    let pieces = types::u64_to_usize(num_pieces(mem[0], mem[1]));
+    let blocks = types::u64_to_usize(blocks_per_piece(mem[1]));
     let places = lesser(pieces, 512);
     Shape {
         pieces: pieces,

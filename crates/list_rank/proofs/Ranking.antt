@@ -16,7 +16,7 @@ use Rattle.types.specs.Queue.{queueNumber}
 use Rattle.model.specs.State.{Piece, sameQueue, isOpen}
 use Rattle.model.specs.list.Order.{unlisted, adjustment, bucketNumber, bucket, rankOf}
 use Rattle.model.proofs.base.Counts.{cond-both}
-use Rattle.list_rank.specs.Ranks.{unlistedBy, off, Numbers, IsRank}
+use Rattle.list_rank.specs.Ranks.{unlistedBy, adjustmentOf, Numbers, IsRank}
 
 -- ---- the tests
 any : (a h z s u : Bool) → ((((a || h) || z) || s) || u) ≡ (a || (h || (z || (s || u))))
@@ -44,23 +44,23 @@ wanted false b e = refl
 -- ---- what the state takes off
 module _ (state : ℕ) where
   -- a reverse one
-  pub off-reverse : (eqb state 5 || eqb state 6) ≡ true → 1 ≡ off state
-  unfolding off
-  off-reverse e = rw e
+  pub adjustment-reverse : (eqb state 5 || eqb state 6) ≡ true → 1 ≡ adjustmentOf state
+  unfolding adjustmentOf
+  adjustment-reverse e = rw e
 
   module _ (e : (eqb state 5 || eqb state 6) ≡ false) where
     -- in no queue
-    pub off-open : state ≡ 4 → 2 ≡ off state
-    unfolding off
-    off-open q = rw (e, eq-eqb state 4 q)
+    pub adjustment-open : state ≡ 4 → 2 ≡ adjustmentOf state
+    unfolding adjustmentOf
+    adjustment-open q = rw (e, eq-eqb state 4 q)
 
     -- any other
-    pub off-other : state ≢ 4 → 3 ≡ off state
-    unfolding off
-    off-other q = rw (e, ne-eqb state 4 q)
+    pub adjustment-other : state ≢ 4 → 3 ≡ adjustmentOf state
+    unfolding adjustmentOf
+    adjustment-other q = rw (e, ne-eqb state 4 q)
 
-adjustment-is : (q : DownloadQueue) → off (queueNumber q) ≡ adjustment q
-unfolding off adjustment isOpen sameQueue
+adjustment-is : (q : DownloadQueue) → adjustmentOf (queueNumber q) ≡ adjustment q
+unfolding adjustmentOf adjustment isOpen sameQueue
 adjustment-is Downloading = refl
 adjustment-is Full = refl
 adjustment-is Finished = refl
@@ -69,9 +69,9 @@ adjustment-is Open = refl
 adjustment-is DownloadingReverse = refl
 adjustment-is FullReverse = refl
 
-off-least : (state : ℕ) → (1 ≤ off state) × (off state ≤ 3)
-unfolding off
-off-least state =
+adjustment-least : (state : ℕ) → (1 ≤ adjustmentOf state) × (adjustmentOf state ≤ 3)
+unfolding adjustmentOf
+adjustment-least state =
     cond-both (λ (n : ℕ). (1 ≤ n) × (n ≤ 3)) (eqb state 5 || eqb state 6) _ _ (λ t. (omega arith, omega arith))
     (λ t. cond-both (λ (n : ℕ). (1 ≤ n) × (n ≤ 3)) (eqb state 4) _ _ (λ u. (omega arith, omega arith)) (λ u. (omega arith, omega arith)))
 
@@ -79,7 +79,7 @@ off-least state =
 module _ (seeds peerCount state priority : ℕ) (flushed : Bool) where
   unlisted-is : (p : Piece) → Numbers peerCount state priority flushed p → unlistedBy seeds peerCount state priority flushed ≡ unlisted seeds p
   unfolding unlistedBy unlisted sameQueue
-  unlisted-is p m = rw (← m .counts, ← m .states, ← m .priorities, ← m .flushes)
+  unlisted-is p m = rw (← m .peerCount-is, ← m .state-is, ← m .priority-is, ← m .flushed-is)
 
   -- a piece in no bucket
   pub rank-none : unlistedBy seeds peerCount state priority flushed ≡ true → IsRank seeds peerCount state priority flushed 0
@@ -100,17 +100,17 @@ module _ (seeds peerCount state priority : ℕ) (flushed : Bool) where
         (one-le-mul (omega arith) (omega arith), mul-le-mul a c)
 
     -- what is taken off is 1 to 3
-    pub taken-off : (1 ≤ off state) × (off state ≤ 3)
-    taken-off = off-least state
+    pub taken-off : (1 ≤ adjustmentOf state) × (adjustmentOf state ≤ 3)
+    taken-off = adjustment-least state
 
     -- a piece in a bucket
-    pub rank-some : (d : ℕ) → d ≡ off state → IsRank seeds peerCount state priority flushed ((peerCount + 1) * (8 - priority) * 3 - d + 1)
+    pub rank-some : (d : ℕ) → d ≡ adjustmentOf state → IsRank seeds peerCount state priority flushed ((peerCount + 1) * (8 - priority) * 3 - d + 1)
     unfolding bucket rankOf bucketNumber
     rank-some d ed = record {
       is = λ p m. (
           let f = sym (unlisted-is p m) ∙ e in
-          let g : d ≡ adjustment (p .state) = ed ∙ ap off (sym (m .states)) ∙ adjustment-is (p .state) in
-          rw (f, m .counts, m .priorities, g, add-one)
+          let g : d ≡ adjustment (p .state) = ed ∙ ap adjustmentOf (sym (m .state-is)) ∙ adjustment-is (p .state) in
+          rw (f, m .peerCount-is, m .priority-is, g, add-one)
           );
       low = let q = product in let r = taken-off in omega arith;
     }

@@ -1,5 +1,5 @@
 pub mod Shuffling
 pub mod Stable
 pub mod Tabling
-pub mod Dealing
+pub mod Placing
 pub mod Building

@@ -18,7 +18,7 @@ use Rattle.model.proofs.list.GroupRise.{Rising, rising-is}
 use Rattle.model.proofs.list.GroupMoves.{group-has, group-ends, group-starts}
 use Rattle.model.proofs.list.ListedMoves.{keys-same}
 use Rattle.list_moves.specs.Places.{IsGroup}
-use Rattle.list_update.specs.Relisting.{former, Ready}
+use Rattle.list_update.specs.Updating.{former, Ready}
 use Rattle.list_update.proofs.Moving.{earlier-front, later-front, swap-front, drawn-in}
 
 -- ---- the ranks as they were
@@ -34,17 +34,17 @@ module _ (b : ℕ → ℕ) (old x : ℕ) where
   former-other y n = rw (ne-eqb y x n)
 
   -- where x stands at one place only, they are the new ones but there
-  former-keys : (l : List ℕ) (i : ℕ) → i < length l → getD l i 0 ≡ x → count (eqb x) l ≡ 1 → map (former b old x) l ≡ set (map b l) i old
+  former-ranks : (l : List ℕ) (i : ℕ) → i < length l → getD l i 0 ≡ x → count (eqb x) l ≡ 1 → map (former b old x) l ≡ set (map b l) i old
   unfolding count
-  former-keys [] i h q e = absurd (omega arith)
-  former-keys (y ∷ ys) zero h q e =
+  former-ranks [] i h q e = absurd (omega arith)
+  former-ranks (y ∷ ys) zero h q e =
       ap₂ (λ (v : ℕ) (vs : List ℕ). v ∷ vs) (ap (former b old x) q ∙ former-same)
       (keys-same b (former b old x) ys
       (λ z g. former-other z (λ (p : z ≡ x). let k : 1 ≤ count (eqb x) ys = rw p at g in absurd (omega (arith, eq-bit x y (sym q))))))
-  former-keys (y ∷ ys) (suc i) h q e = elim (ℕ-discrete y x) [
+  former-ranks (y ∷ ys) (suc i) h q e = elim (ℕ-discrete y x) [
     | yes p ↦ absurd (omega (arith, eq-bit x y (sym p), stands x 0 ys i (le-of-suc-le-suc h) q))
     | no p ↦ ap₂ (λ (v : ℕ) (vs : List ℕ). v ∷ vs) (former-other y p)
-        (former-keys ys i (le-of-suc-le-suc h) q (omega (arith, ne-bit x y (λ r. p (sym r)))))
+        (former-ranks ys i (le-of-suc-le-suc h) q (omega (arith, ne-bit x y (λ r. p (sym r)))))
   ]
 
 -- ---- x stands in the list, at its place
@@ -62,7 +62,7 @@ module _ {b : ℕ → ℕ} {pieces old x : ℕ} (l : List ℕ) (r : Ready b piec
 
   -- with the old rank at its place, ranks do not fall
   pub rose : Rising 0 (set (map b l) (placeOf x l) old)
-  rose = rw (former-keys b old x l (placeOf x l) inside there once) at (rising-is (former b old x) l .0 (r .order))
+  rose = rw (former-ranks b old x l (placeOf x l) inside there once) at (rising-is (former b old x) l .0 (r .order))
 
 -- ---- `change`
 -- x stands at place i, and its new group of size g at s

@@ -1,3 +1,3 @@
 pub mod Moving
 pub mod Changing
-pub mod Mending
+pub mod UpdateLaws

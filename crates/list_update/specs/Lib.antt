@@ -1,1 +1,1 @@
-pub mod Relisting
+pub mod Updating

@@ -1,5 +1,5 @@
 pub mod Ranking
 pub mod Regions
-pub mod Renewals
-pub mod Mendings
+pub mod Rebuilds
+pub mod Updates
 pub mod Moving

@@ -1,4 +1,4 @@
--- A piece changed, and the list mended after it: what the mending asks follows from the list before the change, and both together are the
+-- A piece changed, and the list updated after it: what the update asks follows from the list before the change, and both together are the
 -- model's move. Assumes nothing.
 use mathlib.Core.Path.{_≡_, sym, ap, _∙_, subst, fun-ext}
 use mathlib.Core.List.{List}
@@ -12,7 +12,7 @@ use Rattle.model.proofs.sound.SoundFields.{Alone}
 use Rattle.layout.specs.declared.spots.Shape.{Shape}
 use Rattle.layout.specs.Layout.{decode, Became}
 use Rattle.layout.proofs.RoomLaws.{kept-again}
-use Rattle.list_update.specs.Relisting.{former}
+use Rattle.list_update.specs.Updating.{former}
 use Rattle.listing.specs.Listings.{ListedBefore}
 
 -- a right list was right before the change of one piece
@@ -27,7 +27,7 @@ listed-before p q x o g =
     (subst (λ (m : ℕ). ListingOf (rank p) m (q .listing)) (sym (o .many)) (subst (ListingOf (rank p) (piecesIn p)) (sym (o .listing)) g))
 
 module _ (s : Shape) (xs ys : List ℕ) (x : ℕ) (f : Picker → Picker) (b : Became s xs ys (f (decode xs))) where
-  -- what the mending asks
+  -- what the update asks
   pub moved-before : Alone x (decode xs) (f (decode xs)) → ListingOk (decode xs) → ListedBefore (rank (decode xs) x) x (decode ys)
   moved-before o g =
       subst (ListedBefore (rank (decode xs) x) x) (sym (b .is)) (listed-before (decode xs) (f (decode xs)) x o g)

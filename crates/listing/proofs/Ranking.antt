@@ -21,7 +21,7 @@ use Rattle.layout.specs.declared.spots.Shape.{Shape}
 use Rattle.layout.specs.Layout.{headWord, pieceWord, queueFrom, yes?, decode, Room}
 use Rattle.layout.proofs.Meanings.{pieces-number, count-is, state-is, priority-is, flushed-is}
 use Rattle.list_rank.specs.Ranks.{Numbers, IsRank}
-use Rattle.listing.specs.Listings.{Ranges, Keyed}
+use Rattle.listing.specs.Listings.{Ranges, RanksFilled}
 
 -- ---- a picker whose pieces pass their test has its numbers in range
 pub frame-ranges : (p : Picker) → Frame p → Ranges p
@@ -64,48 +64,48 @@ module _ (s : Shape) (xs : List ℕ) (r : Room s xs) (g : Ranges (decode xs)) (i
   unfolding rank yes?
   rank-is seeds peerCount state priority flushed v es ec et ei eh k =
       let n : Numbers peerCount (queueNumber (queueFrom state)) priority (eqb flushed 1) (pieceAt (decode xs) i) = record {
-        counts = sym (ec ∙ count-is s xs r i h);
-        states = sym (ap (λ (w : ℕ). queueNumber (queueFrom w)) et ∙ ap queueNumber (state-is s xs r i h));
-        priorities = sym (ei ∙ priority-is s xs r i h);
-        flushes = sym (ap (λ (w : ℕ). eqb w 1) eh ∙ flushed-is s xs r i h);
+        peerCount-is = sym (ec ∙ count-is s xs r i h);
+        state-is = sym (ap (λ (w : ℕ). queueNumber (queueFrom w)) et ∙ ap queueNumber (state-is s xs r i h));
+        priority-is = sym (ei ∙ priority-is s xs r i h);
+        flushed-is = sym (ap (λ (w : ℕ). eqb w 1) eh ∙ flushed-is s xs r i h);
       } in
       (k .is (pieceAt (decode xs) i) n ∙ ap (λ (m : ℕ). rankOf (bucket m (pieceAt (decode xs) i))) es, omega (arith, k .low))
 
 -- ---- the pieces up to i
--- the first i keys are ranks, the others are as they were
-pub record Keying (p : Picker) (n i : ℕ) (before keys : List ℕ) : Type 0 where
-  pub keyed : Keyed p i before keys
+-- the first i ranks are ranks, the others are as they were
+pub record Filling (p : Picker) (n i : ℕ) (before ranks : List ℕ) : Type 0 where
+  pub filled : RanksFilled p i before ranks
   pub at : i ≤ n
 
-pub keying-start : (p : Picker) (n : ℕ) (keys : List ℕ) → length keys ≡ 4096 → Keying p n 0 keys keys
-keying-start p n keys e =
+pub filling-start : (p : Picker) (n : ℕ) (ranks : List ℕ) → length ranks ≡ 4096 → Filling p n 0 ranks ranks
+filling-start p n ranks e =
     record {
-      keyed = record { ranks = λ i h. absurd (omega arith); low = λ i h. absurd (omega arith); rest = λ i h. refl; long = e };
+      filled = record { ranks = λ i h. absurd (omega arith); low = λ i h. absurd (omega arith); rest = λ i h. refl; long = e };
       at = omega arith;
     }
 
-pub keying-next : (p : Picker) (n i : ℕ) (before keys : List ℕ) → Keying p n i before keys → n ≤ 4096 → i < n
-    → (v : ℕ) → (v ≡ rank p i) × (v < 21022) → Keying p n (i + 1) before (set keys i v)
-keying-next p n i before keys k m h v e =
-    let same : getD (set keys i v) i 0 ≡ v = getD-set-same keys i v 0 (omega (arith, k .keyed .long)) in
-    let other : (j : ℕ) → (j ≡ i → ⊥) → getD (set keys i v) j 0 ≡ getD keys j 0 = λ j q. getD-set-other keys i j v 0 q in
+pub filling-next : (p : Picker) (n i : ℕ) (before ranks : List ℕ) → Filling p n i before ranks → n ≤ 4096 → i < n
+    → (v : ℕ) → (v ≡ rank p i) × (v < 21022) → Filling p n (i + 1) before (set ranks i v)
+filling-next p n i before ranks k m h v e =
+    let same : getD (set ranks i v) i 0 ≡ v = getD-set-same ranks i v 0 (omega (arith, k .filled .long)) in
+    let other : (j : ℕ) → (j ≡ i → ⊥) → getD (set ranks i v) j 0 ≡ getD ranks j 0 = λ j q. getD-set-other ranks i j v 0 q in
     record {
-      keyed = record {
+      filled = record {
         ranks = λ j l. elim (ℕ-discrete j i) [
           | yes q ↦ rw q (same ∙ e .0)
-          | no q ↦ other j q ∙ k .keyed .ranks j (omega arith)
+          | no q ↦ other j q ∙ k .filled .ranks j (omega arith)
         ];
         low = λ j l. elim (ℕ-discrete j i) [
           | yes q ↦ rw (q, same) (e .1)
-          | no q ↦ rw (other j q) (k .keyed .low j (omega arith))
+          | no q ↦ rw (other j q) (k .filled .low j (omega arith))
         ];
-        rest = λ j l. other j (λ q. omega arith) ∙ k .keyed .rest j (omega arith);
-        long = length-set keys i v ∙ k .keyed .long;
+        rest = λ j l. other j (λ q. omega arith) ∙ k .filled .rest j (omega arith);
+        long = length-set ranks i v ∙ k .filled .long;
       };
       at = omega arith;
     }
 
-pub keying-end : (p : Picker) (n i : ℕ) (before keys : List ℕ) → Keying p n i before keys → n ≤ i → Keyed p n before keys
-keying-end p n i before keys k h =
+pub filling-end : (p : Picker) (n i : ℕ) (before ranks : List ℕ) → Filling p n i before ranks → n ≤ i → RanksFilled p n before ranks
+filling-end p n i before ranks k h =
     let e : i ≡ n = omega (arith, k .at) in
-    rw e at (k .keyed)
+    rw e at (k .filled)

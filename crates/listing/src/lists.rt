@@ -1,4 +1,4 @@
-// The list in its region of the memory: rebuilt, and mended.
+// The list in its region of the memory: rebuilt, and updated.
 ghost use mathlib.Core.Path.{_≡_};
 ghost use Prim.Native.Nat.{_+_, _≤_, _<_};
 ghost use lib.ListN.{length};
@@ -19,17 +19,17 @@ fn rebuild_list(mem: &mut [u64], s: layout::Shape, draws: &[u32], t: usize) -> u
         (withListing (fresh (rebuilt (now (draws .entry)) t (decode (now (mem .entry))))) (decode (now (mem .entry)))) ⌝ }
     ensures { λ r. ⌜ r ≡ t + rebuildDraws (decode (now (mem .entry))) ⌝ }
 {
-    let mut keys = [0; 4096];
-    rank_pieces(mem, s, &mut keys);
+    let mut ranks = [0; 4096];
+    rank_pieces(mem, s, &mut ranks);
     let n = s.pieces;
     let a = layout::list_start(s);
-    let done = list_rebuild::update_pieces(&mut mem[a..a + n], &keys, n, draws, t);
+    let done = list_rebuild::update_pieces(&mut mem[a..a + n], &ranks, n, draws, t);
     heads::set_list_length(mem, s, done.len);
     done.used
 }
 
 // The list rebuilt where it is stale. Answers the number of the next draw.
-pub fn refresh(mem: &mut [u64], s: layout::Shape, draws: &[u32], t: usize) -> usize
+pub fn update_pieces(mem: &mut [u64], s: layout::Shape, draws: &[u32], t: usize) -> usize
     requires { ⌜ Room s (now mem) ⌝ }
     requires { ⌜ Ranges (decode (now mem)) ⌝ }
     requires { ⌜ t ≤ length (now draws) ⌝ }
@@ -42,38 +42,38 @@ pub fn refresh(mem: &mut [u64], s: layout::Shape, draws: &[u32], t: usize) -> us
     t
 }
 
-// The list mended after piece x came from rank `old` to the one it has. Answers the number of the next draw.
-fn mend_list(
+// The list updated after piece i came from rank `old` to the one it has. Answers the number of the next draw.
+fn update_list(
     mem: &mut [u64],
     s: layout::Shape,
-    x: usize,
+    i: usize,
     old: u64,
     draws: &[u32],
     t: usize,
 ) -> usize
     requires { ⌜ Room s (now mem) ⌝ }
     requires { ⌜ Ranges (decode (now mem)) ⌝ }
-    requires { ⌜ x < s .pieces ⌝ }
-    requires { ⌜ OrderBefore old x (decode (now mem)) ⌝ }
+    requires { ⌜ i < s .pieces ⌝ }
+    requires { ⌜ OrderBefore old i (decode (now mem)) ⌝ }
     requires { ⌜ t ≤ length (now draws) ⌝ }
     ensures { λ _. ⌜ Became s (now (mem .entry)) (now (mem .exit))
-        (withListing (fresh (updated (rank (decode (now (mem .entry)))) (now (draws .entry)) t old x (listOf (decode (now (mem .entry)) .listing))))
+        (withListing (fresh (updated (rank (decode (now (mem .entry)))) (now (draws .entry)) t old i (listOf (decode (now (mem .entry)) .listing))))
         (decode (now (mem .entry)))) ⌝ }
-    ensures { λ r. ⌜ r ≡ t + updateDraws (rank (decode (now (mem .entry)))) old x (listOf (decode (now (mem .entry)) .listing)) ⌝ }
+    ensures { λ r. ⌜ r ≡ t + updateDraws (rank (decode (now (mem .entry)))) old i (listOf (decode (now (mem .entry)) .listing)) ⌝ }
 {
-    let mut keys = [0; 4096];
-    rank_pieces(mem, s, &mut keys);
+    let mut ranks = [0; 4096];
+    rank_pieces(mem, s, &mut ranks);
     let n = s.pieces;
     let a = layout::list_start(s);
     let len = heads::list_length(mem, s);
-    let w = layout::word(x);
-    let done = list_update::relist(&mut mem[a..a + n], &keys, len, w, old, draws, t);
+    let w = types::usize_to_u64(i);
+    let done = list_update::update(&mut mem[a..a + n], &ranks, len, w, old, draws, t);
     heads::set_list_length(mem, s, done.len);
     done.used
 }
 
-// The list mended after a piece came from rank `old` to the one it has; a stale list stays so. Answers the number of the next draw.
-pub fn relist(
+// The list updated after a piece came from rank `old` to the one it has; a stale list stays so. Answers the number of the next draw.
+pub fn update(
     mem: &mut [u64],
     s: layout::Shape,
     piece: types::PieceIndex,
@@ -92,9 +92,9 @@ pub fn relist(
     if heads::is_stale(mem, s) {
         return t;
     }
-    let x = piece.get();
-    if rank_at(mem, s, x) == old {
+    let i = piece.get();
+    if rank_at(mem, s, i) == old {
         return t;
     }
-    mend_list(mem, s, x, old, draws, t)
+    update_list(mem, s, i, old, draws, t)
 }

@@ -8,7 +8,7 @@ ghost use Rattle.types.specs.Queue.{queueNumber};
 ghost use Rattle.model.specs.list.Order.{rank};
 ghost use Rattle.layout.specs.Layout.{queueFrom, decode, Room};
 ghost use Rattle.list_rank.specs.Ranks.{IsRank};
-ghost use Rattle.listing.specs.Listings.{Ranges, Keyed};
+ghost use Rattle.listing.specs.Listings.{Ranges, RanksFilled};
 
 // The rank by a piece's words. Most pieces are Open: tested first, they need no other test of the state.
 fn rank_by(seeds: u64, count: u64, state: u64, wish: u64, had: u64) -> u64
@@ -47,17 +47,17 @@ pub fn rank(mem: &[u64], s: layout::Shape, piece: types::PieceIndex) -> u64
     rank_at(mem, s, piece.get())
 }
 
-// The ranks of all pieces. The keys behind them stay as they were.
-pub fn rank_pieces(mem: &[u64], s: layout::Shape, keys: &mut [u16; 4096])
+// The ranks of all pieces. The ranks behind them stay as they were.
+pub fn rank_pieces(mem: &[u64], s: layout::Shape, ranks: &mut [u16; 4096])
     requires { ⌜ Room s (now mem) ⌝ }
     requires { ⌜ Ranges (decode (now mem)) ⌝ }
-    requires { ⌜ length (now keys) ≡ 4096 ⌝ }
-    ensures { λ _. ⌜ Keyed (decode (now (mem .entry))) (s .pieces) (now (keys .entry)) (now (keys .exit)) ⌝ }
+    requires { ⌜ length (now ranks) ≡ 4096 ⌝ }
+    ensures { λ _. ⌜ RanksFilled (decode (now (mem .entry))) (s .pieces) (now (ranks .entry)) (now (ranks .exit)) ⌝ }
 {
     let n = s.pieces;
     let mut i = 0;
     while i < n {
-        keys[i] = layout::short(rank_at(mem, s, i));
+        ranks[i] = types::u64_to_u16(rank_at(mem, s, i));
         i += 1;
     }
 }

@@ -3,3 +3,5 @@ pub mod Truths
 pub mod Phases
 pub mod Counts
 pub mod WalkLaws
+pub mod SortLaws
+pub mod WalkLists

@@ -7,6 +7,9 @@ pub mod KeepClose
 pub mod KeepOpen
 pub mod KeepDirection
 pub mod KeepMarks
+pub mod CancelLaws
 pub mod KeepPriority
 pub mod KeepCalls
+pub mod ChangeParts
 pub mod CallDraws
+pub mod KeepTorrent

@@ -1,3 +1,6 @@
+pub mod ScanLaws
+pub mod AsideLaws
+pub mod FoundLaws
 pub mod FrameLaws
 pub mod PhaseLaws
 pub mod CounterLaws
@@ -13,3 +16,6 @@ pub mod RandLoops
 pub mod LoopFrame
 pub mod LoopCount
 pub mod LoopLaws
+pub mod LeftOutLaws
+pub mod AddLaws
+pub mod WalkedLaws

@@ -6,16 +6,21 @@ use mathlib.Core.List.{List, [], _∷_}
 use mathlib.Core.Option.{Option, none, some}
 use lib.Dec.{eqb, ltb, leb}
 use Rattle.types.specs.declared.block.BlockState.the-variants.{Requested}
+use Rattle.types.specs.declared.refusal.Refusal.{Refusal}
+use Rattle.types.specs.declared.refusal.Refusal.the-variants.{Geometry, ShortMemory, FewDraws, OutOfRange, TooManyPeers, NoPeerToTake}
+use Rattle.types.specs.declared.refusal.Refusal.the-variants.{HavePiece, NotWriting, TooManyPartials, PickArguments, ShortOutput}
+use Rattle.types.specs.declared.refusal.Refusal.the-variants.{IllFormedImage}
 use Rattle.model.specs.Lists.{least, any, len}
 use Rattle.model.specs.Bep3.{bitfieldBytes}
-use Rattle.model.specs.State.{Piece, Block, Picker, Listing, dirty, fresh, maxPeers, maxPartials, minDraws, isOpen, sameBlockState}
-use Rattle.model.specs.State.{validGeometry, new, pieceAt, piecesIn, blocksPerPiece, blocksInPiece}
+use Rattle.model.specs.State.{Piece, Block, Picker, Listing, dirty, fresh, maxPeers, maxPartials, maxPriority, maxWanted}
+use Rattle.model.specs.State.{maxContiguous, maxSuggestions, spareOutput, minDraws, isOpen, sameBlockState, validGeometry, new}
+use Rattle.model.specs.State.{pieceAt, piecesIn, blocksPerPiece, blocksInPiece}
 use Rattle.model.specs.Options.{rarestFirst, sequential}
-use Rattle.model.specs.list.Order.{Drawing, drawing}
+use Rattle.model.specs.list.Order.{Draws, Drawing, drawing}
 use Rattle.model.specs.change.Partials.{partialOf}
 use Rattle.model.specs.change.Changes.{Change, quietly, incRefcount, decRefcount, incRefcountAll, decRefcountAll, setPiecePriority}
-use Rattle.model.specs.change.Changes.{markAsDownloading, markAsWriting, markAsFinished, abortDownload, lockPiece, piecePassed}
-use Rattle.model.specs.change.Changes.{received}
+use Rattle.model.specs.change.Changes.{markAsDownloading, markAsWriting, markAsFinished, markAsCanceled, abortDownload, lockPiece}
+use Rattle.model.specs.change.Changes.{piecePassed, received}
 use Rattle.model.specs.ask.Questions.{ListOfPicker, get-availability-vec, piece-priorities, get-download-queue, Question, ofPicker}
 use Rattle.model.specs.ask.Questions.{listOfPicker, ofPiece, listOfPiece, ofBlock, partial-at, recent-extent, list-place, Reply}
 use Rattle.model.specs.ask.Questions.{blockIn, blockTest, reply}
@@ -27,22 +32,22 @@ use Rattle.model.specs.image.Image.{image, Read, accepted, faultAt, read
 -- what a call does, with its arguments; `draws` are the lent words, `free` the output places that a pick finds free
 pub data Action : Type 0 where
   question : Question → Action
-  inc-refcount dec-refcount : (piece : ℕ) → (draws : List ℕ) → Action
+  inc-refcount dec-refcount : (piece : ℕ) → (draws : Draws) → Action
   inc-refcount-all dec-refcount-all : Action
-  set-piece-priority : (piece priority : ℕ) → (draws : List ℕ) → Action
-  mark-as-downloading : (piece block : ℕ) → (peer : Option ℕ) → (options : ℕ) → (draws : List ℕ) → Action
-  mark-as-writing mark-as-finished abort-download : (piece block : ℕ) → (peer : Option ℕ) → (draws : List ℕ) → Action
+  set-piece-priority : (piece priority : ℕ) → (draws : Draws) → Action
+  mark-as-downloading : (piece block : ℕ) → (peer : Option ℕ) → (options : ℕ) → (draws : Draws) → Action
+  mark-as-writing mark-as-finished mark-as-canceled abort-download : (piece block : ℕ) → (peer : Option ℕ) → (draws : Draws) → Action
   lock-piece piece-passed : (piece : ℕ) → Action
-  pick-pieces : PickRequest → (free : ℕ) → (draws : List ℕ) → Action
+  pick-pieces : PickRequest → (free : ℕ) → (draws : Draws) → Action
 
 -- `lent` are the words of memory that the picker stands in
 pub record Call : Type 0 where
   pub lent : ℕ
   pub action : Action
 
--- the table's number; a change done, or answered true or false, with the draws used; what a question is told; what a pick gives
+-- a refusal; a change done, or answered true or false, with the draws used; what a question is told; what a pick gives
 pub data Answer : Type 0 where
-  refused : ℕ → Answer
+  refused : Refusal → Answer
   done : (used : ℕ) → Answer
   said : Bool → (used : ℕ) → Answer
   replied : Reply → Answer
@@ -50,103 +55,111 @@ pub data Answer : Type 0 where
 
 -- ---- needs
 -- words of memory for a picker of n pieces of b blocks: a head, six fields of a piece, three of a partial and four of a block
-unfoldable pub wordsNeeded : ℕ → ℕ → ℕ
-wordsNeeded n b = 16 + 6 * n + least n maxPartials * (3 + 4 * b)
+unfoldable pub wordsNeeded : (pieces blocks : ℕ) → ℕ
+wordsNeeded pieces blocks = 16 + 6 * pieces + least pieces maxPartials * (3 + 4 * blocks)
 
 -- the memory of a picker
-unfoldable pub memoryNeeded : Picker → ℕ
+unfoldable pub memoryNeeded : (s : Picker) → ℕ
 memoryNeeded s = wordsNeeded (piecesIn s) (blocksPerPiece s)
 
 -- records of an answer
-unfoldable pub recordsNeeded : Picker → ListOfPicker → ℕ
+unfoldable pub recordsNeeded : (s : Picker) (list : ListOfPicker) → ℕ
 recordsNeeded s get-availability-vec = piecesIn s
 recordsNeeded s piece-priorities = piecesIn s
 recordsNeeded s get-download-queue = least (piecesIn s) maxPartials
 
 -- ---- refusals: the first of the table that holds
-unfoldable pub check : Bool → ℕ → Option ℕ → Option ℕ
-check true n r = some n
-check false n r = r
+-- a refusal that is met, or what the rest of the table says
+unfoldable pub check : (test : Bool) (first : Refusal) (rest : Option Refusal) → Option Refusal
+check true first rest = some first
+check false first rest = rest
 
--- 4
-unfoldable pub refuseFewDraws : List ℕ → Option ℕ → Option ℕ
-refuseFewDraws ds r = check (ltb (len ds) minDraws) 4 r
+-- 4: too few draws
+unfoldable pub refuseFewDraws : (draws : Draws) (r : Option Refusal) → Option Refusal
+refuseFewDraws draws r = check (ltb (len draws) minDraws) FewDraws r
 
--- 5, of a piece
-unfoldable pub refuseBadPiece : Picker → ℕ → Option ℕ → Option ℕ
-refuseBadPiece s i r = check (leb (piecesIn s) i) 5 r
+-- 5: no such piece
+unfoldable pub refuseBadPiece : (s : Picker) (i : ℕ) (r : Option Refusal) → Option Refusal
+refuseBadPiece s i r = check (leb (piecesIn s) i) OutOfRange r
 
--- 5, of a block
-unfoldable pub refuseBadBlock : Picker → ℕ → ℕ → Option ℕ → Option ℕ
-refuseBadBlock s i j r = refuseBadPiece s i (check (leb (blocksInPiece s i) j) 5 r)
+-- 5: no such piece, or no such block of it
+unfoldable pub refuseBadBlock : (s : Picker) (i j : ℕ) (r : Option Refusal) → Option Refusal
+refuseBadBlock s i j r = refuseBadPiece s i (check (leb (blocksInPiece s i) j) OutOfRange r)
 
--- no more peers of a piece, or peers of a block
-unfoldable pub peersFull : Picker → Piece → Bool
+-- the piece has as many peers with the seeds as may be
+unfoldable pub peersFull : (s : Picker) (p : Piece) → Bool
 peersFull s p = leb maxPeers (p .peerCount + s .seeds)
 
--- of a block that a request would count up
-unfoldable pub numPeersFull : Block → Bool
+-- the block, which a request would count up, has as many peers as may be
+unfoldable pub numPeersFull : (b : Block) → Bool
 numPeersFull b = not (received b) && leb maxPeers (b .numPeers)
 
 -- the block, where a partial stands
-unfoldable pub blockThere : Picker → ℕ → ℕ → Option Block
+unfoldable pub blockThere : (s : Picker) (i j : ℕ) → Option Block
 blockThere s i j = blockIn (partialOf s i) j
 
 -- a partial more than may stand would be opened
-unfoldable pub noPartialLeft : Picker → ℕ → Bool
+unfoldable pub noPartialLeft : (s : Picker) (i : ℕ) → Bool
 noPartialLeft s i = isOpen (pieceAt s i .state) && (not (pieceAt s i .flushed) && leb maxPartials (len (s .partials)))
 
 -- past the end of a list that is not dirty
-unfoldable pub noPlace : Listing → ℕ → Bool
+unfoldable pub noPlace : (listing : Listing) (k : ℕ) → Bool
 noPlace dirty k = false
 noPlace (fresh l) k = leb (len l) k
 
--- 2 and 5 of a question
-unfoldable pub questionRefusal : Picker → Question → Option ℕ
+-- 2 of the room for a list, and 5
+unfoldable pub questionRefusal : (s : Picker) (q : Question) → Option Refusal
 questionRefusal s (ofPicker q) = none
-questionRefusal s (listOfPicker q room) = check (ltb room (recordsNeeded s q)) 2 none
+questionRefusal s (listOfPicker q room) = check (ltb room (recordsNeeded s q)) ShortMemory none
 questionRefusal s (ofPiece q i) = refuseBadPiece s i none
-questionRefusal s (listOfPiece q i room) = check (ltb room (blocksPerPiece s)) 2 (refuseBadPiece s i none)
+questionRefusal s (listOfPiece q i room) = check (ltb room (blocksPerPiece s)) ShortMemory (refuseBadPiece s i none)
 questionRefusal s (ofBlock q i j) = refuseBadBlock s i j none
 questionRefusal s (partial-at k) = none
 questionRefusal s (recent-extent k) = none
-questionRefusal s (list-place k) = check (noPlace (s .listing) k) 5 none
+questionRefusal s (list-place k) = check (noPlace (s .listing) k) OutOfRange none
 
 -- the bitfield has a bit for each piece, and the bytes that they need
-unfoldable pub bitfieldFits : Picker → PickRequest → Bool
-bitfieldFits s a = eqb (a .bits) (piecesIn s) && eqb (len (a .bytes)) (bitfieldBytes (a .bits))
+unfoldable pub bitfieldFits : (s : Picker) (request : PickRequest) → Bool
+bitfieldFits s request = eqb (request .bits) (piecesIn s) && eqb (len (request .bytes)) (bitfieldBytes (request .bits))
 
 -- the arguments of a pick are in range
-unfoldable pub requestFits : Picker → PickRequest → Bool
-requestFits s a =
-    leb 1 (a .wanted)
-    && (leb (a .wanted) 2048
-    && (leb (a .contiguous) 2048
-    && (leb (a .peers) 1000
-    && (leb (len (a .suggestions)) 256 && (not (option rarestFirst a && option sequential a) && bitfieldFits s a)))))
+unfoldable pub requestFits : (s : Picker) (request : PickRequest) → Bool
+requestFits s request =
+    leb 1 (request .wanted)
+    && (leb (request .wanted) maxWanted
+    && (leb (request .contiguous) maxContiguous
+    && (leb (request .peers) maxPeers
+    && (leb (len (request .suggestions)) maxSuggestions && (not (option rarestFirst request && option sequential request) && bitfieldFits s request)))))
 
--- the table's refusals from 4 on, and 2 of lists
-unfoldable pub refusal : Picker → Action → Option ℕ
+-- the table's refusals of a picker in memory enough: 2 of the room for a list, then 4 to 12. A picker is well-formed here: 3 is of memory
+-- that holds none
+unfoldable pub refusal : (s : Picker) (action : Action) → Option Refusal
 refusal s (question q) = questionRefusal s q
-refusal s (inc-refcount i ds) = refuseFewDraws ds (refuseBadPiece s i (check (peersFull s (pieceAt s i)) 6 none))
-refusal s (dec-refcount i ds) = refuseFewDraws ds (refuseBadPiece s i (check (eqb (s .seeds) 0 && eqb (pieceAt s i .peerCount) 0) 7 none))
-refusal s inc-refcount-all = check (any (peersFull s) (s .pieces)) 6 none
-refusal s dec-refcount-all = check (eqb (s .seeds) 0 && any (λ p. eqb (p .peerCount) 0) (s .pieces)) 7 none
-refusal s (set-piece-priority i priority ds) = refuseFewDraws ds (refuseBadPiece s i (check (ltb 7 priority) 5 none))
-refusal s (mark-as-downloading i j peer options ds) =
-    refuseFewDraws ds
+refusal s (inc-refcount i draws) = refuseFewDraws draws (refuseBadPiece s i (check (peersFull s (pieceAt s i)) TooManyPeers none))
+refusal s (dec-refcount i draws) =
+    refuseFewDraws draws (refuseBadPiece s i (check (eqb (s .seeds) 0 && eqb (pieceAt s i .peerCount) 0) NoPeerToTake none))
+refusal s inc-refcount-all = check (any (peersFull s) (s .pieces)) TooManyPeers none
+refusal s dec-refcount-all = check (eqb (s .seeds) 0 && any (λ p. eqb (p .peerCount) 0) (s .pieces)) NoPeerToTake none
+refusal s (set-piece-priority i priority draws) = refuseFewDraws draws (refuseBadPiece s i (check (ltb maxPriority priority) OutOfRange none))
+refusal s (mark-as-downloading i j peer options draws) =
+    refuseFewDraws draws
     (refuseBadBlock s i j
-    (check (blockTest numPeersFull (blockThere s i j)) 6 (check (pieceAt s i .flushed) 8 (check (noPartialLeft s i) 10 none))))
-refusal s (mark-as-writing i j peer ds) = refuseFewDraws ds (refuseBadBlock s i j (check (noPartialLeft s i) 10 none))
-refusal s (mark-as-finished i j peer ds) =
-    refuseFewDraws ds
+    (check (blockTest numPeersFull (blockThere s i j)) TooManyPeers
+    (check (pieceAt s i .flushed) HavePiece (check (noPartialLeft s i) TooManyPartials none))))
+refusal s (mark-as-writing i j peer draws) = refuseFewDraws draws (refuseBadBlock s i j (check (noPartialLeft s i) TooManyPartials none))
+refusal s (mark-as-finished i j peer draws) =
+    refuseFewDraws draws
     (refuseBadBlock s i j
-    (check (blockTest (λ b. sameBlockState (b .state) Requested) (blockThere s i j)) 9 (check (noPartialLeft s i) 10 none)))
-refusal s (abort-download i j peer ds) = refuseFewDraws ds (refuseBadBlock s i j none)
+    (check (blockTest (λ b. sameBlockState (b .state) Requested) (blockThere s i j)) NotWriting
+    (check (noPartialLeft s i) TooManyPartials none)))
+refusal s (mark-as-canceled i j peer draws) = refuseFewDraws draws (refuseBadBlock s i j none)
+refusal s (abort-download i j peer draws) = refuseFewDraws draws (refuseBadBlock s i j none)
 refusal s (lock-piece i) = refuseBadPiece s i none
 refusal s (piece-passed i) = refuseBadPiece s i none
-refusal s (pick-pieces a free ds) =
-    refuseFewDraws ds (check (not (requestFits s a)) 11 (check (ltb free (a .wanted + a .contiguous + 255)) 12 none))
+refusal s (pick-pieces request free draws) =
+    refuseFewDraws draws
+    (check (not (requestFits s request)) PickArguments
+    (check (ltb free (request .wanted + request .contiguous + spareOutput)) ShortOutput none))
 
 -- ---- a step
 pub record Step : Type 0 where
@@ -154,95 +167,111 @@ pub record Step : Type 0 where
   pub after : Picker
 
 -- an answer, and the picker after it
-unfoldable pub answering : Answer → Picker → Step
-answering a s = record { answer = a; after = s }
+unfoldable pub answering : (answer : Answer) (s : Picker) → Step
+answering answer s = record { answer = answer; after = s }
 
 -- true, false or done, with the draws used
-unfoldable pub changeAnswer : Option Bool → ℕ → Answer
+unfoldable pub changeAnswer : (answer : Option Bool) (n : ℕ) → Answer
 changeAnswer none n = done n
-changeAnswer (some b) n = said b n
+changeAnswer (some truth) n = said truth n
 
 -- a change as a step
-unfoldable pub changing : Change → Step
-changing c = answering (changeAnswer (c .answer) (c .after .used)) (c .after .picker)
+unfoldable pub changing : (change : Change) → Step
+changing change = answering (changeAnswer (change .answer) (change .after .used)) (change .after .picker)
 
 -- a change that answers nothing
-unfoldable pub doing : Drawing → Step
+unfoldable pub doing : (w : Drawing) → Step
 doing w = changing (quietly w)
 
 -- a lent peer is a number of 64 bits
-unfoldable pub lentPeer : Option ℕ → Option ℕ
+unfoldable pub lentPeer : (peer : Option ℕ) → Option ℕ
 lentPeer none = none
 lentPeer (some n) = some (n % 2 ^ 64)
 
+-- so is the one that a pick is for
+unfoldable pub lentRequest : (request : PickRequest) → PickRequest
+lentRequest request =
+    record {
+      options = request .options;
+      wanted = request .wanted;
+      contiguous = request .contiguous;
+      peers = request .peers;
+      peer = lentPeer (request .peer);
+      bits = request .bits;
+      bytes = request .bytes;
+      suggestions = request .suggestions;
+    }
+
 -- a pick as a step
-unfoldable pub picking : PickState → Step
-picking w = answering (picked (w .out) (w .flags) (w .loops) (w .used)) (w .picker)
+unfoldable pub picking : (atEnd : PickState) → Step
+picking atEnd = answering (picked (atEnd .out) (atEnd .flags) (atEnd .loops) (atEnd .used)) (atEnd .picker)
 
 -- what a call does that is not refused
-unfoldable pub act : Picker → Action → Step
+unfoldable pub act : (s : Picker) (action : Action) → Step
 act s (question q) = answering (replied (reply s q)) s
-act s (inc-refcount i ds) = doing (incRefcount ds i (drawing 0 s))
-act s (dec-refcount i ds) = doing (decRefcount ds i (drawing 0 s))
+act s (inc-refcount i draws) = doing (incRefcount draws i (drawing 0 s))
+act s (dec-refcount i draws) = doing (decRefcount draws i (drawing 0 s))
 act s inc-refcount-all = doing (drawing 0 (incRefcountAll s))
 act s dec-refcount-all = doing (drawing 0 (decRefcountAll s))
-act s (set-piece-priority i priority ds) = changing (setPiecePriority ds i priority (drawing 0 s))
-act s (mark-as-downloading i j peer options ds) = changing (markAsDownloading ds i j (lentPeer peer) options (drawing 0 s))
-act s (mark-as-writing i j peer ds) = changing (markAsWriting ds i j (lentPeer peer) (drawing 0 s))
-act s (mark-as-finished i j peer ds) = doing (markAsFinished ds i j (lentPeer peer) (drawing 0 s))
-act s (abort-download i j peer ds) = doing (abortDownload ds i j (lentPeer peer) (drawing 0 s))
+act s (set-piece-priority i priority draws) = changing (setPiecePriority draws i priority (drawing 0 s))
+act s (mark-as-downloading i j peer options draws) = changing (markAsDownloading draws i j (lentPeer peer) options (drawing 0 s))
+act s (mark-as-writing i j peer draws) = changing (markAsWriting draws i j (lentPeer peer) (drawing 0 s))
+act s (mark-as-finished i j peer draws) = doing (markAsFinished draws i j (lentPeer peer) (drawing 0 s))
+act s (mark-as-canceled i j peer draws) = doing (markAsCanceled draws i j (lentPeer peer) (drawing 0 s))
+act s (abort-download i j peer draws) = doing (abortDownload draws i j (lentPeer peer) (drawing 0 s))
 act s (lock-piece i) = doing (drawing 0 (lockPiece i s))
 act s (piece-passed i) = doing (drawing 0 (piecePassed i s))
-act s (pick-pieces a free ds) = picking (pickPieces ds s a)
+act s (pick-pieces request free draws) = picking (pickPieces draws s (lentRequest request))
 
 -- refused, the picker stays as it is
-unfoldable pub unlessRefused : Option ℕ → Picker → Action → Step
-unlessRefused none s a = act s a
-unlessRefused (some n) s a = answering (refused n) s
+unfoldable pub unlessRefused : (why : Option Refusal) (s : Picker) (action : Action) → Step
+unlessRefused none s action = act s action
+unlessRefused (some why) s action = answering (refused why) s
 
 -- 2 of the picker's memory first
-unfoldable pub step : Picker → Call → Step
-step s c = unlessRefused (check (ltb (c .lent) (memoryNeeded s)) 2 (refusal s (c .action))) s (c .action)
+unfoldable pub step : (s : Picker) (c : Call) → Step
+step s c = unlessRefused (check (ltb (c .lent) (memoryNeeded s)) ShortMemory (refusal s (c .action))) s (c .action)
 
 -- ---- lists of calls
-unfoldable pub answers : Picker → List Call → List Answer
+-- what they answer, each led by those before it
+unfoldable pub answers : (s : Picker) (calls : List Call) → List Answer
 answers s [] = []
 answers s (c ∷ cs) = step s c .answer ∷ answers (step s c .after) cs
 
 -- the picker after them
-unfoldable pub run : Picker → List Call → Picker
+unfoldable pub run : (s : Picker) (calls : List Call) → Picker
 run s [] = s
 run s (c ∷ cs) = run (step s c .after) cs
 
 -- ---- calls that make a picker, and the one that takes its image
--- a picker, or the table's number with, for 13, the place of the fault
+-- a picker, or why there is none
 pub data Made : Type 0 where
   made : Picker → Made
-  notMade : (number : ℕ) → (place : Option ℕ) → Made
+  notMade : Refusal → Made
 
--- given memory enough
-unfoldable pub within : ℕ → Picker → Made
-within lent s = cond (ltb lent (memoryNeeded s)) (notMade 2 none) (made s)
+-- the picker, given memory enough
+unfoldable pub within : (lent : ℕ) (s : Picker) → Made
+within lent s = cond (ltb lent (memoryNeeded s)) (notMade ShortMemory) (made s)
 
 -- `new`
-unfoldable pub newPicker : ℕ → ℕ → ℕ → Made
-newPicker lent totalSize pieceSize = cond (validGeometry totalSize pieceSize) (within lent (new totalSize pieceSize)) (notMade 1 none)
+unfoldable pub newPicker : (lent totalSize pieceSize : ℕ) → Made
+newPicker lent totalSize pieceSize = cond (validGeometry totalSize pieceSize) (within lent (new totalSize pieceSize)) (notMade Geometry)
 
--- an accepted image
-unfoldable pub readWithin : ℕ → Read Picker → Made
+-- the picker of an accepted image
+unfoldable pub readWithin : (lent : ℕ) (read : Read Picker) → Made
 readWithin lent (accepted s) = within lent s
-readWithin lent (faultAt k) = notMade 13 (some k)
+readWithin lent (faultAt k) = notMade (IllFormedImage k)
 
 -- a reader of bytes looks at them before it looks at the memory
-unfoldable pub readPicker : ℕ → List ℕ → Made
+unfoldable pub readPicker : (lent : ℕ) (bs : List ℕ) → Made
 readPicker lent bs = readWithin lent (readImage bs)
 
--- the image, or the table's number
+-- the image, or why it is not taken
 pub data Taken : Type 0 where
   taken : List ℕ → Taken
-  notTaken : ℕ → Taken
+  notTaken : Refusal → Taken
 
 -- taking the image needs room for it
-unfoldable pub takeImage : Picker → ℕ → ℕ → Taken
+unfoldable pub takeImage : (s : Picker) (lent room : ℕ) → Taken
 takeImage s lent room =
-    cond (ltb lent (memoryNeeded s)) (notTaken 2) (cond (ltb room (len (image s))) (notTaken 2) (taken (image s)))
+    cond (ltb lent (memoryNeeded s)) (notTaken ShortMemory) (cond (ltb room (len (image s))) (notTaken ShortMemory) (taken (image s)))

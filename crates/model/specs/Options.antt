@@ -68,6 +68,10 @@ abbrev pub extentAffinity : ℕ
 extentAffinity = 65536
 
 -- ---- counters, in document 01's order
+abbrev pub numCounters : ℕ
+numCounters = 7
+
+-- their places
 abbrev pub partialLoops : ℕ
 partialLoops = 0
 

@@ -13,6 +13,8 @@ use layout::Shape;
 use layout::head_word;
 use layout::partial_word;
 use layout::piece_word;
+use types::u64_to_usize;
+use types::usize_to_u64;
 
 // How many pieces are not Open.
 fn pieces_at_work(mem: &[u64], s: Shape) -> u64
@@ -35,12 +37,13 @@ fn blocks_good(mem: &[u64], s: Shape, piece: u64, place: usize, hashing: bool) -
     ensures { λ r. ⌜ r ≡ blocksGood (now (mem .entry)) (s .pieces) (s .blocks) piece place hashing ⌝ }
 {
     let many = blocks_at(head_word(mem, 0), head_word(mem, 1), piece);
-    let counted = blocks_ok(mem, s, place, many as usize);
+    let counted = blocks_ok(mem, s, place, u64_to_usize(many));
     if !counted.ok {
         return false;
     }
-    let state = piece_word(mem, s, 1, piece as usize);
-    let wish = piece_word(mem, s, 2, piece as usize);
+    let i = u64_to_usize(piece);
+    let state = piece_word(mem, s, 1, i);
+    let wish = piece_word(mem, s, 2, i);
     state_ok(state, wish, counted.requested, counted.busy, many, hashing)
 }
 
@@ -51,17 +54,17 @@ pub fn partial_ok(mem: &[u64], s: Shape, k: usize) -> bool
     ensures { λ r. ⌜ r ≡ partialGood (now (mem .entry)) (s .pieces) (s .blocks) k ⌝ }
 {
     let piece = partial_word(mem, s, 0, k);
-    if s.pieces as u64 <= piece {
+    if usize_to_u64(s.pieces) <= piece {
         return false;
     }
-    if piece_word(mem, s, 1, piece as usize) == 4 {
+    if piece_word(mem, s, 1, u64_to_usize(piece)) == 4 {
         return false;
     }
     let flags = partial_word(mem, s, 1, k);
     if 7 < flags {
         return false;
     }
-    let place = partial_word(mem, s, 2, k) as usize;
+    let place = u64_to_usize(partial_word(mem, s, 2, k));
     blocks_good(mem, s, piece, place, 4 <= flags)
 }
 
@@ -70,7 +73,7 @@ fn partials_pass(mem: &[u64], s: Shape) -> bool
     requires { ⌜ Ready s (now mem) ⌝ }
     ensures { λ r. ⌜ r ≡ allBelow (partialNext (now (mem .entry)) (s .pieces) (s .blocks)) (headWord (now (mem .entry)) 7) ⌝ }
 {
-    let many = head_word(mem, 7) as usize;
+    let many = u64_to_usize(head_word(mem, 7));
     let mut lo = 0;
     let mut k = 0;
     while k < many {

@@ -7,7 +7,7 @@ use native.Mathlib.Nat.{le-of-suc-le-suc}
 use native.Mathlib.Omega.{arith}
 use native.Mathlib.Decide.{ℕ-discrete}
 use borrow.Author.Tests.{lt-ltb, le-ltb}
-use Rattle.model.specs.Lists.{nth, len, each, from}
+use Rattle.model.specs.Lists.{nth, len, each, from, insertBy}
 use Rattle.model.specs.Bep3.{pieceBlocks, bitOf}
 use Rattle.model.specs.State.{Block, DownloadingPiece, Picker, withPartials, blocksInPiece, payloadBlocksInPiece}
 use Rattle.model.specs.change.Partials.{freshBlock, freshPartial, insertIn, addPartial}
@@ -18,7 +18,8 @@ use Rattle.layout.specs.Layout.{partialIn, Room, Kept, Became}
 use Rattle.layout.proofs.TabLaws.{tab-ext}
 use Rattle.layout.proofs.Readers.{partial-same}
 use Rattle.layout.proofs.RoomLaws.{decode-at, blocks-within, partial-room, place-room, kept-again}
-use Rattle.layout.proofs.BlockStores.{partials-number, Around, around-none, around-kept, around-became, BlockPut}
+use Rattle.layout.specs.Frames.{Around, BlockPut}
+use Rattle.layout.proofs.BlockStores.{partials-number, around-none, around-kept, around-became}
 use Rattle.partials.specs.Slots.{Position, insertAt, openedWith, Filled}
 
 around-again : (s : Shape) (xs ys zs : List ℕ) → Around s xs ys → Around s ys zs → Around s xs zs
@@ -106,16 +107,16 @@ module _ (s : Shape) (xs ys : List ℕ) (r : Room s xs) (p i : ℕ) (c : Filled 
 
 -- ---- the place is the model's
 insert-first : (d x : DownloadingPiece) (xs : List DownloadingPiece) → d .piece < x .piece → insertIn d (x ∷ xs) ≡ d ∷ x ∷ xs
-unfolding insertIn
+unfolding insertIn insertBy
 insert-first d x xs h = rw (lt-ltb (d .piece) (x .piece) h)
 
 insert-later : (d x : DownloadingPiece) (xs : List DownloadingPiece) → x .piece ≤ d .piece → insertIn d (x ∷ xs) ≡ x ∷ insertIn d xs
-unfolding insertIn
+unfolding insertIn insertBy
 insert-later d x xs h = rw (le-ltb (d .piece) (x .piece) h)
 
 insert-at : (d : DownloadingPiece) (ds : List DownloadingPiece) (k : ℕ) → k ≤ len ds → ((j : ℕ) → j < k → nth noPartial ds j .piece ≤ d .piece)
     → (k < len ds → d .piece < nth noPartial ds k .piece) → insertAt k d ds ≡ insertIn d ds
-unfolding nth len insertAt insertIn
+unfolding nth len insertAt insertIn insertBy
 insert-at d [] zero h low high = refl
 insert-at d [] (suc k) h low high = refl
 insert-at d (x ∷ xs) zero h low high = sym (insert-first d x xs (high (omega arith)))

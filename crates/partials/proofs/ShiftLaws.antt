@@ -19,7 +19,8 @@ use Rattle.layout.proofs.TabLaws.{tab-ext, tab-without}
 use Rattle.layout.proofs.Same.{head-stored, partials-below}
 use Rattle.layout.proofs.Readers.{blocks-same, block-same}
 use Rattle.layout.proofs.RoomLaws.{decode-at, kept-placed, blocks-within}
-use Rattle.layout.proofs.PartialStores.{Beside, beside-none, beside-count, beside-steady, beside-became, beside-partial}
+use Rattle.layout.specs.Frames.{Beside}
+use Rattle.layout.proofs.PartialStores.{beside-none, beside-count, beside-steady, beside-became, beside-partial}
 use Rattle.partials.specs.declared.slots.Record.{Record}
 use Rattle.partials.specs.Slots.{recordWord, RecordAt, RecordPut, insertAt, openedWith}
 

@@ -9,8 +9,8 @@ use Rattle.model.specs.change.Partials.{freshBlock}
 use Rattle.layout.specs.declared.spots.Shape.{Shape}
 use Rattle.layout.specs.Tables.{choose}
 use Rattle.layout.specs.Layout.{placesFor, headWord, partialWord, blockHeld, blocksHeld, partialFrom, partialIn, Room}
-use Rattle.layout.proofs.PartialStores.{Beside}
-use Rattle.layout.proofs.BlockStores.{Around}
+use Rattle.layout.specs.Frames.{Beside}
+use Rattle.layout.specs.Frames.{Around}
 use Rattle.partials.specs.declared.slots.Record.{Record}
 
 -- word f of a record

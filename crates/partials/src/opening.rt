@@ -19,9 +19,9 @@ pub fn insert(mem: &mut [u64], s: layout::Shape, piece: PieceIndex, count: usize
     ensures { λ _. ⌜ Became s (now (mem .entry)) (now (mem .exit)) (addPartial (indexOf (piece .0)) (decode (now (mem .entry)))) ⌝ }
 {
     let n = records::partial_count(mem, s);
-    let p = layout::idx(layout::partial_word(mem, s, 2, n));
+    let p = types::u64_to_usize(layout::partial_word(mem, s, 2, n));
     fill(mem, s, p, count, payload);
     let q = position(mem, s, piece);
-    let number = layout::word(piece.get());
+    let number = types::usize_to_u64(piece.get());
     open_at(mem, s, q, number);
 }

@@ -14,7 +14,7 @@ pub fn open_at(mem: &mut [u64], s: layout::Shape, q: usize, piece: u64)
     requires { ⌜ (q ≤ headWord (now mem) 7) × (headWord (now mem) 7 < s .places) ⌝ }
     ensures { λ _. ⌜ Became s (now (mem .entry)) (now (mem .exit)) (withPartials (insertAt q (openedWith s (now (mem .entry)) piece) (decode (now (mem .entry)) .partials)) (decode (now (mem .entry)))) ⌝ }
 {
-    let n = layout::idx(layout::head_word(mem, 7));
+    let n = types::u64_to_usize(layout::head_word(mem, 7));
     let free = layout::partial_word(mem, s, 2, n);
     let mut k = n;
     while q < k {
@@ -28,7 +28,7 @@ pub fn open_at(mem: &mut [u64], s: layout::Shape, q: usize, piece: u64)
         place: free,
     };
     put_record(mem, s, q, r);
-    let w = layout::word(n + 1);
+    let w = types::usize_to_u64(n + 1);
     layout::set_head_word(mem, 7, w);
 }
 
@@ -38,7 +38,7 @@ pub fn close_at(mem: &mut [u64], s: layout::Shape, q: usize)
     requires { ⌜ q < headWord (now mem) 7 ⌝ }
     ensures { λ _. ⌜ Became s (now (mem .entry)) (now (mem .exit)) (withPartials (removeNth q (decode (now (mem .entry)) .partials)) (decode (now (mem .entry)))) ⌝ }
 {
-    let n = layout::idx(layout::head_word(mem, 7));
+    let n = types::u64_to_usize(layout::head_word(mem, 7));
     let last = n - 1;
     let gone = get_record(mem, s, q);
     let mut k = q;
@@ -48,6 +48,6 @@ pub fn close_at(mem: &mut [u64], s: layout::Shape, q: usize)
         k += 1;
     }
     put_record(mem, s, last, gone);
-    let w = layout::word(last);
+    let w = types::usize_to_u64(last);
     layout::set_head_word(mem, 7, w);
 }

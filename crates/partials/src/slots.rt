@@ -42,7 +42,7 @@ pub fn position(mem: &[u64], s: layout::Shape, piece: PieceIndex) -> usize
     requires { ⌜ Room s (now mem) ⌝ }
     ensures { λ r. ⌜ Position (decode (now (mem .entry))) (indexOf (piece .0)) r ⌝ }
 {
-    let number = layout::word(piece.get());
+    let number = types::usize_to_u64(piece.get());
     let n = records::partial_count(mem, s);
     let mut k = 0;
     while k < n {

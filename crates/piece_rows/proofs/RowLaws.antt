@@ -43,7 +43,7 @@ rank-pad seeds count state priority flushed pad = refl
 pub numbers-of : (count state priority flushed : ℕ) → Ranked count state priority flushed → Numbers count state priority (eqb flushed 1) (pieceFrom count state priority flushed 0)
 unfolding pieceFrom yes?
 numbers-of count state priority flushed h =
-    record { counts = refl; states = queue-number state (omega (arith, h .state-most)); priorities = refl; flushes = refl }
+    record { peerCount-is = refl; state-is = queue-number state (omega (arith, h .state-most)); priority-is = refl; flushed-is = refl }
 
 -- ---- the test
 module _ (seeds long count state priority flushed pad : ℕ) where

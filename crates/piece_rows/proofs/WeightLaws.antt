@@ -6,14 +6,18 @@ use Prim.Native.Nat.{ℕ, _+_, _-_, _*_, _/_, _%_, _≤_}
 use native.Mathlib.Nat.{mul-assoc, mul-zero}
 use native.Mathlib.Decide.{ℕ-discrete}
 use native.Mathlib.Omega.{arith}
-use lib.Dec.{eqb, leb}
+use lib.Dec.{eqb}
 use lib.ListN.{getD}
-use borrow.Author.Tests.{eq-eqb, ne-eqb, eqb-true, leb-true}
-use Rattle.model.specs.Lists.{every, from}
+use borrow.Author.Tests.{eq-eqb, ne-eqb, eqb-true}
+use Rattle.model.specs.Lists.{every, from, nth}
+use Rattle.model.specs.State.{sameQueue, isOpen}
+use Rattle.model.specs.list.Order.{bucket, unlisted, bucketNumber, adjustment, rankOf}
 use Rattle.model.proofs.base.Truths.{both-true}
-use Rattle.list_rank.specs.Ranks.{off, unlistedBy}
+use Rattle.list_rank.specs.Ranks.{adjustmentOf, unlistedBy}
 use Rattle.list_rank.proofs.Ranking.{product, taken-off, rank-none, rank-some}
-use Rattle.piece_rows.specs.Rows.{rankFrom, Ranked, weightRows}
+use Rattle.layout.specs.Tables.{tab}
+use Rattle.layout.specs.Layout.{queueFrom, yes?}
+use Rattle.piece_rows.specs.Rows.{pieceFrom, rankFrom, Ranked, perPeer, weight, weightRows}
 use Rattle.piece_rows.proofs.RowLaws.{numbers-of}
 use Rattle.piece_rows.proofs.PieceTests.{every-from}
 
@@ -24,10 +28,10 @@ none? state priority = eqb priority 0 || (eqb state 1 || eqb state 2)
 
 -- the weight of a state and a priority: 4 times the factor, and what is taken off
 unfoldable pub weightOf : ℕ → ℕ → ℕ
-weightOf state priority = cond (none? state priority) 0 ((24 - 3 * priority) * 4 + (off state - 1))
+weightOf state priority = cond (none? state priority) 0 ((24 - 3 * priority) * 4 + (adjustmentOf state - 1))
 
 all-weights : every (λ s. every (λ w. eqb (getD (getD weightRows s []) w 0) (weightOf s w)) (from 0 8)) (from 0 7) ≡ true
-unfolding every from weightRows weightOf none? off
+unfolding every from weightRows weight perPeer rankFrom pieceFrom tab bucket unlisted bucketNumber adjustment rankOf queueFrom nth sameQueue isOpen yes? weightOf none? adjustmentOf
 all-weights = refl
 
 pub weight-at : (state priority : ℕ) → state ≤ 6 → priority ≤ 7 → getD (getD weightRows state []) priority 0 ≡ weightOf state priority
@@ -36,21 +40,6 @@ weight-at state priority s w =
     (every-from (λ v. eqb (getD (getD weightRows state []) v 0) (weightOf state v)) 0 8
     (every-from (λ t. every (λ v. eqb (getD (getD weightRows t []) v 0) (weightOf t v)) (from 0 8)) 0 7 all-weights state (omega arith) (omega arith))
     priority (omega arith) (omega arith))
-
--- a weight is a small number
-small-weights : every (λ s. every (λ w. leb (getD (getD weightRows s []) w 0) 86) (from 0 8)) (from 0 7) ≡ true
-unfolding every from weightRows
-small-weights = refl
-
-pub weight-small : (state priority w : ℕ) → state ≤ 6 → priority ≤ 7 → w ≡ getD (getD weightRows state []) priority 0 → w ≤ 86
-weight-small state priority w s h e =
-    omega (
-      arith,
-      leb-true (getD (getD weightRows state []) priority 0) 86
-          (every-from (λ v. leb (getD (getD weightRows state []) v 0) 86) 0 8
-          (every-from (λ t. every (λ v. leb (getD (getD weightRows t []) v 0) 86) (from 0 8)) 0 7 small-weights state (omega arith) (omega arith))
-          priority (omega arith) (omega arith)),
-    )
 
 -- ---- the product with the count
 -- a weight that is 0
@@ -117,8 +106,8 @@ module _ (seeds count state priority flushed : ℕ) (h : Ranked count state prio
           let u = still-some (eqb priority 0) (eqb state 1 || eqb state 2) (eqb flushed 1) (eqb (count + seeds) 0) q (ne-eqb flushed 1 (λ t. absurd (omega arith))) some-peer in
           let d = taken-off seeds count state priority (eqb flushed 1) u (h .count-most) (h .priority-most) in
           let p = product seeds count state priority (eqb flushed 1) u (h .count-most) (h .priority-most) in
-          let z = some-left count priority (off state) w (h .priority-most) (d .0) (d .1) (ew ∙ weight-at state priority (h .state-most) (h .priority-most) ∙ rw q) in
-          let i = rank-some seeds count state priority (eqb flushed 1) u (h .count-most) (h .priority-most) (off state) refl .is _ (numbers-of count state priority flushed h) in
+          let z = some-left count priority (adjustmentOf state) w (h .priority-most) (d .0) (d .1) (ew ∙ weight-at state priority (h .state-most) (h .priority-most) ∙ rw q) in
+          let i = rank-some seeds count state priority (eqb flushed 1) u (h .count-most) (h .priority-most) (adjustmentOf state) refl .is _ (numbers-of count state priority flushed h) in
           record { enough = omega (arith, z .0, z .1, p .0, d .1); low = omega (arith, z .0, p .1); is = omega (arith, z .0, z .1, p .0, d .0, d .1, i) }
 
       pub weighed : Weighed count w (rankFrom seeds count state priority flushed)

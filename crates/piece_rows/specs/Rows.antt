@@ -1,9 +1,9 @@
 -- What the tests read: the five words of a piece as a piece, its rank and its test; and the bounds under which the words may be read.
 -- Assumes nothing.
-use Prim.Native.Nat.{ℕ, _+_, _≤_, _<_}
+use Prim.Native.Nat.{ℕ, _+_, _-_, _*_, _≤_, _<_}
 use mathlib.Core.Path.{_≡_}
 use mathlib.Core.Bool.{Bool, true, cond, not, _&&_, _||_}
-use mathlib.Core.List.{List, [], _∷_}
+use mathlib.Core.List.{List}
 use lib.ListN.{length, getD}
 use lib.Dec.{eqb, ltb, leb}
 use Rattle.model.specs.Lists.{every, count, from}
@@ -35,18 +35,18 @@ pub record Ranked (count state priority flushed : ℕ) : Type 0 where
   pub priority-most : priority ≤ 7
   pub flushed-most : flushed ≤ 1
 
--- row by state and place by priority: 4 times the factor by which one more than the count is multiplied, and what is then taken off; 0 where
--- there is no rank
+-- ---- the rank by a table
+-- what one peer more adds to the rank of a piece that is not had, where the torrent has a seed; 0 where there is no rank
+unfoldable pub perPeer : (state priority : ℕ) → ℕ
+perPeer state priority = rankFrom 1 1 state priority 0 - rankFrom 1 0 state priority 0
+
+-- 4 times that factor, and by how much the rank is less than its product with one more than the count
+unfoldable pub weight : (state priority : ℕ) → ℕ
+weight state priority = 4 * perPeer state priority + (perPeer state priority - rankFrom 1 0 state priority 0)
+
+-- row by state and place by priority
 unfoldable pub weightRows : List (List ℕ)
-weightRows =
-    (0 ∷ 86 ∷ 74 ∷ 62 ∷ 50 ∷ 38 ∷ 26 ∷ 14 ∷ [])
-    ∷ (0 ∷ 0 ∷ 0 ∷ 0 ∷ 0 ∷ 0 ∷ 0 ∷ 0 ∷ [])
-    ∷ (0 ∷ 0 ∷ 0 ∷ 0 ∷ 0 ∷ 0 ∷ 0 ∷ 0 ∷ [])
-    ∷ (0 ∷ 86 ∷ 74 ∷ 62 ∷ 50 ∷ 38 ∷ 26 ∷ 14 ∷ [])
-    ∷ (0 ∷ 85 ∷ 73 ∷ 61 ∷ 49 ∷ 37 ∷ 25 ∷ 13 ∷ [])
-    ∷ (0 ∷ 84 ∷ 72 ∷ 60 ∷ 48 ∷ 36 ∷ 24 ∷ 12 ∷ [])
-    ∷ (0 ∷ 84 ∷ 72 ∷ 60 ∷ 48 ∷ 36 ∷ 24 ∷ 12 ∷ [])
-    ∷ []
+weightRows = tab 7 (λ state. tab 8 (weight state))
 
 -- ---- the memory
 -- it has room for the picker that its head gives, which has this shape

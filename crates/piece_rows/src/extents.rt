@@ -2,8 +2,8 @@
 use geometry::num_extents;
 use layout::Shape;
 use layout::head_word;
-use layout::idx;
-use layout::word;
+use types::u64_to_usize;
+use types::usize_to_u64;
 ghost use mathlib.Core.Path.{_≡_};
 ghost use mathlib.Core.Bool.{true};
 ghost use Prim.Native.Nat.{_≤_};
@@ -33,8 +33,8 @@ pub fn extents_ok(mem: &[u64], s: Shape) -> bool
     requires { ⌜ goodHead (now mem) ≡ true ⌝ }
     ensures { λ r. ⌜ r ≡ goodExtents (now (mem .entry)) ⌝ }
 {
-    let limit = num_extents(word(s.pieces), word(s.blocks));
-    let many = idx(head_word(mem, 8));
+    let limit = num_extents(usize_to_u64(s.pieces), usize_to_u64(s.blocks));
+    let many = u64_to_usize(head_word(mem, 8));
     let mut k = 0;
     while k < many {
         let e = head_word(mem, 9 + k);

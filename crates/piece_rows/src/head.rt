@@ -1,7 +1,7 @@
 // The test of the head: flags and numbers have room, and seeds and cursors are in range.
 use layout::head_word;
 use layout::shape_of;
-use layout::word;
+use types::usize_to_u64;
 ghost use mathlib.Core.Path.{_≡_};
 ghost use mathlib.Core.Bool.{true};
 ghost use Prim.Native.Nat.{_≤_};
@@ -51,8 +51,8 @@ pub fn head_ok(mem: &[u64]) -> bool
     ensures { λ r. ⌜ r ≡ goodHead (now (mem .entry)) ⌝ }
 {
     let s = shape_of(mem);
-    let n = word(s.pieces);
-    let places = word(s.places);
+    let n = usize_to_u64(s.pieces);
+    let places = usize_to_u64(s.places);
     if !lengths_ok(
         n,
         places,

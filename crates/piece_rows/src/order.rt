@@ -1,8 +1,9 @@
 // The test of the list: as many places as pieces with a bucket, each place such a piece, none twice, ranks never falling.
 use layout::Shape;
 use layout::head_word;
-use layout::idx;
 use layout::piece_word;
+use types::u16_to_usize;
+use types::u64_to_usize;
 ghost use mathlib.Core.Path.{_≡_};
 ghost use mathlib.Core.List.{[]};
 ghost use Prim.Native.Nat.{_≤_};
@@ -25,7 +26,7 @@ fn ranked(keys: &[u16], n: usize) -> usize
         }
         i += 1;
     }
-    many as usize
+    u16_to_usize(many)
 }
 
 // The places one after another. The key of a place that was passed becomes 0, and `last` is the rank of the last one; a key that is 0 is
@@ -35,11 +36,11 @@ fn places_ok(mem: &[u64], s: Shape, keys: &mut [u16]) -> bool
     ensures { λ r. ⌜ r ≡ orderOk (decode (now (mem .entry))) [] (listHeld (now (mem .entry)) (piecesOn (now (mem .entry)))) ⌝ }
 {
     let n = s.pieces;
-    let many = idx(head_word(mem, 6));
+    let many = u64_to_usize(head_word(mem, 6));
     let mut last: u16 = 1;
     let mut k = 0;
     while k < many {
-        let x = idx(piece_word(mem, s, 5, k));
+        let x = u64_to_usize(piece_word(mem, s, 5, k));
         if n <= x {
             return false;
         }
@@ -62,7 +63,7 @@ pub fn order_ok(mem: &[u64], s: Shape, keys: &mut [u16]) -> bool
     if head_word(mem, 5) == 1 {
         return true;
     }
-    let many = idx(head_word(mem, 6));
+    let many = u64_to_usize(head_word(mem, 6));
     if ranked(keys, s.pieces) != many {
         return false;
     }

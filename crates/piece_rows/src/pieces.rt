@@ -7,7 +7,7 @@ use layout::Shape;
 use layout::head_word;
 use layout::piece_column;
 use layout::piece_word;
-use layout::word;
+use types::usize_to_u64;
 ghost use mathlib.Core.Path.{_≡_};
 ghost use mathlib.Core.Bool.{true};
 ghost use Prim.Native.Nat.{_≤_, _<_};
@@ -66,5 +66,5 @@ pub fn pieces_ok(mem: &[u64], s: Shape, keys: &mut [u16]) -> bool
         return false;
     }
     let last = s.pieces - 1;
-    piece_word(mem, s, 4, last) <= piece_length(head_word(mem, 0), size, word(last))
+    piece_word(mem, s, 4, last) <= piece_length(head_word(mem, 0), size, usize_to_u64(last))
 }

@@ -1,6 +1,7 @@
 // The rank of a piece that is not had, by a table over state and wish: one product with its count is left.
-use layout::idx;
-use layout::short;
+use types::u16_to_u64;
+use types::u64_to_u16;
+use types::u64_to_usize;
 ghost use mathlib.Core.Path.{_≡_};
 ghost use Rattle.piece_rows.specs.Rows.{rankFrom, Ranked, weightRows};
 
@@ -39,6 +40,6 @@ pub fn key_of(
     if (count == 0) & (seeds == 0) {
         return 0;
     }
-    let weight = weights[idx(state)][idx(wish)] as u64;
-    short((count + 1) * (weight / 4) - weight % 4)
+    let weight = u16_to_u64(weights[u64_to_usize(state)][u64_to_usize(wish)]);
+    u64_to_u16((count + 1) * (weight / 4) - weight % 4)
 }

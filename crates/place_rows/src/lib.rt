@@ -1,6 +1,7 @@
 // The test of a picker's memory: the places of all slots for partials, used or free.
 use layout::Shape;
 use layout::partial_word;
+use types::u64_to_usize;
 ghost use mathlib.Core.Path.{_≡_};
 ghost use Rattle.layout.specs.Layout.{Spans, ShapeOf};
 ghost use Rattle.piece_rows.specs.Memory.{goodPlaces};
@@ -14,7 +15,7 @@ pub fn places_ok(mem: &[u64], s: Shape) -> bool
     let mut marks = [false; 512];
     let mut k = 0;
     while k < many {
-        let place = partial_word(mem, s, 2, k) as usize;
+        let place = u64_to_usize(partial_word(mem, s, 2, k));
         if many <= place {
             return false;
         }

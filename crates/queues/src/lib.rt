@@ -19,7 +19,7 @@ pub fn queue_of(mem: &[u64], s: layout::Shape, k: usize) -> usize
 {
     let piece = records::partial_piece(mem, s, k);
     let state = fields::get_state(mem, s, piece);
-    layout::idx(layout::plain_state(state))
+    types::u64_to_usize(layout::plain_state(state))
 }
 
 // Place k behind those that row q has.
@@ -30,7 +30,7 @@ fn enter(rows: &mut [[u32; 512]; 4], sizes: &mut [usize; 4], q: usize, k: usize)
     ensures { λ _. ⌜ now (sizes .exit) ≡ setNth q (nth 0 (now (sizes .entry)) q + 1) (now (sizes .entry)) ⌝ }
 {
     let n = sizes[q];
-    rows[q][n] = k as u32;
+    rows[q][n] = types::usize_to_u32(k);
     sizes[q] = n + 1;
 }
 
@@ -56,16 +56,10 @@ pub fn download_queues(
     }
 }
 
-fn index_of(x: u32) -> usize
-    ensures { λ r. ⌜ r ≡ x ⌝ }
-{
-    x as usize
-}
-
 // Place j of row q.
 pub fn place_at(rows: &[[u32; 512]; 4], q: usize, j: usize) -> usize
     requires { ⌜ (q < 4) × (j < 512) ⌝ }
     ensures { λ r. ⌜ r ≡ nth 0 (nth [] (now (rows .entry)) q) j ⌝ }
 {
-    index_of(rows[q][j])
+    types::u32_to_usize(rows[q][j])
 }

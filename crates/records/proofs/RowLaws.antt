@@ -17,7 +17,8 @@ use Rattle.layout.specs.declared.spots.Shape.{Shape}
 use Rattle.layout.specs.Layout.{placesFor, partialSpot, blockSpot, headWord, partialWord, blockWord, stateFrom, yes?, peerFrom, blockFrom}
 use Rattle.layout.specs.Layout.{blockHeld, partialHeld, partialFrom, decode, partialIn, withPartial, withBlock, withBits, Room, Became}
 use Rattle.layout.proofs.Meanings.{number-state}
-use Rattle.layout.proofs.BlockStores.{partials-number, partial-is, blocks-most, block-is, BlockPut, block-put, block-became}
+use Rattle.layout.specs.Frames.{BlockPut}
+use Rattle.layout.proofs.BlockStores.{partials-number, partial-is, blocks-most, block-is, block-put, block-became}
 use Rattle.layout.proofs.PartialStores.{flags-became}
 use Rattle.records.specs.declared.blocks.BlockRow.{BlockRow}
 use Rattle.records.specs.declared.slots.PartialFlags.{PartialFlags}

@@ -6,7 +6,7 @@ ghost use Rattle.model.specs.Lists.{bit, len};
 ghost use Rattle.model.specs.State.{blocksInPiece};
 ghost use Rattle.model.specs.change.Partials.{blockAt};
 ghost use Rattle.layout.specs.Layout.{decode, stateFrom, partialIn, withPartial, withBlock, Room, Became};
-ghost use Rattle.layout.proofs.BlockStores.{BlockPut};
+ghost use Rattle.layout.specs.Frames.{BlockPut};
 ghost use Rattle.records.specs.Rows.{blockOfRow, BlockRead};
 
 // A block's state by its number, its requesters, and its peer where it has one.
@@ -40,7 +40,7 @@ pub fn get_block(mem: &[u64], s: layout::Shape, k: usize, j: usize) -> BlockRow
     requires { ⌜ j < blocksInPiece (decode (now mem)) (partialIn (decode (now mem)) k .piece) ⌝ }
     ensures { λ r. ⌜ BlockRead r (blockAt (partialIn (decode (now (mem .entry))) k) j) ⌝ }
 {
-    let p = layout::idx(layout::partial_word(mem, s, 2, k));
+    let p = types::u64_to_usize(layout::partial_word(mem, s, 2, k));
     let state = known(layout::block_word(mem, s, 0, p, j));
     let requesters = layout::block_word(mem, s, 1, p, j);
     let has = layout::block_word(mem, s, 2, p, j) == 1;
@@ -73,6 +73,6 @@ pub fn put_block(mem: &mut [u64], s: layout::Shape, k: usize, j: usize, r: Block
     requires { ⌜ j < blocksInPiece (decode (now mem)) (partialIn (decode (now mem)) k .piece) ⌝ }
     ensures { λ _. ⌜ Became s (now (mem .entry)) (now (mem .exit)) (withPartial k (withBlock j (blockOfRow r)) (decode (now (mem .entry)))) ⌝ }
 {
-    let p = layout::idx(layout::partial_word(mem, s, 2, k));
+    let p = types::u64_to_usize(layout::partial_word(mem, s, 2, k));
     put_row(mem, s, p, j, r);
 }

@@ -25,7 +25,7 @@ pub fn partial_count(mem: &[u64], s: layout::Shape) -> usize
     requires { ⌜ Room s (now mem) ⌝ }
     ensures { λ r. ⌜ r ≡ len (decode (now (mem .entry)) .partials) ⌝ }
 {
-    layout::idx(layout::head_word(mem, 7))
+    types::u64_to_usize(layout::head_word(mem, 7))
 }
 
 // The number of the piece of partial k, as the memory holds it.
@@ -45,7 +45,7 @@ pub fn partial_piece(mem: &[u64], s: layout::Shape, k: usize) -> PieceIndex
     ensures { λ r. ⌜ r .0 ≡ pos (partialIn (decode (now (mem .entry))) k .piece) ⌝ }
     ensures { λ r. ⌜ indexOf (r .0) ≡ partialIn (decode (now (mem .entry))) k .piece ⌝ }
 {
-    let i = layout::idx(piece_number(mem, s, k));
+    let i = types::u64_to_usize(piece_number(mem, s, k));
     PieceIndex::at(i)
 }
 
@@ -89,7 +89,7 @@ pub fn find(mem: &[u64], s: layout::Shape, piece: PieceIndex) -> Found
     requires { ⌜ Room s (now mem) ⌝ }
     ensures { λ r. ⌜ r ≡ placeFrom 0 (indexOf (piece .0)) (decode (now (mem .entry)) .partials) ⌝ }
 {
-    let wanted = layout::word(piece.get());
+    let wanted = types::usize_to_u64(piece.get());
     let n = partial_count(mem, s);
     let mut k = 0;
     while k < n {

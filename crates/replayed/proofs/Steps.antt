@@ -4,104 +4,65 @@ use mathlib.Core.Bool.{true, false}
 use Prim.Native.Nat.{ℕ}
 use mathlib.Core.List.{List, [], _∷_}
 use mathlib.Core.Option.{none, some}
-use Rattle.model.specs.Blocks.{pieceBlock}
-use Rattle.model.specs.Calls.{mark-as-downloading, mark-as-writing, pick-pieces, picked, question, said, set-piece-priority, told}
-use Rattle.model.specs.Questions.{is-requested, num-seeds, numbers, ofBlock, ofPicker}
-use Rattle.replayed.specs.Replay.{answered, asking, call-line, new-line, outcome, outcomes, read-line, refusedAt, replaying, stands, words}
+use Rattle.model.specs.Calls.{mark-as-finished, mark-as-writing, pick-pieces, picked, refused, said}
+use Rattle.model.specs.pick.Blocks.{pieceBlock}
+use Rattle.replayed.proofs.Replaying.{replaying}
+use Rattle.replayed.specs.Replay.{answered, asking, call-line, notDone, outcome, outcomes, read-line, stands, words}
+use Rattle.types.specs.declared.refusal.Refusal.the-variants.{FewDraws, IllFormedImage, ShortOutput}
 
-abbrev image-2 : List ℕ
-image-2 =
-    1 ∷ 0 ∷ 0 ∷ 0 ∷ 0 ∷ 0 ∷ 5 ∷ 0 ∷ 0 ∷ 0 ∷ 1 ∷ 0 ∷ 0 ∷ 0 ∷ 0 ∷ 0 ∷ 0 ∷ 0 ∷ 0 ∷ 0 ∷ 0 ∷ 0 ∷ 5 ∷ 1 ∷
+abbrev image-2136 : List ℕ
+image-2136 =
+    1 ∷ 0 ∷ 0 ∷ 0 ∷ 0 ∷ 0 ∷ 0 ∷ 0 ∷ 15 ∷ 0 ∷ 0 ∷ 0 ∷ 3 ∷ 0 ∷ 1 ∷ 0 ∷ 0 ∷ 0 ∷ 0 ∷ 0 ∷ 0 ∷ 0 ∷ 2 ∷ 0 ∷
+    2 ∷ 0 ∷ 0 ∷ 2 ∷ 6 ∷ 0 ∷ 0 ∷ 0 ∷ 0 ∷ 0 ∷
     2 ∷ 0 ∷ 0 ∷ 4 ∷ 4 ∷ 0 ∷ 0 ∷ 0 ∷ 0 ∷ 0 ∷
-    2 ∷ 0 ∷ 0 ∷ 4 ∷ 4 ∷ 0 ∷ 0 ∷ 0 ∷ 0 ∷ 0 ∷
-    2 ∷ 0 ∷ 0 ∷ 4 ∷ 4 ∷ 0 ∷ 0 ∷ 0 ∷ 0 ∷ 0 ∷
-    2 ∷ 0 ∷ 0 ∷ 4 ∷ 4 ∷ 0 ∷ 0 ∷ 0 ∷ 0 ∷ 0 ∷
-    2 ∷ 0 ∷ 0 ∷ 4 ∷ 4 ∷ 0 ∷ 0 ∷ 0 ∷ 0 ∷ 0 ∷ []
-
-abbrev image-4 : List ℕ
-image-4 =
-    1 ∷ 0 ∷ 0 ∷ 0 ∷ 0 ∷ 0 ∷ 5 ∷ 0 ∷ 0 ∷ 0 ∷ 1 ∷ 0 ∷ 0 ∷ 0 ∷ 0 ∷ 0 ∷ 0 ∷ 0 ∷ 0 ∷ 0 ∷ 0 ∷ 0 ∷ 5 ∷ 1 ∷
-    2 ∷ 0 ∷ 0 ∷ 4 ∷ 4 ∷ 0 ∷ 0 ∷ 0 ∷ 0 ∷ 0 ∷
-    2 ∷ 0 ∷ 0 ∷ 4 ∷ 4 ∷ 0 ∷ 0 ∷ 0 ∷ 0 ∷ 0 ∷
-    2 ∷ 0 ∷ 0 ∷ 0 ∷ 4 ∷ 0 ∷ 0 ∷ 0 ∷ 0 ∷ 0 ∷
-    2 ∷ 0 ∷ 0 ∷ 4 ∷ 4 ∷ 0 ∷ 0 ∷ 0 ∷ 0 ∷ 0 ∷
-    2 ∷ 0 ∷ 0 ∷ 4 ∷ 4 ∷ 0 ∷ 0 ∷ 0 ∷ 0 ∷ 0 ∷
+    2 ∷ 0 ∷ 1 ∷ 6 ∷ 4 ∷ 0 ∷ 0 ∷ 0 ∷ 0 ∷ 0 ∷
+    2 ∷ 3 ∷ 231 ∷ 4 ∷ 0 ∷ 0 ∷ 0 ∷ 0 ∷ 0 ∷ 0 ∷
+    2 ∷ 0 ∷ 0 ∷ 4 ∷ 0 ∷ 0 ∷ 0 ∷ 0 ∷ 0 ∷ 0 ∷
+    3 ∷ 0 ∷ 0 ∷ 0 ∷ 0 ∷ 2 ∷
+    4 ∷ 3 ∷ 0 ∷ 2 ∷ 1 ∷ 0 ∷ 0 ∷ 0 ∷ 0 ∷ 0 ∷ 0 ∷ 0 ∷ 2 ∷
     3 ∷ 0 ∷ 0 ∷ 0 ∷ 2 ∷ 0 ∷
     4 ∷ 0 ∷ 0 ∷ 0 ∷ 0 ∷ 0 ∷ 0 ∷ 0 ∷ 0 ∷ 0 ∷ 0 ∷ 0 ∷ 0 ∷
-    4 ∷ 2 ∷ 0 ∷ 0 ∷ 0 ∷ 0 ∷ 0 ∷ 0 ∷ 0 ∷ 0 ∷ 0 ∷ 0 ∷ 0 ∷
-    4 ∷ 0 ∷ 0 ∷ 0 ∷ 0 ∷ 0 ∷ 0 ∷ 0 ∷ 0 ∷ 0 ∷ 0 ∷ 0 ∷ 0 ∷
-    4 ∷ 0 ∷ 0 ∷ 0 ∷ 0 ∷ 0 ∷ 0 ∷ 0 ∷ 0 ∷ 0 ∷ 0 ∷ 0 ∷ 0 ∷ []
+    6 ∷ 0 ∷ 0 ∷ 0 ∷ 1 ∷
+    6 ∷ 0 ∷ 0 ∷ 0 ∷ 2 ∷ []
 
-abbrev image-7 : List ℕ
-image-7 =
-    1 ∷ 0 ∷ 0 ∷ 0 ∷ 0 ∷ 0 ∷ 5 ∷ 0 ∷ 0 ∷ 0 ∷ 1 ∷ 0 ∷ 0 ∷ 0 ∷ 0 ∷ 0 ∷ 0 ∷ 0 ∷ 0 ∷ 0 ∷ 0 ∷ 0 ∷ 5 ∷ 1 ∷
+abbrev image-2140 : List ℕ
+image-2140 =
+    1 ∷ 0 ∷ 0 ∷ 0 ∷ 0 ∷ 0 ∷ 0 ∷ 0 ∷ 15 ∷ 0 ∷ 0 ∷ 0 ∷ 3 ∷ 0 ∷ 1 ∷ 0 ∷ 0 ∷ 0 ∷ 0 ∷ 0 ∷ 0 ∷ 0 ∷ 2 ∷ 0 ∷
+    2 ∷ 0 ∷ 0 ∷ 2 ∷ 6 ∷ 0 ∷ 0 ∷ 0 ∷ 0 ∷ 0 ∷
     2 ∷ 0 ∷ 0 ∷ 4 ∷ 4 ∷ 0 ∷ 0 ∷ 0 ∷ 0 ∷ 0 ∷
-    2 ∷ 0 ∷ 0 ∷ 4 ∷ 4 ∷ 0 ∷ 0 ∷ 0 ∷ 0 ∷ 0 ∷
-    2 ∷ 0 ∷ 0 ∷ 0 ∷ 4 ∷ 0 ∷ 0 ∷ 0 ∷ 0 ∷ 0 ∷
-    2 ∷ 0 ∷ 0 ∷ 5 ∷ 4 ∷ 0 ∷ 0 ∷ 0 ∷ 0 ∷ 0 ∷
-    2 ∷ 0 ∷ 0 ∷ 4 ∷ 4 ∷ 0 ∷ 0 ∷ 0 ∷ 0 ∷ 0 ∷
+    2 ∷ 0 ∷ 1 ∷ 2 ∷ 4 ∷ 0 ∷ 0 ∷ 0 ∷ 0 ∷ 0 ∷
+    2 ∷ 3 ∷ 231 ∷ 4 ∷ 0 ∷ 0 ∷ 0 ∷ 0 ∷ 0 ∷ 0 ∷
+    2 ∷ 0 ∷ 0 ∷ 4 ∷ 0 ∷ 0 ∷ 0 ∷ 0 ∷ 0 ∷ 0 ∷
+    3 ∷ 0 ∷ 0 ∷ 0 ∷ 0 ∷ 2 ∷
+    4 ∷ 3 ∷ 0 ∷ 2 ∷ 1 ∷ 0 ∷ 0 ∷ 0 ∷ 0 ∷ 0 ∷ 0 ∷ 0 ∷ 2 ∷
     3 ∷ 0 ∷ 0 ∷ 0 ∷ 2 ∷ 0 ∷
-    4 ∷ 0 ∷ 0 ∷ 0 ∷ 0 ∷ 0 ∷ 0 ∷ 0 ∷ 0 ∷ 0 ∷ 0 ∷ 0 ∷ 0 ∷
-    4 ∷ 2 ∷ 0 ∷ 0 ∷ 0 ∷ 0 ∷ 0 ∷ 0 ∷ 0 ∷ 0 ∷ 0 ∷ 0 ∷ 0 ∷
-    4 ∷ 0 ∷ 0 ∷ 0 ∷ 0 ∷ 0 ∷ 0 ∷ 0 ∷ 0 ∷ 0 ∷ 0 ∷ 0 ∷ 0 ∷
-    4 ∷ 0 ∷ 0 ∷ 0 ∷ 0 ∷ 0 ∷ 0 ∷ 0 ∷ 0 ∷ 0 ∷ 0 ∷ 0 ∷ 0 ∷
-    3 ∷ 0 ∷ 0 ∷ 0 ∷ 3 ∷ 0 ∷
-    4 ∷ 0 ∷ 0 ∷ 0 ∷ 0 ∷ 0 ∷ 0 ∷ 0 ∷ 0 ∷ 0 ∷ 0 ∷ 0 ∷ 0 ∷
-    4 ∷ 0 ∷ 0 ∷ 0 ∷ 0 ∷ 0 ∷ 0 ∷ 0 ∷ 0 ∷ 0 ∷ 0 ∷ 0 ∷ 0 ∷
-    4 ∷ 0 ∷ 0 ∷ 0 ∷ 0 ∷ 0 ∷ 0 ∷ 0 ∷ 0 ∷ 0 ∷ 0 ∷ 0 ∷ 0 ∷
-    4 ∷ 1 ∷ 0 ∷ 1 ∷ 0 ∷ 0 ∷ 0 ∷ 0 ∷ 0 ∷ 0 ∷ 0 ∷ 0 ∷ 0 ∷
-    5 ∷ 0 ∷ 0 ∷ 0 ∷ 0 ∷ []
+    4 ∷ 2 ∷ 0 ∷ 0 ∷ 1 ∷ 0 ∷ 0 ∷ 0 ∷ 0 ∷ 0 ∷ 0 ∷ 0 ∷ 1 ∷
+    6 ∷ 0 ∷ 0 ∷ 0 ∷ 1 ∷ []
 
-abbrev image-8 : List ℕ
-image-8 =
-    1 ∷ 0 ∷ 0 ∷ 0 ∷ 0 ∷ 0 ∷ 5 ∷ 0 ∷ 0 ∷ 0 ∷ 1 ∷ 0 ∷ 0 ∷ 0 ∷ 0 ∷ 0 ∷ 0 ∷ 0 ∷ 0 ∷ 0 ∷ 0 ∷ 0 ∷ 5 ∷ 1 ∷
-    2 ∷ 0 ∷ 0 ∷ 4 ∷ 4 ∷ 0 ∷ 0 ∷ 0 ∷ 0 ∷ 0 ∷
-    2 ∷ 0 ∷ 0 ∷ 4 ∷ 4 ∷ 0 ∷ 0 ∷ 0 ∷ 0 ∷ 0 ∷
-    2 ∷ 0 ∷ 0 ∷ 0 ∷ 4 ∷ 0 ∷ 0 ∷ 0 ∷ 0 ∷ 0 ∷
-    2 ∷ 0 ∷ 0 ∷ 5 ∷ 6 ∷ 0 ∷ 0 ∷ 0 ∷ 0 ∷ 0 ∷
-    2 ∷ 0 ∷ 0 ∷ 4 ∷ 4 ∷ 0 ∷ 0 ∷ 0 ∷ 0 ∷ 0 ∷
-    3 ∷ 0 ∷ 0 ∷ 0 ∷ 2 ∷ 0 ∷
-    4 ∷ 0 ∷ 0 ∷ 0 ∷ 0 ∷ 0 ∷ 0 ∷ 0 ∷ 0 ∷ 0 ∷ 0 ∷ 0 ∷ 0 ∷
-    4 ∷ 2 ∷ 0 ∷ 0 ∷ 0 ∷ 0 ∷ 0 ∷ 0 ∷ 0 ∷ 0 ∷ 0 ∷ 0 ∷ 0 ∷
-    4 ∷ 0 ∷ 0 ∷ 0 ∷ 0 ∷ 0 ∷ 0 ∷ 0 ∷ 0 ∷ 0 ∷ 0 ∷ 0 ∷ 0 ∷
-    4 ∷ 0 ∷ 0 ∷ 0 ∷ 0 ∷ 0 ∷ 0 ∷ 0 ∷ 0 ∷ 0 ∷ 0 ∷ 0 ∷ 0 ∷
-    3 ∷ 0 ∷ 0 ∷ 0 ∷ 3 ∷ 0 ∷
-    4 ∷ 0 ∷ 0 ∷ 0 ∷ 0 ∷ 0 ∷ 0 ∷ 0 ∷ 0 ∷ 0 ∷ 0 ∷ 0 ∷ 0 ∷
-    4 ∷ 0 ∷ 0 ∷ 0 ∷ 0 ∷ 0 ∷ 0 ∷ 0 ∷ 0 ∷ 0 ∷ 0 ∷ 0 ∷ 0 ∷
-    4 ∷ 0 ∷ 0 ∷ 0 ∷ 0 ∷ 0 ∷ 0 ∷ 0 ∷ 0 ∷ 0 ∷ 0 ∷ 0 ∷ 0 ∷
-    4 ∷ 1 ∷ 0 ∷ 1 ∷ 0 ∷ 0 ∷ 0 ∷ 0 ∷ 0 ∷ 0 ∷ 0 ∷ 0 ∷ 0 ∷
-    5 ∷ 0 ∷ 0 ∷ 0 ∷ 0 ∷ []
-
--- calls 2 to 9
-calls-2 :
+-- calls 2136 to 2141
+calls-2136 :
     outcomes none
-    (new-line 1000000 327680 65536
-    ∷ call-line 1000000 (pick-pieces (asking 172 1 2047 1 (some 0) 5 (255 ∷ []) []) 4351 (words 4352 (292633207 ∷ [])))
-    ∷ call-line 1000000 (mark-as-writing 2 1 none (words 4352 []))
-    ∷ call-line 1000000 (question (ofPicker num-seeds))
-    ∷ call-line 1000000 (pick-pieces (asking 160 1 2047 2 (some 3) 5 (215 ∷ []) []) 4351 (words 4352 (5 ∷ [])))
-    ∷ call-line 1000000 (mark-as-downloading 3 3 none 130 (words 4352 []))
-    ∷ call-line 1000000 (set-piece-priority 3 6 (words 4352 []))
-    ∷ call-line 1000000 (question (ofBlock is-requested 4 2))
+    (read-line 1000000 image-2136
+    ∷ call-line 1000000 (pick-pieces (asking 142 2047 3 5 (some 0) 5 (222 ∷ []) []) 4351 (words 4352 (1673433023 ∷ [])))
+    ∷ call-line 1000000 (pick-pieces (asking 167 2048 2 10 (some 0) 5 (255 ∷ []) []) 2304 (words 4352 []))
+    ∷ call-line 1000000 (mark-as-writing 2 0 (some 1) (words 4352 []))
+    ∷ call-line 1000000 (mark-as-finished 0 0 (some 2) (words 0 []))
     ∷ [])
-    ≡ outcome stands image-2
-    ∷ outcome (answered (picked ((pieceBlock 0 0) ∷ (pieceBlock 0 1) ∷ (pieceBlock 0 2) ∷ (pieceBlock 0 3) ∷ (pieceBlock 1 0) ∷ (pieceBlock 1 1) ∷ (pieceBlock 1 2) ∷ (pieceBlock 1 3) ∷ (pieceBlock 2 0) ∷ (pieceBlock 2 1) ∷ (pieceBlock 2 2) ∷ (pieceBlock 2 3) ∷ (pieceBlock 3 0) ∷ (pieceBlock 3 1) ∷ (pieceBlock 3 2) ∷ (pieceBlock 3 3) ∷ (pieceBlock 4 0) ∷ (pieceBlock 4 1) ∷ (pieceBlock 4 2) ∷ (pieceBlock 4 3) ∷ []) 3072 (0 ∷ 0 ∷ 0 ∷ 0 ∷ 0 ∷ 20 ∷ 0 ∷ []) 1)) image-2
-    ∷ outcome (answered (said true 0)) image-4
-    ∷ outcome (answered (told (numbers ((some 0) ∷ [])))) image-4
-    ∷ outcome (answered (picked ((pieceBlock 0 0) ∷ (pieceBlock 0 1) ∷ (pieceBlock 0 2) ∷ (pieceBlock 0 3) ∷ (pieceBlock 1 0) ∷ (pieceBlock 1 1) ∷ (pieceBlock 1 2) ∷ (pieceBlock 1 3) ∷ []) 3072 (0 ∷ 0 ∷ 0 ∷ 0 ∷ 0 ∷ 8 ∷ 0 ∷ []) 1)) image-4
-    ∷ outcome (answered (said true 0)) image-7
-    ∷ outcome (answered (said false 0)) image-8
-    ∷ outcome (answered (told (numbers ((some 0) ∷ [])))) image-8
+    ≡ outcome stands image-2136
+    ∷ outcome (answered (picked ((pieceBlock 1 0) ∷ []) 11264 (0 ∷ 0 ∷ 0 ∷ 0 ∷ 3 ∷ 1 ∷ 0 ∷ []) 1)) image-2136
+    ∷ outcome (answered (refused ShortOutput)) image-2136
+    ∷ outcome (answered (said true 0)) image-2140
+    ∷ outcome (answered (refused FewDraws)) image-2140
     ∷ []
 unfolding replaying
-calls-2 = refl
+calls-2136 = refl
 
--- call 4732
-calls-4732 :
+-- call 6406
+calls-6406 :
     outcomes none
     (read-line 1000000 []
     ∷ [])
-    ≡ outcome (refusedAt 13 (some 0)) []
+    ≡ outcome (notDone (IllFormedImage 0)) []
     ∷ []
 unfolding replaying
-calls-4732 = refl
+calls-6406 = refl

@@ -3,16 +3,16 @@ use Prim.Native.Nat.{ℕ, _-_}
 use mathlib.Core.List.{List, [], _∷_, _++_}
 use mathlib.Core.Option.{Option, none, some}
 use lib.ListN.{length, replicate}
+use Rattle.types.specs.declared.refusal.Refusal.{Refusal}
 use Rattle.model.specs.State.{Picker}
-use Rattle.model.specs.Blocks.{Ask}
-use Rattle.model.specs.Image.{image}
+use Rattle.model.specs.pick.Blocks.{PickRequest}
+use Rattle.model.specs.image.Image.{image}
 use Rattle.model.specs.Calls.{Action, Answer, Step, Made, made, notMade, Taken, taken, notTaken, step, newPicker, readPicker, takeImage}
-use Rattle.model.proofs.Everything.{everything}
 
 -- ---- a script's line
 -- `lent` are words of memory, `room` the bytes lent for an image
 pub data Line : Type 0 where
-  new-line : (lent total size : ℕ) → Line
+  new-line : (lent totalSize pieceSize : ℕ) → Line
   read-line : (lent : ℕ) → List ℕ → Line
   image-line : (lent room : ℕ) → Line
   call-line : (lent : ℕ) → Action → Line
@@ -22,14 +22,14 @@ abbrev pub words : ℕ → List ℕ → List ℕ
 words n ws = ws ++ replicate (n - length ws) 0
 
 -- what a pick is asked, in the order of the script
-abbrev pub asking : ℕ → ℕ → ℕ → ℕ → Option ℕ → ℕ → List ℕ → List ℕ → Ask
-asking o n r p q b bs ss = record { options = o; wanted = n; run = r; peers = p; peer = q; bits = b; bytes = bs; suggestions = ss }
+abbrev pub asking : ℕ → ℕ → ℕ → ℕ → Option ℕ → ℕ → List ℕ → List ℕ → PickRequest
+asking o n r p q b bs ss = record { options = o; wanted = n; contiguous = r; peers = p; peer = q; bits = b; bytes = bs; suggestions = ss }
 
 -- ---- an outcome
 -- `stands` is said of a picker made, `noPicker` of a call that finds none
 pub data Given : Type 0 where
   stands : Given
-  refusedAt : (number : ℕ) → (place : Option ℕ) → Given
+  notDone : Refusal → Given
   bytesTaken : List ℕ → Given
   answered : Answer → Given
   noPicker : Given
@@ -51,12 +51,12 @@ after g s = record { given = g; picker = s }
 -- a picker made, or the one that stood
 unfoldable pub making : Option Picker → Made → After
 making s (made t) = after stands (some t)
-making s (notMade n place) = after (refusedAt n place) s
+making s (notMade why) = after (notDone why) s
 
 -- an image taken
 unfoldable pub taking : Option Picker → Taken → After
 taking s (taken bs) = after (bytesTaken bs) s
-taking s (notTaken n) = after (refusedAt n none) s
+taking s (notTaken why) = after (notDone why) s
 
 -- a call answered
 unfoldable pub stepping : Step → After
@@ -64,7 +64,7 @@ stepping x = after (answered (x .answer)) (some (x .after))
 
 -- a line on a picker, or on none
 unfoldable pub lead : Option Picker → Line → After
-lead s (new-line lent total size) = making s (newPicker lent total size)
+lead s (new-line lent totalSize pieceSize) = making s (newPicker lent totalSize pieceSize)
 lead s (read-line lent bs) = making s (readPicker lent bs)
 lead none (image-line lent room) = after noPicker none
 lead (some s) (image-line lent room) = taking (some s) (takeImage s lent room)
@@ -91,8 +91,3 @@ outcomes s (l ∷ ls) =
 -- an outcome written out
 abbrev pub outcome : Given → List ℕ → Outcome
 outcome g bs = record { given = g; image = bs }
-
--- all definitions opened, those of the model among them
-unfoldable pub replaying : Unit {0}
-unfolding everything after making taking stepping lead imageAfter outcomeOf outcomes
-replaying = tt

@@ -1,1844 +1,2035 @@
--- Recorded calls 1382 to 4039, those that are replayed, computed. Written by compare/steps.py: not to be edited.
+-- Recorded calls 1205 to 4904, those that are replayed, computed. Written by compare/steps.py: not to be edited.
 use mathlib.Core.Path.{_≡_, refl}
 use mathlib.Core.Bool.{true, false}
 use Prim.Native.Nat.{ℕ}
 use mathlib.Core.List.{List, [], _∷_}
 use mathlib.Core.Option.{none, some}
-use Rattle.model.specs.Blocks.{pieceBlock}
-use Rattle.model.specs.Calls.{abort-download, dec-refcount, dec-refcount-all, done, inc-refcount, inc-refcount-all, lock-piece, mark-as-downloading, mark-as-finished, mark-as-writing, pick-pieces, picked, piece-passed, question, refused, said, set-piece-priority, told}
-use Rattle.model.specs.Questions.{block-num-peers, block-peer, block-state, blocks-for-piece, blocks-in-piece, dirty, distributed-copies, get-download-queue, get-download-queue-sizes, get-downloader, get-downloaders, hashing?, is-downloaded, is-finished-block, is-hashing, is-requested, list-place, listOfPicker, listOfPiece, locked?, nothing, num-peers-block, num-pieces, numbers, ofBlock, ofPicker, ofPiece, partial-at, payload-blocks-in-piece, piece-priorities, piece-priority, piece-size, piece-stats, recent-extent, staleList}
-use Rattle.replayed.specs.Replay.{answered, asking, bytesTaken, call-line, image-line, new-line, outcome, outcomes, read-line, refusedAt, replaying, stands, words}
+use Rattle.model.specs.Calls.{abort-download, dec-refcount, dec-refcount-all, done, inc-refcount, inc-refcount-all, lock-piece, mark-as-canceled, mark-as-downloading, mark-as-finished, mark-as-writing, pick-pieces, picked, piece-passed, question, refused, replied, said, set-piece-priority}
+use Rattle.model.specs.ask.Questions.{block-num-peers, block-size, block-state, blocks-for-piece, distributed-copies, get-availability, get-availability-vec, get-download-queue, get-download-queue-sizes, get-downloader, get-downloaders, hashing?, is-downloaded, is-finished-block, is-requested, list-place, listOfPicker, listOfPiece, locked?, nothing, num-peers-block, numbers, ofBlock, ofPicker, ofPiece, pad-bytes-in-piece, partial-at, passed-hash-check, payload-blocks-in-piece, peer-count, piece-info, piece-priorities, piece-priority, piece-size, recent-extent, reverse-cursor?, staleList, total-size, want}
+use Rattle.model.specs.pick.Blocks.{pieceBlock}
+use Rattle.replayed.proofs.Replaying.{replaying}
+use Rattle.replayed.specs.Replay.{answered, asking, bytesTaken, call-line, image-line, new-line, notDone, outcome, outcomes, read-line, stands, words}
+use Rattle.types.specs.declared.refusal.Refusal.the-variants.{FewDraws, Geometry, HavePiece, NoPeerToTake, NotWriting, OutOfRange, PickArguments, ShortMemory, ShortOutput, TooManyPeers}
 
-abbrev image-1382 : List ℕ
-image-1382 =
-    1 ∷ 0 ∷ 0 ∷ 0 ∷ 0 ∷ 0 ∷ 0 ∷ 207 ∷ 68 ∷ 0 ∷ 1 ∷ 0 ∷ 0 ∷ 0 ∷ 1 ∷ 0 ∷ 0 ∷ 0 ∷ 0 ∷ 0 ∷ 0 ∷ 0 ∷ 0 ∷ 0 ∷
-    2 ∷ 0 ∷ 2 ∷ 2 ∷ 7 ∷ 0 ∷ 0 ∷ 0 ∷ 0 ∷ 0 ∷
-    3 ∷ 0 ∷ 0 ∷ 0 ∷ 0 ∷ 3 ∷
-    4 ∷ 0 ∷ 0 ∷ 0 ∷ 1 ∷ 255 ∷ 255 ∷ 255 ∷ 255 ∷ 255 ∷ 255 ∷ 255 ∷ 255 ∷
-    4 ∷ 0 ∷ 0 ∷ 0 ∷ 0 ∷ 0 ∷ 0 ∷ 0 ∷ 0 ∷ 0 ∷ 0 ∷ 0 ∷ 0 ∷
-    4 ∷ 0 ∷ 3 ∷ 231 ∷ 1 ∷ 0 ∷ 0 ∷ 0 ∷ 0 ∷ 0 ∷ 0 ∷ 0 ∷ 1 ∷
-    4 ∷ 0 ∷ 0 ∷ 0 ∷ 1 ∷ 0 ∷ 0 ∷ 0 ∷ 0 ∷ 0 ∷ 0 ∷ 0 ∷ 2 ∷
-    5 ∷ 0 ∷ 0 ∷ 0 ∷ 0 ∷ []
-
-abbrev image-1384 : List ℕ
-image-1384 =
-    1 ∷ 0 ∷ 0 ∷ 0 ∷ 0 ∷ 0 ∷ 0 ∷ 207 ∷ 68 ∷ 0 ∷ 1 ∷ 0 ∷ 0 ∷ 0 ∷ 1 ∷ 0 ∷ 0 ∷ 0 ∷ 0 ∷ 0 ∷ 0 ∷ 0 ∷ 0 ∷ 0 ∷
-    2 ∷ 0 ∷ 2 ∷ 0 ∷ 7 ∷ 0 ∷ 0 ∷ 0 ∷ 0 ∷ 0 ∷
-    3 ∷ 0 ∷ 0 ∷ 0 ∷ 0 ∷ 3 ∷
-    4 ∷ 0 ∷ 0 ∷ 0 ∷ 1 ∷ 255 ∷ 255 ∷ 255 ∷ 255 ∷ 255 ∷ 255 ∷ 255 ∷ 255 ∷
-    4 ∷ 0 ∷ 0 ∷ 0 ∷ 0 ∷ 0 ∷ 0 ∷ 0 ∷ 0 ∷ 0 ∷ 0 ∷ 0 ∷ 0 ∷
-    4 ∷ 1 ∷ 3 ∷ 232 ∷ 1 ∷ 0 ∷ 0 ∷ 0 ∷ 0 ∷ 0 ∷ 0 ∷ 0 ∷ 1 ∷
-    4 ∷ 0 ∷ 0 ∷ 0 ∷ 1 ∷ 0 ∷ 0 ∷ 0 ∷ 0 ∷ 0 ∷ 0 ∷ 0 ∷ 2 ∷
-    5 ∷ 0 ∷ 0 ∷ 0 ∷ 0 ∷
-    6 ∷ 0 ∷ 0 ∷ 0 ∷ 0 ∷ []
-
-abbrev image-1385 : List ℕ
-image-1385 =
-    1 ∷ 0 ∷ 0 ∷ 0 ∷ 0 ∷ 0 ∷ 0 ∷ 207 ∷ 68 ∷ 0 ∷ 1 ∷ 0 ∷ 0 ∷ 0 ∷ 1 ∷ 0 ∷ 0 ∷ 0 ∷ 0 ∷ 0 ∷ 0 ∷ 0 ∷ 0 ∷ 0 ∷
-    2 ∷ 0 ∷ 2 ∷ 0 ∷ 7 ∷ 0 ∷ 0 ∷ 0 ∷ 0 ∷ 0 ∷
-    3 ∷ 0 ∷ 0 ∷ 0 ∷ 0 ∷ 3 ∷
-    4 ∷ 0 ∷ 0 ∷ 0 ∷ 1 ∷ 255 ∷ 255 ∷ 255 ∷ 255 ∷ 255 ∷ 255 ∷ 255 ∷ 255 ∷
-    4 ∷ 0 ∷ 0 ∷ 0 ∷ 0 ∷ 0 ∷ 0 ∷ 0 ∷ 0 ∷ 0 ∷ 0 ∷ 0 ∷ 0 ∷
-    4 ∷ 1 ∷ 3 ∷ 232 ∷ 1 ∷ 0 ∷ 0 ∷ 0 ∷ 0 ∷ 0 ∷ 0 ∷ 0 ∷ 1 ∷
-    4 ∷ 3 ∷ 0 ∷ 0 ∷ 1 ∷ 0 ∷ 0 ∷ 0 ∷ 0 ∷ 0 ∷ 0 ∷ 0 ∷ 2 ∷
-    5 ∷ 0 ∷ 0 ∷ 0 ∷ 0 ∷
-    6 ∷ 0 ∷ 0 ∷ 0 ∷ 0 ∷ []
-
-abbrev image-1387 : List ℕ
-image-1387 =
-    1 ∷ 0 ∷ 0 ∷ 0 ∷ 0 ∷ 0 ∷ 0 ∷ 207 ∷ 68 ∷ 0 ∷ 1 ∷ 0 ∷ 0 ∷ 0 ∷ 2 ∷ 0 ∷ 0 ∷ 0 ∷ 0 ∷ 0 ∷ 0 ∷ 0 ∷ 0 ∷ 0 ∷
-    2 ∷ 0 ∷ 2 ∷ 0 ∷ 7 ∷ 0 ∷ 0 ∷ 0 ∷ 0 ∷ 0 ∷
-    3 ∷ 0 ∷ 0 ∷ 0 ∷ 0 ∷ 3 ∷
-    4 ∷ 0 ∷ 0 ∷ 0 ∷ 1 ∷ 255 ∷ 255 ∷ 255 ∷ 255 ∷ 255 ∷ 255 ∷ 255 ∷ 255 ∷
-    4 ∷ 0 ∷ 0 ∷ 0 ∷ 0 ∷ 0 ∷ 0 ∷ 0 ∷ 0 ∷ 0 ∷ 0 ∷ 0 ∷ 0 ∷
-    4 ∷ 1 ∷ 3 ∷ 232 ∷ 1 ∷ 0 ∷ 0 ∷ 0 ∷ 0 ∷ 0 ∷ 0 ∷ 0 ∷ 1 ∷
-    4 ∷ 3 ∷ 0 ∷ 0 ∷ 1 ∷ 0 ∷ 0 ∷ 0 ∷ 0 ∷ 0 ∷ 0 ∷ 0 ∷ 2 ∷
-    5 ∷ 0 ∷ 0 ∷ 0 ∷ 0 ∷
-    6 ∷ 0 ∷ 0 ∷ 0 ∷ 0 ∷ []
-
--- calls 1382 to 1391
-calls-1382 :
-    outcomes none
-    (read-line 1000000 image-1382
-    ∷ call-line 1000000 (question (listOfPiece get-downloaders 0 1000000))
-    ∷ call-line 1000000 (mark-as-downloading 0 2 (some 1) 2 (words 4352 []))
-    ∷ call-line 1000000 (mark-as-finished 0 3 (some 2) (words 4352 []))
-    ∷ call-line 1000000 (abort-download 0 1 (some 0) (words 4352 []))
-    ∷ call-line 1000000 inc-refcount-all
-    ∷ call-line 1000000 (question (ofBlock block-peer 0 1))
-    ∷ call-line 1000000 (question (listOfPicker piece-priorities 1000000))
-    ∷ call-line 1000000 (pick-pieces (asking 196 2 20 1 (some 2) 1 (222 ∷ []) []) 4351 (words 5000 (1541270162 ∷ [])))
-    ∷ call-line 1000000 (question (ofPiece blocks-in-piece 9223372036854775807))
-    ∷ [])
-    ≡ outcome stands image-1382
-    ∷ outcome (answered (told (numbers ((some 18446744073709551615) ∷ none ∷ (some 1) ∷ (some 2) ∷ [])))) image-1382
-    ∷ outcome (answered (said true 0)) image-1384
-    ∷ outcome (answered (done 0)) image-1385
-    ∷ outcome (answered (done 0)) image-1385
-    ∷ outcome (answered (done 0)) image-1387
-    ∷ outcome (answered (told (numbers (none ∷ [])))) image-1387
-    ∷ outcome (answered (told (numbers ((some 7) ∷ [])))) image-1387
-    ∷ outcome (answered (picked [] 11264 (0 ∷ 0 ∷ 0 ∷ 0 ∷ 0 ∷ 0 ∷ 0 ∷ []) 1)) image-1387
-    ∷ outcome (answered (refused 5)) image-1387
-    ∷ []
-unfolding replaying
-calls-1382 = refl
-
-abbrev image-1442 : List ℕ
-image-1442 =
-    1 ∷ 0 ∷ 0 ∷ 0 ∷ 0 ∷ 0 ∷ 0 ∷ 128 ∷ 1 ∷ 0 ∷ 0 ∷ 128 ∷ 0 ∷ 0 ∷ 1 ∷ 0 ∷ 0 ∷ 0 ∷ 0 ∷ 0 ∷ 0 ∷ 0 ∷ 2 ∷ 0 ∷
-    2 ∷ 0 ∷ 1 ∷ 4 ∷ 4 ∷ 0 ∷ 0 ∷ 0 ∷ 64 ∷ 1 ∷
-    2 ∷ 0 ∷ 0 ∷ 0 ∷ 6 ∷ 0 ∷ 0 ∷ 0 ∷ 0 ∷ 1 ∷
-    3 ∷ 0 ∷ 0 ∷ 0 ∷ 1 ∷ 2 ∷
-    4 ∷ 0 ∷ 0 ∷ 0 ∷ 1 ∷ 0 ∷ 0 ∷ 0 ∷ 0 ∷ 0 ∷ 0 ∷ 0 ∷ 3 ∷
-    6 ∷ 0 ∷ 0 ∷ 0 ∷ 1 ∷
-    6 ∷ 0 ∷ 0 ∷ 0 ∷ 0 ∷ []
-
--- calls 1442 to 1444
-calls-1442 :
-    outcomes none
-    (read-line 1000000 image-1442
-    ∷ call-line 1000000 (piece-passed 2147483648)
-    ∷ [])
-    ≡ outcome stands image-1442
-    ∷ outcome (answered (refused 5)) image-1442
-    ∷ []
-unfolding replaying
-calls-1442 = refl
-
-abbrev image-1472 : List ℕ
-image-1472 =
-    1 ∷ 0 ∷ 0 ∷ 0 ∷ 0 ∷ 0 ∷ 2 ∷ 0 ∷ 1 ∷ 0 ∷ 1 ∷ 0 ∷ 0 ∷ 0 ∷ 0 ∷ 0 ∷ 0 ∷ 0 ∷ 3 ∷ 0 ∷ 0 ∷ 0 ∷ 3 ∷ 0 ∷
-    2 ∷ 0 ∷ 2 ∷ 0 ∷ 7 ∷ 0 ∷ 0 ∷ 0 ∷ 64 ∷ 0 ∷
-    2 ∷ 0 ∷ 1 ∷ 4 ∷ 7 ∷ 0 ∷ 0 ∷ 0 ∷ 0 ∷ 0 ∷
-    2 ∷ 3 ∷ 232 ∷ 4 ∷ 7 ∷ 0 ∷ 0 ∷ 0 ∷ 0 ∷ 0 ∷
-    3 ∷ 0 ∷ 0 ∷ 0 ∷ 0 ∷ 0 ∷
-    4 ∷ 1 ∷ 0 ∷ 1 ∷ 1 ∷ 255 ∷ 255 ∷ 255 ∷ 255 ∷ 255 ∷ 255 ∷ 255 ∷ 255 ∷
-    4 ∷ 1 ∷ 0 ∷ 3 ∷ 1 ∷ 0 ∷ 0 ∷ 0 ∷ 0 ∷ 0 ∷ 0 ∷ 0 ∷ 1 ∷
-    4 ∷ 0 ∷ 0 ∷ 0 ∷ 0 ∷ 0 ∷ 0 ∷ 0 ∷ 0 ∷ 0 ∷ 0 ∷ 0 ∷ 0 ∷
-    4 ∷ 1 ∷ 0 ∷ 1 ∷ 1 ∷ 0 ∷ 0 ∷ 0 ∷ 0 ∷ 0 ∷ 0 ∷ 0 ∷ 2 ∷
-    5 ∷ 0 ∷ 0 ∷ 0 ∷ 0 ∷
-    6 ∷ 0 ∷ 0 ∷ 0 ∷ 1 ∷
-    6 ∷ 0 ∷ 0 ∷ 0 ∷ 0 ∷
-    6 ∷ 0 ∷ 0 ∷ 0 ∷ 2 ∷ []
-
-abbrev image-1474 : List ℕ
-image-1474 =
-    1 ∷ 0 ∷ 0 ∷ 0 ∷ 0 ∷ 0 ∷ 2 ∷ 0 ∷ 1 ∷ 0 ∷ 1 ∷ 0 ∷ 0 ∷ 0 ∷ 0 ∷ 0 ∷ 0 ∷ 0 ∷ 3 ∷ 0 ∷ 0 ∷ 0 ∷ 3 ∷ 0 ∷
-    2 ∷ 0 ∷ 2 ∷ 0 ∷ 7 ∷ 0 ∷ 0 ∷ 0 ∷ 64 ∷ 0 ∷
-    2 ∷ 0 ∷ 1 ∷ 0 ∷ 7 ∷ 0 ∷ 0 ∷ 0 ∷ 0 ∷ 0 ∷
-    2 ∷ 3 ∷ 232 ∷ 4 ∷ 7 ∷ 0 ∷ 0 ∷ 0 ∷ 0 ∷ 0 ∷
-    3 ∷ 0 ∷ 0 ∷ 0 ∷ 0 ∷ 0 ∷
-    4 ∷ 1 ∷ 0 ∷ 1 ∷ 1 ∷ 255 ∷ 255 ∷ 255 ∷ 255 ∷ 255 ∷ 255 ∷ 255 ∷ 255 ∷
-    4 ∷ 1 ∷ 0 ∷ 3 ∷ 1 ∷ 0 ∷ 0 ∷ 0 ∷ 0 ∷ 0 ∷ 0 ∷ 0 ∷ 1 ∷
-    4 ∷ 0 ∷ 0 ∷ 0 ∷ 0 ∷ 0 ∷ 0 ∷ 0 ∷ 0 ∷ 0 ∷ 0 ∷ 0 ∷ 0 ∷
-    4 ∷ 1 ∷ 0 ∷ 1 ∷ 1 ∷ 0 ∷ 0 ∷ 0 ∷ 0 ∷ 0 ∷ 0 ∷ 0 ∷ 2 ∷
-    3 ∷ 0 ∷ 0 ∷ 0 ∷ 1 ∷ 0 ∷
-    4 ∷ 0 ∷ 0 ∷ 0 ∷ 0 ∷ 0 ∷ 0 ∷ 0 ∷ 0 ∷ 0 ∷ 0 ∷ 0 ∷ 0 ∷
-    4 ∷ 0 ∷ 0 ∷ 0 ∷ 0 ∷ 0 ∷ 0 ∷ 0 ∷ 0 ∷ 0 ∷ 0 ∷ 0 ∷ 0 ∷
-    4 ∷ 2 ∷ 0 ∷ 0 ∷ 1 ∷ 0 ∷ 0 ∷ 0 ∷ 0 ∷ 0 ∷ 0 ∷ 0 ∷ 3 ∷
-    4 ∷ 0 ∷ 0 ∷ 0 ∷ 0 ∷ 0 ∷ 0 ∷ 0 ∷ 0 ∷ 0 ∷ 0 ∷ 0 ∷ 0 ∷
-    5 ∷ 0 ∷ 0 ∷ 0 ∷ 0 ∷
-    6 ∷ 0 ∷ 0 ∷ 0 ∷ 1 ∷
-    6 ∷ 0 ∷ 0 ∷ 0 ∷ 0 ∷
-    6 ∷ 0 ∷ 0 ∷ 0 ∷ 2 ∷ []
-
--- calls 1472 to 1475
-calls-1472 :
-    outcomes none
-    (read-line 1000000 image-1472
-    ∷ call-line 1000000 (abort-download 2 0 (some 18446744073709551615) (words 5000 []))
-    ∷ call-line 1000000 (mark-as-writing 1 2 (some 3) (words 4352 []))
-    ∷ call-line 1000000 (question (ofBlock block-state 0 2))
-    ∷ [])
-    ≡ outcome stands image-1472
-    ∷ outcome (answered (done 0)) image-1472
-    ∷ outcome (answered (said true 0)) image-1474
-    ∷ outcome (answered (told (numbers ((some 0) ∷ [])))) image-1474
-    ∷ []
-unfolding replaying
-calls-1472 = refl
-
-abbrev image-1502 : List ℕ
-image-1502 =
-    1 ∷ 0 ∷ 0 ∷ 0 ∷ 0 ∷ 0 ∷ 1 ∷ 0 ∷ 0 ∷ 0 ∷ 1 ∷ 0 ∷ 0 ∷ 0 ∷ 0 ∷ 0 ∷ 0 ∷ 0 ∷ 0 ∷ 0 ∷ 0 ∷ 0 ∷ 1 ∷ 1 ∷
+abbrev image-1205 : List ℕ
+image-1205 =
+    1 ∷ 0 ∷ 0 ∷ 0 ∷ 0 ∷ 0 ∷ 0 ∷ 214 ∷ 238 ∷ 0 ∷ 0 ∷ 128 ∷ 0 ∷ 0 ∷ 0 ∷ 0 ∷ 0 ∷ 0 ∷ 0 ∷ 0 ∷ 0 ∷ 0 ∷ 2 ∷ 1 ∷
+    2 ∷ 0 ∷ 0 ∷ 4 ∷ 4 ∷ 0 ∷ 0 ∷ 0 ∷ 0 ∷ 0 ∷
     2 ∷ 0 ∷ 0 ∷ 4 ∷ 4 ∷ 0 ∷ 0 ∷ 0 ∷ 0 ∷ 0 ∷ []
 
-abbrev image-1503 : List ℕ
-image-1503 =
-    1 ∷ 0 ∷ 0 ∷ 0 ∷ 0 ∷ 0 ∷ 1 ∷ 0 ∷ 0 ∷ 0 ∷ 1 ∷ 0 ∷ 0 ∷ 0 ∷ 0 ∷ 0 ∷ 0 ∷ 0 ∷ 0 ∷ 0 ∷ 0 ∷ 0 ∷ 1 ∷ 0 ∷
-    2 ∷ 0 ∷ 0 ∷ 4 ∷ 4 ∷ 0 ∷ 0 ∷ 0 ∷ 0 ∷ 0 ∷ []
-
-abbrev image-1504 : List ℕ
-image-1504 =
-    1 ∷ 0 ∷ 0 ∷ 0 ∷ 0 ∷ 0 ∷ 1 ∷ 0 ∷ 0 ∷ 0 ∷ 1 ∷ 0 ∷ 0 ∷ 0 ∷ 0 ∷ 0 ∷ 0 ∷ 0 ∷ 0 ∷ 0 ∷ 0 ∷ 0 ∷ 1 ∷ 0 ∷
+abbrev image-1206 : List ℕ
+image-1206 =
+    1 ∷ 0 ∷ 0 ∷ 0 ∷ 0 ∷ 0 ∷ 0 ∷ 214 ∷ 238 ∷ 0 ∷ 0 ∷ 128 ∷ 0 ∷ 0 ∷ 0 ∷ 0 ∷ 0 ∷ 0 ∷ 0 ∷ 0 ∷ 0 ∷ 0 ∷ 2 ∷ 1 ∷
     2 ∷ 0 ∷ 0 ∷ 0 ∷ 4 ∷ 0 ∷ 0 ∷ 0 ∷ 0 ∷ 0 ∷
+    2 ∷ 0 ∷ 0 ∷ 4 ∷ 4 ∷ 0 ∷ 0 ∷ 0 ∷ 0 ∷ 0 ∷
     3 ∷ 0 ∷ 0 ∷ 0 ∷ 0 ∷ 0 ∷
-    4 ∷ 3 ∷ 0 ∷ 0 ∷ 1 ∷ 0 ∷ 0 ∷ 0 ∷ 0 ∷ 0 ∷ 0 ∷ 0 ∷ 1 ∷
     4 ∷ 0 ∷ 0 ∷ 0 ∷ 0 ∷ 0 ∷ 0 ∷ 0 ∷ 0 ∷ 0 ∷ 0 ∷ 0 ∷ 0 ∷
-    4 ∷ 0 ∷ 0 ∷ 0 ∷ 0 ∷ 0 ∷ 0 ∷ 0 ∷ 0 ∷ 0 ∷ 0 ∷ 0 ∷ 0 ∷
-    4 ∷ 0 ∷ 0 ∷ 0 ∷ 0 ∷ 0 ∷ 0 ∷ 0 ∷ 0 ∷ 0 ∷ 0 ∷ 0 ∷ 0 ∷ []
-
-abbrev image-1505 : List ℕ
-image-1505 =
-    1 ∷ 0 ∷ 0 ∷ 0 ∷ 0 ∷ 0 ∷ 1 ∷ 0 ∷ 0 ∷ 0 ∷ 1 ∷ 0 ∷ 0 ∷ 0 ∷ 0 ∷ 0 ∷ 0 ∷ 0 ∷ 0 ∷ 0 ∷ 0 ∷ 0 ∷ 1 ∷ 0 ∷
-    2 ∷ 0 ∷ 0 ∷ 0 ∷ 4 ∷ 0 ∷ 0 ∷ 0 ∷ 0 ∷ 0 ∷
-    3 ∷ 0 ∷ 0 ∷ 0 ∷ 0 ∷ 0 ∷
-    4 ∷ 3 ∷ 0 ∷ 0 ∷ 1 ∷ 0 ∷ 0 ∷ 0 ∷ 0 ∷ 0 ∷ 0 ∷ 0 ∷ 1 ∷
-    4 ∷ 3 ∷ 0 ∷ 0 ∷ 1 ∷ 0 ∷ 0 ∷ 0 ∷ 0 ∷ 0 ∷ 0 ∷ 0 ∷ 0 ∷
-    4 ∷ 0 ∷ 0 ∷ 0 ∷ 0 ∷ 0 ∷ 0 ∷ 0 ∷ 0 ∷ 0 ∷ 0 ∷ 0 ∷ 0 ∷
-    4 ∷ 0 ∷ 0 ∷ 0 ∷ 0 ∷ 0 ∷ 0 ∷ 0 ∷ 0 ∷ 0 ∷ 0 ∷ 0 ∷ 0 ∷ []
-
-abbrev image-1506 : List ℕ
-image-1506 =
-    1 ∷ 0 ∷ 0 ∷ 0 ∷ 0 ∷ 0 ∷ 1 ∷ 0 ∷ 0 ∷ 0 ∷ 1 ∷ 0 ∷ 0 ∷ 0 ∷ 0 ∷ 0 ∷ 0 ∷ 0 ∷ 0 ∷ 0 ∷ 0 ∷ 0 ∷ 1 ∷ 0 ∷
-    2 ∷ 0 ∷ 0 ∷ 0 ∷ 4 ∷ 0 ∷ 0 ∷ 0 ∷ 0 ∷ 0 ∷
-    3 ∷ 0 ∷ 0 ∷ 0 ∷ 0 ∷ 1 ∷
-    4 ∷ 3 ∷ 0 ∷ 0 ∷ 1 ∷ 0 ∷ 0 ∷ 0 ∷ 0 ∷ 0 ∷ 0 ∷ 0 ∷ 1 ∷
-    4 ∷ 3 ∷ 0 ∷ 0 ∷ 1 ∷ 0 ∷ 0 ∷ 0 ∷ 0 ∷ 0 ∷ 0 ∷ 0 ∷ 0 ∷
-    4 ∷ 0 ∷ 0 ∷ 0 ∷ 0 ∷ 0 ∷ 0 ∷ 0 ∷ 0 ∷ 0 ∷ 0 ∷ 0 ∷ 0 ∷
-    4 ∷ 0 ∷ 0 ∷ 0 ∷ 0 ∷ 0 ∷ 0 ∷ 0 ∷ 0 ∷ 0 ∷ 0 ∷ 0 ∷ 0 ∷ []
-
-abbrev image-1508 : List ℕ
-image-1508 =
-    1 ∷ 0 ∷ 0 ∷ 0 ∷ 0 ∷ 0 ∷ 1 ∷ 0 ∷ 0 ∷ 0 ∷ 1 ∷ 0 ∷ 0 ∷ 0 ∷ 0 ∷ 0 ∷ 0 ∷ 0 ∷ 0 ∷ 0 ∷ 0 ∷ 0 ∷ 1 ∷ 0 ∷
-    2 ∷ 0 ∷ 0 ∷ 0 ∷ 4 ∷ 0 ∷ 0 ∷ 0 ∷ 0 ∷ 0 ∷
-    3 ∷ 0 ∷ 0 ∷ 0 ∷ 0 ∷ 1 ∷
-    4 ∷ 3 ∷ 0 ∷ 0 ∷ 1 ∷ 0 ∷ 0 ∷ 0 ∷ 0 ∷ 0 ∷ 0 ∷ 0 ∷ 1 ∷
-    4 ∷ 3 ∷ 0 ∷ 0 ∷ 1 ∷ 0 ∷ 0 ∷ 0 ∷ 0 ∷ 0 ∷ 0 ∷ 0 ∷ 0 ∷
-    4 ∷ 0 ∷ 0 ∷ 0 ∷ 0 ∷ 0 ∷ 0 ∷ 0 ∷ 0 ∷ 0 ∷ 0 ∷ 0 ∷ 0 ∷
-    4 ∷ 2 ∷ 0 ∷ 0 ∷ 1 ∷ 0 ∷ 0 ∷ 0 ∷ 0 ∷ 0 ∷ 0 ∷ 0 ∷ 1 ∷ []
-
-abbrev image-1511 : List ℕ
-image-1511 =
-    1 ∷ 0 ∷ 0 ∷ 0 ∷ 0 ∷ 0 ∷ 1 ∷ 0 ∷ 0 ∷ 0 ∷ 1 ∷ 0 ∷ 0 ∷ 0 ∷ 0 ∷ 0 ∷ 0 ∷ 0 ∷ 0 ∷ 0 ∷ 0 ∷ 0 ∷ 1 ∷ 0 ∷
-    2 ∷ 0 ∷ 0 ∷ 1 ∷ 4 ∷ 0 ∷ 0 ∷ 0 ∷ 0 ∷ 0 ∷
-    3 ∷ 0 ∷ 0 ∷ 0 ∷ 0 ∷ 1 ∷
-    4 ∷ 3 ∷ 0 ∷ 0 ∷ 1 ∷ 0 ∷ 0 ∷ 0 ∷ 0 ∷ 0 ∷ 0 ∷ 0 ∷ 1 ∷
-    4 ∷ 3 ∷ 0 ∷ 0 ∷ 1 ∷ 0 ∷ 0 ∷ 0 ∷ 0 ∷ 0 ∷ 0 ∷ 0 ∷ 0 ∷
-    4 ∷ 1 ∷ 0 ∷ 1 ∷ 1 ∷ 0 ∷ 0 ∷ 0 ∷ 0 ∷ 0 ∷ 0 ∷ 0 ∷ 1 ∷
-    4 ∷ 2 ∷ 0 ∷ 0 ∷ 1 ∷ 0 ∷ 0 ∷ 0 ∷ 0 ∷ 0 ∷ 0 ∷ 0 ∷ 1 ∷ []
-
-abbrev image-1512 : List ℕ
-image-1512 =
-    1 ∷ 0 ∷ 0 ∷ 0 ∷ 0 ∷ 0 ∷ 1 ∷ 0 ∷ 0 ∷ 0 ∷ 1 ∷ 0 ∷ 0 ∷ 0 ∷ 0 ∷ 0 ∷ 0 ∷ 0 ∷ 0 ∷ 0 ∷ 0 ∷ 0 ∷ 1 ∷ 0 ∷
-    2 ∷ 0 ∷ 0 ∷ 1 ∷ 4 ∷ 0 ∷ 0 ∷ 0 ∷ 0 ∷ 0 ∷
-    3 ∷ 0 ∷ 0 ∷ 0 ∷ 0 ∷ 2 ∷
-    4 ∷ 3 ∷ 0 ∷ 0 ∷ 1 ∷ 0 ∷ 0 ∷ 0 ∷ 0 ∷ 0 ∷ 0 ∷ 0 ∷ 1 ∷
-    4 ∷ 3 ∷ 0 ∷ 0 ∷ 1 ∷ 0 ∷ 0 ∷ 0 ∷ 0 ∷ 0 ∷ 0 ∷ 0 ∷ 0 ∷
-    4 ∷ 1 ∷ 0 ∷ 1 ∷ 1 ∷ 0 ∷ 0 ∷ 0 ∷ 0 ∷ 0 ∷ 0 ∷ 0 ∷ 1 ∷
-    4 ∷ 2 ∷ 0 ∷ 0 ∷ 1 ∷ 0 ∷ 0 ∷ 0 ∷ 0 ∷ 0 ∷ 0 ∷ 0 ∷ 1 ∷ []
-
--- calls 1502 to 1513
-calls-1502 :
-    outcomes none
-    (new-line 1000000 65536 65536
-    ∷ call-line 1000000 (pick-pieces (asking 33 13 0 300 (some 18446744073709551615) 1 (20 ∷ []) []) 4351 (words 4352 []))
-    ∷ call-line 1000000 (mark-as-finished 0 0 (some 1) (words 4352 []))
-    ∷ call-line 1000000 (mark-as-finished 0 1 (some 0) (words 4352 []))
-    ∷ call-line 1000000 (piece-passed 0)
-    ∷ call-line 1000000 (abort-download 0 3 (some 0) (words 4352 []))
-    ∷ call-line 1000000 (mark-as-writing 0 3 (some 1) (words 5000 []))
-    ∷ call-line 1000000 (abort-download 0 1 (some 1) (words 4352 []))
-    ∷ call-line 1000000 (mark-as-finished 0 1 (some 3) (words 4352 []))
-    ∷ call-line 1000000 (mark-as-downloading 0 2 (some 1) 0 (words 5000 []))
-    ∷ call-line 1000000 (lock-piece 0)
-    ∷ call-line 1000000 (question (ofBlock block-peer 2 0))
-    ∷ [])
-    ≡ outcome stands image-1502
-    ∷ outcome (answered (picked [] 8192 (0 ∷ 0 ∷ 0 ∷ 0 ∷ 0 ∷ 0 ∷ 0 ∷ []) 0)) image-1503
-    ∷ outcome (answered (done 0)) image-1504
-    ∷ outcome (answered (done 0)) image-1505
-    ∷ outcome (answered (done 0)) image-1506
-    ∷ outcome (answered (done 0)) image-1506
-    ∷ outcome (answered (said true 0)) image-1508
-    ∷ outcome (answered (done 0)) image-1508
-    ∷ outcome (answered (done 0)) image-1508
-    ∷ outcome (answered (said true 0)) image-1511
-    ∷ outcome (answered (done 0)) image-1512
-    ∷ outcome (answered (refused 5)) image-1512
-    ∷ []
-unfolding replaying
-calls-1502 = refl
-
-abbrev image-1532 : List ℕ
-image-1532 =
-    1 ∷ 0 ∷ 0 ∷ 0 ∷ 0 ∷ 0 ∷ 0 ∷ 128 ∷ 1 ∷ 0 ∷ 0 ∷ 128 ∷ 0 ∷ 0 ∷ 0 ∷ 0 ∷ 0 ∷ 0 ∷ 0 ∷ 0 ∷ 0 ∷ 0 ∷ 2 ∷ 1 ∷
-    2 ∷ 0 ∷ 0 ∷ 4 ∷ 4 ∷ 0 ∷ 0 ∷ 0 ∷ 0 ∷ 0 ∷
-    2 ∷ 0 ∷ 0 ∷ 4 ∷ 4 ∷ 0 ∷ 0 ∷ 0 ∷ 0 ∷ 0 ∷ []
-
-abbrev image-1539 : List ℕ
-image-1539 =
-    1 ∷ 0 ∷ 0 ∷ 0 ∷ 0 ∷ 0 ∷ 0 ∷ 128 ∷ 1 ∷ 0 ∷ 0 ∷ 128 ∷ 0 ∷ 0 ∷ 0 ∷ 0 ∷ 0 ∷ 0 ∷ 0 ∷ 0 ∷ 0 ∷ 0 ∷ 2 ∷ 1 ∷
-    2 ∷ 0 ∷ 1 ∷ 4 ∷ 4 ∷ 0 ∷ 0 ∷ 0 ∷ 0 ∷ 0 ∷
-    2 ∷ 0 ∷ 0 ∷ 4 ∷ 4 ∷ 0 ∷ 0 ∷ 0 ∷ 0 ∷ 0 ∷ []
-
-abbrev image-1540 : List ℕ
-image-1540 =
-    1 ∷ 0 ∷ 0 ∷ 0 ∷ 0 ∷ 0 ∷ 0 ∷ 128 ∷ 1 ∷ 0 ∷ 0 ∷ 128 ∷ 0 ∷ 0 ∷ 0 ∷ 0 ∷ 0 ∷ 0 ∷ 0 ∷ 0 ∷ 0 ∷ 0 ∷ 2 ∷ 1 ∷
-    2 ∷ 0 ∷ 1 ∷ 4 ∷ 1 ∷ 0 ∷ 0 ∷ 0 ∷ 0 ∷ 0 ∷
-    2 ∷ 0 ∷ 0 ∷ 4 ∷ 4 ∷ 0 ∷ 0 ∷ 0 ∷ 0 ∷ 0 ∷ []
-
-abbrev image-1542 : List ℕ
-image-1542 =
-    1 ∷ 0 ∷ 0 ∷ 0 ∷ 0 ∷ 0 ∷ 0 ∷ 128 ∷ 1 ∷ 0 ∷ 0 ∷ 128 ∷ 0 ∷ 0 ∷ 0 ∷ 0 ∷ 0 ∷ 0 ∷ 0 ∷ 0 ∷ 0 ∷ 0 ∷ 2 ∷ 1 ∷
-    2 ∷ 0 ∷ 1 ∷ 4 ∷ 1 ∷ 0 ∷ 0 ∷ 0 ∷ 0 ∷ 0 ∷
-    2 ∷ 0 ∷ 0 ∷ 4 ∷ 1 ∷ 0 ∷ 0 ∷ 0 ∷ 0 ∷ 0 ∷ []
-
-abbrev image-1544 : List ℕ
-image-1544 =
-    1 ∷ 0 ∷ 0 ∷ 0 ∷ 0 ∷ 0 ∷ 0 ∷ 128 ∷ 1 ∷ 0 ∷ 0 ∷ 128 ∷ 0 ∷ 0 ∷ 0 ∷ 0 ∷ 0 ∷ 0 ∷ 0 ∷ 0 ∷ 0 ∷ 0 ∷ 2 ∷ 0 ∷
-    2 ∷ 0 ∷ 1 ∷ 4 ∷ 1 ∷ 0 ∷ 0 ∷ 0 ∷ 0 ∷ 0 ∷
-    2 ∷ 0 ∷ 0 ∷ 4 ∷ 1 ∷ 0 ∷ 0 ∷ 0 ∷ 0 ∷ 0 ∷
-    6 ∷ 0 ∷ 0 ∷ 0 ∷ 0 ∷ []
-
-abbrev image-1547 : List ℕ
-image-1547 =
-    1 ∷ 0 ∷ 0 ∷ 0 ∷ 0 ∷ 0 ∷ 0 ∷ 128 ∷ 1 ∷ 0 ∷ 0 ∷ 128 ∷ 0 ∷ 0 ∷ 0 ∷ 0 ∷ 0 ∷ 0 ∷ 0 ∷ 0 ∷ 0 ∷ 0 ∷ 2 ∷ 0 ∷
-    2 ∷ 0 ∷ 0 ∷ 4 ∷ 1 ∷ 0 ∷ 0 ∷ 0 ∷ 0 ∷ 0 ∷
-    2 ∷ 0 ∷ 0 ∷ 4 ∷ 1 ∷ 0 ∷ 0 ∷ 0 ∷ 0 ∷ 0 ∷ []
-
-abbrev image-1548 : List ℕ
-image-1548 =
-    1 ∷ 0 ∷ 0 ∷ 0 ∷ 0 ∷ 0 ∷ 0 ∷ 128 ∷ 1 ∷ 0 ∷ 0 ∷ 128 ∷ 0 ∷ 0 ∷ 0 ∷ 0 ∷ 0 ∷ 0 ∷ 0 ∷ 0 ∷ 0 ∷ 0 ∷ 2 ∷ 0 ∷
-    2 ∷ 0 ∷ 0 ∷ 4 ∷ 7 ∷ 0 ∷ 0 ∷ 0 ∷ 0 ∷ 0 ∷
-    2 ∷ 0 ∷ 0 ∷ 4 ∷ 1 ∷ 0 ∷ 0 ∷ 0 ∷ 0 ∷ 0 ∷ []
-
-abbrev image-1550 : List ℕ
-image-1550 =
-    1 ∷ 0 ∷ 0 ∷ 0 ∷ 0 ∷ 0 ∷ 0 ∷ 128 ∷ 1 ∷ 0 ∷ 0 ∷ 128 ∷ 0 ∷ 0 ∷ 0 ∷ 0 ∷ 0 ∷ 0 ∷ 0 ∷ 0 ∷ 0 ∷ 0 ∷ 2 ∷ 0 ∷
-    2 ∷ 0 ∷ 0 ∷ 0 ∷ 7 ∷ 0 ∷ 0 ∷ 0 ∷ 0 ∷ 0 ∷
-    2 ∷ 0 ∷ 0 ∷ 4 ∷ 1 ∷ 0 ∷ 0 ∷ 0 ∷ 0 ∷ 0 ∷
-    3 ∷ 0 ∷ 0 ∷ 0 ∷ 0 ∷ 0 ∷
-    4 ∷ 1 ∷ 0 ∷ 1 ∷ 1 ∷ 0 ∷ 0 ∷ 0 ∷ 0 ∷ 0 ∷ 0 ∷ 0 ∷ 2 ∷
-    4 ∷ 0 ∷ 0 ∷ 0 ∷ 0 ∷ 0 ∷ 0 ∷ 0 ∷ 0 ∷ 0 ∷ 0 ∷ 0 ∷ 0 ∷ []
-
--- calls 1532 to 1554
-calls-1532 :
-    outcomes none
-    (new-line 1000000 32769 32768
-    ∷ image-line 1000000 1000000
-    ∷ call-line 1000000 (pick-pieces (asking 78 40 4 3 (some 0) 2 (194 ∷ []) []) 4351 (words 4352 (3167401418 ∷ [])))
-    ∷ call-line 51 (abort-download 0 0 (some 1) (words 4352 []))
-    ∷ call-line 1000000 (pick-pieces (asking 36 40 1 1 (some 3) 2 (49 ∷ []) []) 4351 (words 4352 (0 ∷ [])))
-    ∷ call-line 1000000 (piece-passed 0)
-    ∷ call-line 1000000 (question (ofBlock block-num-peers 0 1))
-    ∷ call-line 1000000 (inc-refcount 0 (words 5000 []))
-    ∷ call-line 1000000 (set-piece-priority 0 1 (words 5000 []))
-    ∷ call-line 1000000 (pick-pieces (asking 44 3 3 1000 (some 18446744073709551615) 2 (255 ∷ []) []) 4351 (words 4352 (3375590035 ∷ [])))
-    ∷ call-line 1000000 (set-piece-priority 1 1 (words 5000 []))
-    ∷ call-line 1000000 (question (list-place 0))
-    ∷ call-line 1000000 (pick-pieces (asking 188 13 3 300 (some 0) 2 (255 ∷ []) []) 4351 (words 4352 []))
-    ∷ call-line 1000000 (piece-passed 1)
-    ∷ call-line 1000000 (dec-refcount 1 (words 4352 []))
-    ∷ call-line 1000000 (dec-refcount 0 (words 4352 []))
-    ∷ call-line 1000000 (set-piece-priority 0 7 (words 4352 []))
-    ∷ call-line 1000000 (pick-pieces (asking 65 8 2 1 (some 2) 2 (223 ∷ []) []) 4351 (words 5000 []))
-    ∷ call-line 1000000 (mark-as-downloading 0 0 (some 2) 0 (words 4352 []))
-    ∷ call-line 16 (piece-passed 0)
-    ∷ call-line 1000000 (pick-pieces (asking 232 2047 2048 1000 none 2 (254 ∷ []) (0 ∷ 1 ∷ 1 ∷ [])) 4351 (words 4352 (0 ∷ [])))
-    ∷ call-line 1000000 (question (ofBlock get-downloader 0 0))
-    ∷ call-line 15 (question (partial-at 1099511627776))
-    ∷ [])
-    ≡ outcome stands image-1532
-    ∷ outcome (bytesTaken (1 ∷ 0 ∷ 0 ∷ 0 ∷ 0 ∷ 0 ∷ 0 ∷ 128 ∷ 1 ∷ 0 ∷ 0 ∷ 128 ∷ 0 ∷ 0 ∷ 0 ∷ 0 ∷ 0 ∷ 0 ∷ 0 ∷ 0 ∷ 0 ∷ 0 ∷ 2 ∷ 1 ∷ 2 ∷ 0 ∷ 0 ∷ 4 ∷ 4 ∷ 0 ∷ 0 ∷ 0 ∷ 0 ∷ 0 ∷ 2 ∷ 0 ∷ 0 ∷ 4 ∷ 4 ∷ 0 ∷ 0 ∷ 0 ∷ 0 ∷ 0 ∷ [])) image-1532
-    ∷ outcome (answered (picked ((pieceBlock 0 0) ∷ (pieceBlock 0 1) ∷ (pieceBlock 1 0) ∷ []) 11264 (0 ∷ 0 ∷ 0 ∷ 0 ∷ 0 ∷ 3 ∷ 0 ∷ []) 1)) image-1532
-    ∷ outcome (answered (done 0)) image-1532
-    ∷ outcome (answered (picked [] 10240 (0 ∷ 0 ∷ 0 ∷ 0 ∷ 2 ∷ 0 ∷ 0 ∷ []) 1)) image-1532
-    ∷ outcome (answered (done 0)) image-1532
-    ∷ outcome (answered (told nothing)) image-1532
-    ∷ outcome (answered (done 0)) image-1539
-    ∷ outcome (answered (said false 0)) image-1540
-    ∷ outcome (answered (picked ((pieceBlock 0 0) ∷ (pieceBlock 0 1) ∷ (pieceBlock 1 0) ∷ []) 3072 (0 ∷ 0 ∷ 0 ∷ 0 ∷ 0 ∷ 3 ∷ 0 ∷ []) 1)) image-1540
-    ∷ outcome (answered (said false 0)) image-1542
-    ∷ outcome (answered (told staleList)) image-1542
-    ∷ outcome (answered (picked ((pieceBlock 0 0) ∷ (pieceBlock 0 1) ∷ (pieceBlock 1 0) ∷ []) 10368 (0 ∷ 0 ∷ 0 ∷ 1 ∷ 0 ∷ 0 ∷ 0 ∷ []) 0)) image-1544
-    ∷ outcome (answered (done 0)) image-1544
-    ∷ outcome (answered (refused 7)) image-1544
-    ∷ outcome (answered (done 0)) image-1547
-    ∷ outcome (answered (said false 0)) image-1548
-    ∷ outcome (answered (picked [] 10240 (0 ∷ 0 ∷ 0 ∷ 0 ∷ 0 ∷ 0 ∷ 0 ∷ []) 0)) image-1548
-    ∷ outcome (answered (said true 0)) image-1550
-    ∷ outcome (answered (refused 2)) image-1550
-    ∷ outcome (answered (picked ((pieceBlock 0 1) ∷ (pieceBlock 1 0) ∷ []) 10274 (1 ∷ 3 ∷ 0 ∷ 0 ∷ 2 ∷ 0 ∷ 0 ∷ []) 1)) image-1550
-    ∷ outcome (answered (told (numbers ((some 2) ∷ [])))) image-1550
-    ∷ outcome (answered (refused 2)) image-1550
-    ∷ []
-unfolding replaying
-calls-1532 = refl
-
-abbrev image-1802 : List ℕ
-image-1802 =
-    1 ∷ 0 ∷ 0 ∷ 0 ∷ 0 ∷ 0 ∷ 0 ∷ 128 ∷ 1 ∷ 0 ∷ 0 ∷ 64 ∷ 0 ∷ 0 ∷ 0 ∷ 0 ∷ 0 ∷ 0 ∷ 0 ∷ 0 ∷ 0 ∷ 0 ∷ 3 ∷ 1 ∷
-    2 ∷ 0 ∷ 0 ∷ 4 ∷ 4 ∷ 0 ∷ 0 ∷ 0 ∷ 0 ∷ 0 ∷
-    2 ∷ 0 ∷ 0 ∷ 4 ∷ 4 ∷ 0 ∷ 0 ∷ 0 ∷ 0 ∷ 0 ∷
-    2 ∷ 0 ∷ 0 ∷ 4 ∷ 4 ∷ 0 ∷ 0 ∷ 0 ∷ 0 ∷ 0 ∷ []
-
-abbrev image-1803 : List ℕ
-image-1803 =
-    1 ∷ 0 ∷ 0 ∷ 0 ∷ 0 ∷ 0 ∷ 0 ∷ 128 ∷ 1 ∷ 0 ∷ 0 ∷ 64 ∷ 0 ∷ 0 ∷ 0 ∷ 0 ∷ 0 ∷ 0 ∷ 0 ∷ 0 ∷ 0 ∷ 0 ∷ 3 ∷ 0 ∷
-    2 ∷ 0 ∷ 0 ∷ 4 ∷ 4 ∷ 0 ∷ 0 ∷ 0 ∷ 0 ∷ 0 ∷
-    2 ∷ 0 ∷ 0 ∷ 4 ∷ 4 ∷ 0 ∷ 0 ∷ 0 ∷ 0 ∷ 0 ∷
-    2 ∷ 0 ∷ 0 ∷ 4 ∷ 4 ∷ 0 ∷ 0 ∷ 0 ∷ 0 ∷ 0 ∷ []
-
-abbrev image-1805 : List ℕ
-image-1805 =
-    1 ∷ 0 ∷ 0 ∷ 0 ∷ 0 ∷ 0 ∷ 0 ∷ 128 ∷ 1 ∷ 0 ∷ 0 ∷ 64 ∷ 0 ∷ 0 ∷ 0 ∷ 0 ∷ 0 ∷ 0 ∷ 0 ∷ 0 ∷ 0 ∷ 0 ∷ 3 ∷ 0 ∷
-    2 ∷ 0 ∷ 0 ∷ 4 ∷ 4 ∷ 0 ∷ 0 ∷ 0 ∷ 0 ∷ 0 ∷
-    2 ∷ 0 ∷ 0 ∷ 2 ∷ 4 ∷ 0 ∷ 0 ∷ 0 ∷ 0 ∷ 0 ∷
-    2 ∷ 0 ∷ 0 ∷ 4 ∷ 4 ∷ 0 ∷ 0 ∷ 0 ∷ 0 ∷ 0 ∷
-    3 ∷ 0 ∷ 0 ∷ 0 ∷ 1 ∷ 0 ∷
     4 ∷ 3 ∷ 0 ∷ 0 ∷ 1 ∷ 0 ∷ 0 ∷ 0 ∷ 0 ∷ 0 ∷ 0 ∷ 0 ∷ 3 ∷ []
 
--- calls 1802 to 1805
-calls-1802 :
-    outcomes none
-    (new-line 1000000 32769 16384
-    ∷ call-line 1000000 (pick-pieces (asking 27710 300 2 3 (some 0) 3 (222 ∷ []) (1 ∷ [])) 4351 (words 4352 []))
-    ∷ call-line 1000000 (piece-passed 1)
-    ∷ call-line 1000000 (mark-as-finished 1 0 (some 3) (words 5000 []))
-    ∷ [])
-    ≡ outcome stands image-1802
-    ∷ outcome (answered (picked ((pieceBlock 0 0) ∷ (pieceBlock 1 0) ∷ []) 14368 (0 ∷ 1 ∷ 0 ∷ 0 ∷ 0 ∷ 0 ∷ 0 ∷ []) 0)) image-1803
-    ∷ outcome (answered (done 0)) image-1803
-    ∷ outcome (answered (done 0)) image-1805
-    ∷ []
-unfolding replaying
-calls-1802 = refl
-
-abbrev image-1893 : List ℕ
-image-1893 =
-    1 ∷ 0 ∷ 0 ∷ 0 ∷ 0 ∷ 0 ∷ 1 ∷ 128 ∷ 1 ∷ 0 ∷ 0 ∷ 128 ∷ 0 ∷ 0 ∷ 0 ∷ 0 ∷ 0 ∷ 0 ∷ 0 ∷ 0 ∷ 0 ∷ 0 ∷ 4 ∷ 1 ∷
-    2 ∷ 0 ∷ 0 ∷ 4 ∷ 4 ∷ 0 ∷ 0 ∷ 0 ∷ 0 ∷ 0 ∷
-    2 ∷ 0 ∷ 0 ∷ 4 ∷ 4 ∷ 0 ∷ 0 ∷ 0 ∷ 0 ∷ 0 ∷
-    2 ∷ 0 ∷ 0 ∷ 4 ∷ 4 ∷ 0 ∷ 0 ∷ 0 ∷ 0 ∷ 0 ∷
-    2 ∷ 0 ∷ 0 ∷ 4 ∷ 4 ∷ 0 ∷ 0 ∷ 0 ∷ 0 ∷ 0 ∷ []
-
-abbrev image-1894 : List ℕ
-image-1894 =
-    1 ∷ 0 ∷ 0 ∷ 0 ∷ 0 ∷ 0 ∷ 1 ∷ 128 ∷ 1 ∷ 0 ∷ 0 ∷ 128 ∷ 0 ∷ 0 ∷ 0 ∷ 0 ∷ 0 ∷ 0 ∷ 0 ∷ 0 ∷ 0 ∷ 0 ∷ 4 ∷ 0 ∷
-    2 ∷ 0 ∷ 0 ∷ 4 ∷ 4 ∷ 0 ∷ 0 ∷ 0 ∷ 0 ∷ 0 ∷
-    2 ∷ 0 ∷ 0 ∷ 4 ∷ 4 ∷ 0 ∷ 0 ∷ 0 ∷ 0 ∷ 0 ∷
-    2 ∷ 0 ∷ 0 ∷ 4 ∷ 4 ∷ 0 ∷ 0 ∷ 0 ∷ 0 ∷ 0 ∷
-    2 ∷ 0 ∷ 0 ∷ 4 ∷ 4 ∷ 0 ∷ 0 ∷ 0 ∷ 0 ∷ 0 ∷ []
-
--- calls 1893 to 1895
-calls-1893 :
-    outcomes none
-    (new-line 1000000 98305 32768
-    ∷ call-line 1000000 (pick-pieces (asking 5 2047 0 0 none 4 (255 ∷ []) (3 ∷ 2 ∷ 2 ∷ [])) 4351 (words 4352 []))
-    ∷ call-line 1000000 (question (listOfPiece blocks-for-piece 4 1))
-    ∷ [])
-    ≡ outcome stands image-1893
-    ∷ outcome (answered (picked ((pieceBlock 3 0) ∷ (pieceBlock 2 0) ∷ (pieceBlock 2 1) ∷ []) 8224 (0 ∷ 3 ∷ 0 ∷ 0 ∷ 0 ∷ 0 ∷ 0 ∷ []) 0)) image-1894
-    ∷ outcome (answered (refused 2)) image-1894
-    ∷ []
-unfolding replaying
-calls-1893 = refl
-
-abbrev image-1982 : List ℕ
-image-1982 =
-    1 ∷ 0 ∷ 0 ∷ 0 ∷ 0 ∷ 0 ∷ 3 ∷ 0 ∷ 0 ∷ 0 ∷ 1 ∷ 0 ∷ 0 ∷ 0 ∷ 0 ∷ 0 ∷ 0 ∷ 0 ∷ 0 ∷ 0 ∷ 0 ∷ 0 ∷ 3 ∷ 0 ∷
-    2 ∷ 0 ∷ 2 ∷ 4 ∷ 7 ∷ 0 ∷ 0 ∷ 0 ∷ 0 ∷ 0 ∷
-    2 ∷ 3 ∷ 232 ∷ 4 ∷ 6 ∷ 0 ∷ 0 ∷ 0 ∷ 128 ∷ 0 ∷
-    2 ∷ 0 ∷ 0 ∷ 4 ∷ 0 ∷ 0 ∷ 0 ∷ 0 ∷ 0 ∷ 0 ∷
-    6 ∷ 0 ∷ 0 ∷ 0 ∷ 0 ∷
-    6 ∷ 0 ∷ 0 ∷ 0 ∷ 1 ∷ []
-
-abbrev image-1984 : List ℕ
-image-1984 =
-    1 ∷ 0 ∷ 0 ∷ 0 ∷ 0 ∷ 0 ∷ 3 ∷ 0 ∷ 0 ∷ 0 ∷ 1 ∷ 0 ∷ 0 ∷ 0 ∷ 0 ∷ 0 ∷ 0 ∷ 0 ∷ 0 ∷ 0 ∷ 0 ∷ 0 ∷ 3 ∷ 0 ∷
-    2 ∷ 0 ∷ 2 ∷ 4 ∷ 7 ∷ 0 ∷ 0 ∷ 0 ∷ 0 ∷ 0 ∷
-    2 ∷ 3 ∷ 232 ∷ 5 ∷ 6 ∷ 0 ∷ 0 ∷ 0 ∷ 128 ∷ 0 ∷
-    2 ∷ 0 ∷ 0 ∷ 4 ∷ 0 ∷ 0 ∷ 0 ∷ 0 ∷ 0 ∷ 0 ∷
-    3 ∷ 0 ∷ 0 ∷ 0 ∷ 1 ∷ 0 ∷
-    4 ∷ 1 ∷ 0 ∷ 1 ∷ 1 ∷ 255 ∷ 255 ∷ 255 ∷ 255 ∷ 255 ∷ 255 ∷ 255 ∷ 255 ∷
-    4 ∷ 0 ∷ 0 ∷ 0 ∷ 0 ∷ 0 ∷ 0 ∷ 0 ∷ 0 ∷ 0 ∷ 0 ∷ 0 ∷ 0 ∷
-    4 ∷ 3 ∷ 0 ∷ 0 ∷ 0 ∷ 0 ∷ 0 ∷ 0 ∷ 0 ∷ 0 ∷ 0 ∷ 0 ∷ 0 ∷
-    4 ∷ 3 ∷ 0 ∷ 0 ∷ 0 ∷ 0 ∷ 0 ∷ 0 ∷ 0 ∷ 0 ∷ 0 ∷ 0 ∷ 0 ∷
-    6 ∷ 0 ∷ 0 ∷ 0 ∷ 0 ∷
-    6 ∷ 0 ∷ 0 ∷ 0 ∷ 1 ∷ []
-
-abbrev image-1985 : List ℕ
-image-1985 =
-    1 ∷ 0 ∷ 0 ∷ 0 ∷ 0 ∷ 0 ∷ 3 ∷ 0 ∷ 0 ∷ 0 ∷ 1 ∷ 0 ∷ 0 ∷ 0 ∷ 0 ∷ 0 ∷ 0 ∷ 0 ∷ 0 ∷ 0 ∷ 0 ∷ 0 ∷ 3 ∷ 0 ∷
-    2 ∷ 0 ∷ 2 ∷ 4 ∷ 7 ∷ 0 ∷ 0 ∷ 0 ∷ 0 ∷ 0 ∷
-    2 ∷ 3 ∷ 232 ∷ 5 ∷ 6 ∷ 0 ∷ 0 ∷ 0 ∷ 128 ∷ 0 ∷
-    2 ∷ 0 ∷ 0 ∷ 3 ∷ 0 ∷ 0 ∷ 0 ∷ 0 ∷ 0 ∷ 0 ∷
-    3 ∷ 0 ∷ 0 ∷ 0 ∷ 1 ∷ 0 ∷
-    4 ∷ 1 ∷ 0 ∷ 1 ∷ 1 ∷ 255 ∷ 255 ∷ 255 ∷ 255 ∷ 255 ∷ 255 ∷ 255 ∷ 255 ∷
-    4 ∷ 0 ∷ 0 ∷ 0 ∷ 0 ∷ 0 ∷ 0 ∷ 0 ∷ 0 ∷ 0 ∷ 0 ∷ 0 ∷ 0 ∷
-    4 ∷ 3 ∷ 0 ∷ 0 ∷ 0 ∷ 0 ∷ 0 ∷ 0 ∷ 0 ∷ 0 ∷ 0 ∷ 0 ∷ 0 ∷
-    4 ∷ 3 ∷ 0 ∷ 0 ∷ 0 ∷ 0 ∷ 0 ∷ 0 ∷ 0 ∷ 0 ∷ 0 ∷ 0 ∷ 0 ∷
-    3 ∷ 0 ∷ 0 ∷ 0 ∷ 2 ∷ 0 ∷
-    4 ∷ 0 ∷ 0 ∷ 0 ∷ 0 ∷ 0 ∷ 0 ∷ 0 ∷ 0 ∷ 0 ∷ 0 ∷ 0 ∷ 0 ∷
-    4 ∷ 0 ∷ 0 ∷ 0 ∷ 0 ∷ 0 ∷ 0 ∷ 0 ∷ 0 ∷ 0 ∷ 0 ∷ 0 ∷ 0 ∷
-    4 ∷ 0 ∷ 0 ∷ 0 ∷ 0 ∷ 0 ∷ 0 ∷ 0 ∷ 0 ∷ 0 ∷ 0 ∷ 0 ∷ 0 ∷
-    4 ∷ 2 ∷ 0 ∷ 0 ∷ 1 ∷ 255 ∷ 255 ∷ 255 ∷ 255 ∷ 255 ∷ 255 ∷ 255 ∷ 255 ∷
-    6 ∷ 0 ∷ 0 ∷ 0 ∷ 0 ∷
-    6 ∷ 0 ∷ 0 ∷ 0 ∷ 1 ∷ []
-
-abbrev image-1986 : List ℕ
-image-1986 =
-    1 ∷ 0 ∷ 0 ∷ 0 ∷ 0 ∷ 0 ∷ 3 ∷ 0 ∷ 0 ∷ 0 ∷ 1 ∷ 0 ∷ 0 ∷ 0 ∷ 0 ∷ 0 ∷ 0 ∷ 0 ∷ 0 ∷ 0 ∷ 0 ∷ 0 ∷ 3 ∷ 0 ∷
-    2 ∷ 0 ∷ 2 ∷ 4 ∷ 7 ∷ 0 ∷ 0 ∷ 0 ∷ 0 ∷ 0 ∷
-    2 ∷ 3 ∷ 232 ∷ 5 ∷ 6 ∷ 0 ∷ 0 ∷ 0 ∷ 128 ∷ 0 ∷
-    2 ∷ 0 ∷ 0 ∷ 3 ∷ 0 ∷ 0 ∷ 0 ∷ 0 ∷ 0 ∷ 0 ∷
-    3 ∷ 0 ∷ 0 ∷ 0 ∷ 1 ∷ 0 ∷
-    4 ∷ 1 ∷ 0 ∷ 1 ∷ 1 ∷ 255 ∷ 255 ∷ 255 ∷ 255 ∷ 255 ∷ 255 ∷ 255 ∷ 255 ∷
-    4 ∷ 0 ∷ 0 ∷ 0 ∷ 0 ∷ 0 ∷ 0 ∷ 0 ∷ 0 ∷ 0 ∷ 0 ∷ 0 ∷ 0 ∷
-    4 ∷ 3 ∷ 0 ∷ 0 ∷ 0 ∷ 0 ∷ 0 ∷ 0 ∷ 0 ∷ 0 ∷ 0 ∷ 0 ∷ 0 ∷
-    4 ∷ 3 ∷ 0 ∷ 0 ∷ 0 ∷ 0 ∷ 0 ∷ 0 ∷ 0 ∷ 0 ∷ 0 ∷ 0 ∷ 0 ∷
-    3 ∷ 0 ∷ 0 ∷ 0 ∷ 2 ∷ 0 ∷
-    4 ∷ 3 ∷ 0 ∷ 0 ∷ 1 ∷ 0 ∷ 0 ∷ 0 ∷ 0 ∷ 0 ∷ 0 ∷ 0 ∷ 1 ∷
-    4 ∷ 0 ∷ 0 ∷ 0 ∷ 0 ∷ 0 ∷ 0 ∷ 0 ∷ 0 ∷ 0 ∷ 0 ∷ 0 ∷ 0 ∷
-    4 ∷ 0 ∷ 0 ∷ 0 ∷ 0 ∷ 0 ∷ 0 ∷ 0 ∷ 0 ∷ 0 ∷ 0 ∷ 0 ∷ 0 ∷
-    4 ∷ 2 ∷ 0 ∷ 0 ∷ 1 ∷ 255 ∷ 255 ∷ 255 ∷ 255 ∷ 255 ∷ 255 ∷ 255 ∷ 255 ∷
-    6 ∷ 0 ∷ 0 ∷ 0 ∷ 0 ∷
-    6 ∷ 0 ∷ 0 ∷ 0 ∷ 1 ∷ []
-
-abbrev image-1987 : List ℕ
-image-1987 =
-    1 ∷ 0 ∷ 0 ∷ 0 ∷ 0 ∷ 0 ∷ 3 ∷ 0 ∷ 0 ∷ 0 ∷ 1 ∷ 0 ∷ 0 ∷ 0 ∷ 0 ∷ 0 ∷ 0 ∷ 0 ∷ 0 ∷ 0 ∷ 0 ∷ 0 ∷ 3 ∷ 0 ∷
-    2 ∷ 0 ∷ 2 ∷ 4 ∷ 7 ∷ 0 ∷ 0 ∷ 0 ∷ 0 ∷ 0 ∷
-    2 ∷ 3 ∷ 232 ∷ 5 ∷ 6 ∷ 0 ∷ 0 ∷ 0 ∷ 128 ∷ 0 ∷
-    2 ∷ 0 ∷ 1 ∷ 3 ∷ 0 ∷ 0 ∷ 0 ∷ 0 ∷ 0 ∷ 0 ∷
-    3 ∷ 0 ∷ 0 ∷ 0 ∷ 1 ∷ 0 ∷
-    4 ∷ 1 ∷ 0 ∷ 1 ∷ 1 ∷ 255 ∷ 255 ∷ 255 ∷ 255 ∷ 255 ∷ 255 ∷ 255 ∷ 255 ∷
-    4 ∷ 0 ∷ 0 ∷ 0 ∷ 0 ∷ 0 ∷ 0 ∷ 0 ∷ 0 ∷ 0 ∷ 0 ∷ 0 ∷ 0 ∷
-    4 ∷ 3 ∷ 0 ∷ 0 ∷ 0 ∷ 0 ∷ 0 ∷ 0 ∷ 0 ∷ 0 ∷ 0 ∷ 0 ∷ 0 ∷
-    4 ∷ 3 ∷ 0 ∷ 0 ∷ 0 ∷ 0 ∷ 0 ∷ 0 ∷ 0 ∷ 0 ∷ 0 ∷ 0 ∷ 0 ∷
-    3 ∷ 0 ∷ 0 ∷ 0 ∷ 2 ∷ 0 ∷
-    4 ∷ 3 ∷ 0 ∷ 0 ∷ 1 ∷ 0 ∷ 0 ∷ 0 ∷ 0 ∷ 0 ∷ 0 ∷ 0 ∷ 1 ∷
-    4 ∷ 0 ∷ 0 ∷ 0 ∷ 0 ∷ 0 ∷ 0 ∷ 0 ∷ 0 ∷ 0 ∷ 0 ∷ 0 ∷ 0 ∷
-    4 ∷ 0 ∷ 0 ∷ 0 ∷ 0 ∷ 0 ∷ 0 ∷ 0 ∷ 0 ∷ 0 ∷ 0 ∷ 0 ∷ 0 ∷
-    4 ∷ 2 ∷ 0 ∷ 0 ∷ 1 ∷ 255 ∷ 255 ∷ 255 ∷ 255 ∷ 255 ∷ 255 ∷ 255 ∷ 255 ∷
-    6 ∷ 0 ∷ 0 ∷ 0 ∷ 0 ∷
-    6 ∷ 0 ∷ 0 ∷ 0 ∷ 1 ∷ []
-
-abbrev image-1989 : List ℕ
-image-1989 =
-    1 ∷ 0 ∷ 0 ∷ 0 ∷ 0 ∷ 0 ∷ 3 ∷ 0 ∷ 0 ∷ 0 ∷ 1 ∷ 0 ∷ 0 ∷ 0 ∷ 0 ∷ 0 ∷ 0 ∷ 0 ∷ 0 ∷ 0 ∷ 0 ∷ 0 ∷ 3 ∷ 0 ∷
-    2 ∷ 0 ∷ 2 ∷ 4 ∷ 7 ∷ 0 ∷ 0 ∷ 0 ∷ 0 ∷ 0 ∷
-    2 ∷ 3 ∷ 232 ∷ 5 ∷ 6 ∷ 0 ∷ 0 ∷ 0 ∷ 128 ∷ 0 ∷
-    2 ∷ 0 ∷ 1 ∷ 3 ∷ 0 ∷ 0 ∷ 0 ∷ 0 ∷ 0 ∷ 0 ∷
-    3 ∷ 0 ∷ 0 ∷ 0 ∷ 1 ∷ 0 ∷
-    4 ∷ 1 ∷ 0 ∷ 1 ∷ 1 ∷ 255 ∷ 255 ∷ 255 ∷ 255 ∷ 255 ∷ 255 ∷ 255 ∷ 255 ∷
-    4 ∷ 0 ∷ 0 ∷ 0 ∷ 0 ∷ 0 ∷ 0 ∷ 0 ∷ 0 ∷ 0 ∷ 0 ∷ 0 ∷ 0 ∷
-    4 ∷ 3 ∷ 0 ∷ 0 ∷ 0 ∷ 0 ∷ 0 ∷ 0 ∷ 0 ∷ 0 ∷ 0 ∷ 0 ∷ 0 ∷
-    4 ∷ 3 ∷ 0 ∷ 0 ∷ 0 ∷ 0 ∷ 0 ∷ 0 ∷ 0 ∷ 0 ∷ 0 ∷ 0 ∷ 0 ∷
-    3 ∷ 0 ∷ 0 ∷ 0 ∷ 2 ∷ 0 ∷
-    4 ∷ 3 ∷ 0 ∷ 0 ∷ 1 ∷ 0 ∷ 0 ∷ 0 ∷ 0 ∷ 0 ∷ 0 ∷ 0 ∷ 1 ∷
-    4 ∷ 0 ∷ 0 ∷ 0 ∷ 0 ∷ 0 ∷ 0 ∷ 0 ∷ 0 ∷ 0 ∷ 0 ∷ 0 ∷ 0 ∷
-    4 ∷ 1 ∷ 0 ∷ 1 ∷ 1 ∷ 0 ∷ 0 ∷ 0 ∷ 0 ∷ 0 ∷ 0 ∷ 0 ∷ 3 ∷
-    4 ∷ 2 ∷ 0 ∷ 0 ∷ 1 ∷ 255 ∷ 255 ∷ 255 ∷ 255 ∷ 255 ∷ 255 ∷ 255 ∷ 255 ∷
-    6 ∷ 0 ∷ 0 ∷ 0 ∷ 0 ∷
-    6 ∷ 0 ∷ 0 ∷ 0 ∷ 1 ∷ []
-
-abbrev image-1991 : List ℕ
-image-1991 =
-    1 ∷ 0 ∷ 0 ∷ 0 ∷ 0 ∷ 0 ∷ 3 ∷ 0 ∷ 0 ∷ 0 ∷ 1 ∷ 0 ∷ 0 ∷ 0 ∷ 0 ∷ 0 ∷ 0 ∷ 0 ∷ 0 ∷ 0 ∷ 0 ∷ 0 ∷ 3 ∷ 0 ∷
-    2 ∷ 0 ∷ 2 ∷ 4 ∷ 7 ∷ 0 ∷ 0 ∷ 0 ∷ 0 ∷ 0 ∷
-    2 ∷ 3 ∷ 231 ∷ 5 ∷ 6 ∷ 0 ∷ 0 ∷ 0 ∷ 128 ∷ 0 ∷
-    2 ∷ 0 ∷ 1 ∷ 3 ∷ 0 ∷ 0 ∷ 0 ∷ 0 ∷ 0 ∷ 0 ∷
-    3 ∷ 0 ∷ 0 ∷ 0 ∷ 1 ∷ 0 ∷
-    4 ∷ 1 ∷ 0 ∷ 1 ∷ 1 ∷ 255 ∷ 255 ∷ 255 ∷ 255 ∷ 255 ∷ 255 ∷ 255 ∷ 255 ∷
-    4 ∷ 0 ∷ 0 ∷ 0 ∷ 0 ∷ 0 ∷ 0 ∷ 0 ∷ 0 ∷ 0 ∷ 0 ∷ 0 ∷ 0 ∷
-    4 ∷ 3 ∷ 0 ∷ 0 ∷ 0 ∷ 0 ∷ 0 ∷ 0 ∷ 0 ∷ 0 ∷ 0 ∷ 0 ∷ 0 ∷
-    4 ∷ 3 ∷ 0 ∷ 0 ∷ 0 ∷ 0 ∷ 0 ∷ 0 ∷ 0 ∷ 0 ∷ 0 ∷ 0 ∷ 0 ∷
-    3 ∷ 0 ∷ 0 ∷ 0 ∷ 2 ∷ 0 ∷
-    4 ∷ 3 ∷ 0 ∷ 0 ∷ 1 ∷ 0 ∷ 0 ∷ 0 ∷ 0 ∷ 0 ∷ 0 ∷ 0 ∷ 1 ∷
-    4 ∷ 0 ∷ 0 ∷ 0 ∷ 0 ∷ 0 ∷ 0 ∷ 0 ∷ 0 ∷ 0 ∷ 0 ∷ 0 ∷ 0 ∷
-    4 ∷ 1 ∷ 0 ∷ 1 ∷ 1 ∷ 0 ∷ 0 ∷ 0 ∷ 0 ∷ 0 ∷ 0 ∷ 0 ∷ 3 ∷
-    4 ∷ 2 ∷ 0 ∷ 0 ∷ 1 ∷ 255 ∷ 255 ∷ 255 ∷ 255 ∷ 255 ∷ 255 ∷ 255 ∷ 255 ∷
-    6 ∷ 0 ∷ 0 ∷ 0 ∷ 0 ∷
-    6 ∷ 0 ∷ 0 ∷ 0 ∷ 1 ∷ []
-
-abbrev image-1997 : List ℕ
-image-1997 =
-    1 ∷ 0 ∷ 0 ∷ 0 ∷ 0 ∷ 0 ∷ 3 ∷ 0 ∷ 0 ∷ 0 ∷ 1 ∷ 0 ∷ 0 ∷ 0 ∷ 0 ∷ 0 ∷ 0 ∷ 0 ∷ 0 ∷ 0 ∷ 0 ∷ 0 ∷ 3 ∷ 0 ∷
-    2 ∷ 0 ∷ 2 ∷ 4 ∷ 7 ∷ 0 ∷ 0 ∷ 0 ∷ 0 ∷ 0 ∷
-    2 ∷ 3 ∷ 231 ∷ 5 ∷ 6 ∷ 0 ∷ 0 ∷ 0 ∷ 128 ∷ 0 ∷
-    2 ∷ 0 ∷ 1 ∷ 3 ∷ 0 ∷ 0 ∷ 0 ∷ 0 ∷ 0 ∷ 0 ∷
-    3 ∷ 0 ∷ 0 ∷ 0 ∷ 1 ∷ 0 ∷
-    4 ∷ 1 ∷ 0 ∷ 1 ∷ 1 ∷ 255 ∷ 255 ∷ 255 ∷ 255 ∷ 255 ∷ 255 ∷ 255 ∷ 255 ∷
-    4 ∷ 0 ∷ 0 ∷ 0 ∷ 0 ∷ 0 ∷ 0 ∷ 0 ∷ 0 ∷ 0 ∷ 0 ∷ 0 ∷ 0 ∷
-    4 ∷ 3 ∷ 0 ∷ 0 ∷ 0 ∷ 0 ∷ 0 ∷ 0 ∷ 0 ∷ 0 ∷ 0 ∷ 0 ∷ 0 ∷
-    4 ∷ 3 ∷ 0 ∷ 0 ∷ 0 ∷ 0 ∷ 0 ∷ 0 ∷ 0 ∷ 0 ∷ 0 ∷ 0 ∷ 0 ∷
-    3 ∷ 0 ∷ 0 ∷ 0 ∷ 2 ∷ 1 ∷
-    4 ∷ 3 ∷ 0 ∷ 0 ∷ 1 ∷ 0 ∷ 0 ∷ 0 ∷ 0 ∷ 0 ∷ 0 ∷ 0 ∷ 1 ∷
-    4 ∷ 0 ∷ 0 ∷ 0 ∷ 0 ∷ 0 ∷ 0 ∷ 0 ∷ 0 ∷ 0 ∷ 0 ∷ 0 ∷ 0 ∷
-    4 ∷ 1 ∷ 0 ∷ 1 ∷ 1 ∷ 0 ∷ 0 ∷ 0 ∷ 0 ∷ 0 ∷ 0 ∷ 0 ∷ 3 ∷
-    4 ∷ 2 ∷ 0 ∷ 0 ∷ 1 ∷ 255 ∷ 255 ∷ 255 ∷ 255 ∷ 255 ∷ 255 ∷ 255 ∷ 255 ∷
-    6 ∷ 0 ∷ 0 ∷ 0 ∷ 0 ∷
-    6 ∷ 0 ∷ 0 ∷ 0 ∷ 1 ∷ []
-
--- calls 1982 to 1999
-calls-1982 :
-    outcomes none
-    (read-line 1000000 image-1982
-    ∷ call-line 1000000 (question (ofBlock block-peer 2 1))
-    ∷ call-line 1000000 (mark-as-downloading 1 0 (some 18446744073709551615) 147 (words 4352 []))
-    ∷ call-line 1000000 (mark-as-writing 2 3 (some 18446744073709551615) (words 4352 []))
-    ∷ call-line 1000000 (mark-as-finished 2 0 (some 1) (words 4352 []))
-    ∷ call-line 1000000 (inc-refcount 2 (words 5000 []))
-    ∷ call-line 1000000 (pick-pieces (asking 2 1 8 0 (some 2) 3 (255 ∷ []) []) 4351 (words 5000 []))
-    ∷ call-line 1000000 (mark-as-downloading 2 2 (some 3) 18 (words 4352 []))
-    ∷ image-line 1000000 1000000
-    ∷ call-line 1000000 (dec-refcount 1 (words 4352 []))
-    ∷ call-line 90 (pick-pieces (asking 46 300 2048 1 none 3 (255 ∷ []) []) 4351 (words 4352 []))
-    ∷ call-line 1000000 (mark-as-finished 2 0 (some 3) (words 5000 []))
-    ∷ call-line 1000000 (inc-refcount 3 (words 4352 []))
-    ∷ call-line 1000000 (question (listOfPicker piece-priorities 1000000))
-    ∷ call-line 1000000 (question (partial-at 1099511627776))
-    ∷ call-line 1000000 (piece-passed 2)
-    ∷ call-line 1000000 (question (ofPiece is-hashing 1))
-    ∷ call-line 15 (question (ofPiece piece-stats 1))
-    ∷ [])
-    ≡ outcome stands image-1982
-    ∷ outcome (answered (told nothing)) image-1982
-    ∷ outcome (answered (said true 0)) image-1984
-    ∷ outcome (answered (said true 0)) image-1985
-    ∷ outcome (answered (done 0)) image-1986
-    ∷ outcome (answered (done 0)) image-1987
-    ∷ outcome (answered (picked ((pieceBlock 1 1) ∷ []) 3 (1 ∷ 0 ∷ 0 ∷ 0 ∷ 0 ∷ 0 ∷ 0 ∷ []) 0)) image-1987
-    ∷ outcome (answered (said true 0)) image-1989
-    ∷ outcome (bytesTaken (1 ∷ 0 ∷ 0 ∷ 0 ∷ 0 ∷ 0 ∷ 3 ∷ 0 ∷ 0 ∷ 0 ∷ 1 ∷ 0 ∷ 0 ∷ 0 ∷ 0 ∷ 0 ∷ 0 ∷ 0 ∷ 0 ∷ 0 ∷ 0 ∷ 0 ∷ 3 ∷ 0 ∷ 2 ∷ 0 ∷ 2 ∷ 4 ∷ 7 ∷ 0 ∷ 0 ∷ 0 ∷ 0 ∷ 0 ∷ 2 ∷ 3 ∷ 232 ∷ 5 ∷ 6 ∷ 0 ∷ 0 ∷ 0 ∷ 128 ∷ 0 ∷ 2 ∷ 0 ∷ 1 ∷ 3 ∷ 0 ∷ 0 ∷ 0 ∷ 0 ∷ 0 ∷ 0 ∷ 3 ∷ 0 ∷ 0 ∷ 0 ∷ 1 ∷ 0 ∷ 4 ∷ 1 ∷ 0 ∷ 1 ∷ 1 ∷ 255 ∷ 255 ∷ 255 ∷ 255 ∷ 255 ∷ 255 ∷ 255 ∷ 255 ∷ 4 ∷ 0 ∷ 0 ∷ 0 ∷ 0 ∷ 0 ∷ 0 ∷ 0 ∷ 0 ∷ 0 ∷ 0 ∷ 0 ∷ 0 ∷ 4 ∷ 3 ∷ 0 ∷ 0 ∷ 0 ∷ 0 ∷ 0 ∷ 0 ∷ 0 ∷ 0 ∷ 0 ∷ 0 ∷ 0 ∷ 4 ∷ 3 ∷ 0 ∷ 0 ∷ 0 ∷ 0 ∷ 0 ∷ 0 ∷ 0 ∷ 0 ∷ 0 ∷ 0 ∷ 0 ∷ 3 ∷ 0 ∷ 0 ∷ 0 ∷ 2 ∷ 0 ∷ 4 ∷ 3 ∷ 0 ∷ 0 ∷ 1 ∷ 0 ∷ 0 ∷ 0 ∷ 0 ∷ 0 ∷ 0 ∷ 0 ∷ 1 ∷ 4 ∷ 0 ∷ 0 ∷ 0 ∷ 0 ∷ 0 ∷ 0 ∷ 0 ∷ 0 ∷ 0 ∷ 0 ∷ 0 ∷ 0 ∷ 4 ∷ 1 ∷ 0 ∷ 1 ∷ 1 ∷ 0 ∷ 0 ∷ 0 ∷ 0 ∷ 0 ∷ 0 ∷ 0 ∷ 3 ∷ 4 ∷ 2 ∷ 0 ∷ 0 ∷ 1 ∷ 255 ∷ 255 ∷ 255 ∷ 255 ∷ 255 ∷ 255 ∷ 255 ∷ 255 ∷ 6 ∷ 0 ∷ 0 ∷ 0 ∷ 0 ∷ 6 ∷ 0 ∷ 0 ∷ 0 ∷ 1 ∷ [])) image-1989
-    ∷ outcome (answered (done 0)) image-1991
-    ∷ outcome (answered (refused 2)) image-1991
-    ∷ outcome (answered (done 0)) image-1991
-    ∷ outcome (answered (refused 5)) image-1991
-    ∷ outcome (answered (told (numbers ((some 7) ∷ (some 6) ∷ (some 0) ∷ [])))) image-1991
-    ∷ outcome (answered (told nothing)) image-1991
-    ∷ outcome (answered (done 0)) image-1997
-    ∷ outcome (answered (told (numbers ((some 0) ∷ [])))) image-1997
-    ∷ outcome (answered (refused 2)) image-1997
-    ∷ []
-unfolding replaying
-calls-1982 = refl
-
-abbrev image-2035 : List ℕ
-image-2035 =
-    1 ∷ 0 ∷ 0 ∷ 0 ∷ 0 ∷ 0 ∷ 0 ∷ 0 ∷ 1 ∷ 0 ∷ 0 ∷ 64 ∷ 0 ∷ 0 ∷ 0 ∷ 0 ∷ 0 ∷ 0 ∷ 0 ∷ 0 ∷ 0 ∷ 0 ∷ 1 ∷ 1 ∷
-    2 ∷ 0 ∷ 0 ∷ 4 ∷ 4 ∷ 0 ∷ 0 ∷ 0 ∷ 0 ∷ 0 ∷ []
-
--- calls 2035 to 2038
-calls-2035 :
-    outcomes none
-    (new-line 1000000 1 16384
-    ∷ call-line 1000000 (question (listOfPiece get-downloaders 0 2))
-    ∷ call-line 1000000 (question (ofBlock block-num-peers 0 0))
-    ∷ call-line 1000000 (question (ofPiece payload-blocks-in-piece 0))
-    ∷ [])
-    ≡ outcome stands image-2035
-    ∷ outcome (answered (told (numbers (none ∷ [])))) image-2035
-    ∷ outcome (answered (told nothing)) image-2035
-    ∷ outcome (answered (told (numbers ((some 1) ∷ [])))) image-2035
-    ∷ []
-unfolding replaying
-calls-2035 = refl
-
-abbrev image-2132 : List ℕ
-image-2132 =
-    1 ∷ 0 ∷ 0 ∷ 0 ∷ 0 ∷ 0 ∷ 0 ∷ 128 ∷ 1 ∷ 0 ∷ 0 ∷ 128 ∷ 0 ∷ 0 ∷ 0 ∷ 0 ∷ 0 ∷ 0 ∷ 0 ∷ 0 ∷ 0 ∷ 0 ∷ 2 ∷ 1 ∷
-    2 ∷ 0 ∷ 0 ∷ 4 ∷ 4 ∷ 0 ∷ 0 ∷ 0 ∷ 0 ∷ 0 ∷
-    2 ∷ 0 ∷ 0 ∷ 4 ∷ 4 ∷ 0 ∷ 0 ∷ 0 ∷ 0 ∷ 0 ∷ []
-
-abbrev image-2138 : List ℕ
-image-2138 =
-    1 ∷ 0 ∷ 0 ∷ 0 ∷ 0 ∷ 0 ∷ 0 ∷ 128 ∷ 1 ∷ 0 ∷ 0 ∷ 128 ∷ 0 ∷ 0 ∷ 0 ∷ 0 ∷ 0 ∷ 0 ∷ 0 ∷ 0 ∷ 0 ∷ 0 ∷ 2 ∷ 1 ∷
-    2 ∷ 0 ∷ 0 ∷ 4 ∷ 4 ∷ 0 ∷ 0 ∷ 0 ∷ 0 ∷ 0 ∷
-    2 ∷ 0 ∷ 0 ∷ 1 ∷ 4 ∷ 0 ∷ 0 ∷ 0 ∷ 0 ∷ 0 ∷
-    3 ∷ 0 ∷ 0 ∷ 0 ∷ 1 ∷ 0 ∷
-    4 ∷ 1 ∷ 0 ∷ 1 ∷ 1 ∷ 0 ∷ 0 ∷ 0 ∷ 0 ∷ 0 ∷ 0 ∷ 0 ∷ 2 ∷ []
-
-abbrev image-2139 : List ℕ
-image-2139 =
-    1 ∷ 0 ∷ 0 ∷ 0 ∷ 0 ∷ 0 ∷ 0 ∷ 128 ∷ 1 ∷ 0 ∷ 0 ∷ 128 ∷ 0 ∷ 0 ∷ 0 ∷ 0 ∷ 0 ∷ 0 ∷ 0 ∷ 0 ∷ 0 ∷ 0 ∷ 2 ∷ 1 ∷
-    2 ∷ 0 ∷ 1 ∷ 4 ∷ 4 ∷ 0 ∷ 0 ∷ 0 ∷ 0 ∷ 0 ∷
-    2 ∷ 0 ∷ 0 ∷ 1 ∷ 4 ∷ 0 ∷ 0 ∷ 0 ∷ 0 ∷ 0 ∷
-    3 ∷ 0 ∷ 0 ∷ 0 ∷ 1 ∷ 0 ∷
-    4 ∷ 1 ∷ 0 ∷ 1 ∷ 1 ∷ 0 ∷ 0 ∷ 0 ∷ 0 ∷ 0 ∷ 0 ∷ 0 ∷ 2 ∷ []
-
-abbrev image-2142 : List ℕ
-image-2142 =
-    1 ∷ 0 ∷ 0 ∷ 0 ∷ 0 ∷ 0 ∷ 0 ∷ 128 ∷ 1 ∷ 0 ∷ 0 ∷ 128 ∷ 0 ∷ 0 ∷ 0 ∷ 0 ∷ 0 ∷ 0 ∷ 0 ∷ 0 ∷ 0 ∷ 0 ∷ 2 ∷ 1 ∷
-    2 ∷ 0 ∷ 1 ∷ 4 ∷ 4 ∷ 0 ∷ 0 ∷ 0 ∷ 0 ∷ 0 ∷
-    2 ∷ 0 ∷ 1 ∷ 1 ∷ 4 ∷ 0 ∷ 0 ∷ 0 ∷ 0 ∷ 0 ∷
-    3 ∷ 0 ∷ 0 ∷ 0 ∷ 1 ∷ 0 ∷
-    4 ∷ 1 ∷ 0 ∷ 1 ∷ 1 ∷ 0 ∷ 0 ∷ 0 ∷ 0 ∷ 0 ∷ 0 ∷ 0 ∷ 2 ∷ []
-
-abbrev image-2144 : List ℕ
-image-2144 =
-    1 ∷ 0 ∷ 0 ∷ 0 ∷ 0 ∷ 0 ∷ 0 ∷ 128 ∷ 1 ∷ 0 ∷ 0 ∷ 128 ∷ 0 ∷ 0 ∷ 0 ∷ 0 ∷ 0 ∷ 0 ∷ 0 ∷ 0 ∷ 0 ∷ 0 ∷ 2 ∷ 1 ∷
-    2 ∷ 0 ∷ 1 ∷ 4 ∷ 4 ∷ 0 ∷ 0 ∷ 0 ∷ 0 ∷ 0 ∷
-    2 ∷ 0 ∷ 2 ∷ 1 ∷ 4 ∷ 0 ∷ 0 ∷ 0 ∷ 0 ∷ 0 ∷
-    3 ∷ 0 ∷ 0 ∷ 0 ∷ 1 ∷ 0 ∷
-    4 ∷ 1 ∷ 0 ∷ 1 ∷ 1 ∷ 0 ∷ 0 ∷ 0 ∷ 0 ∷ 0 ∷ 0 ∷ 0 ∷ 2 ∷ []
-
-abbrev image-2145 : List ℕ
-image-2145 =
-    1 ∷ 0 ∷ 0 ∷ 0 ∷ 0 ∷ 0 ∷ 0 ∷ 128 ∷ 1 ∷ 0 ∷ 0 ∷ 128 ∷ 0 ∷ 0 ∷ 0 ∷ 0 ∷ 0 ∷ 0 ∷ 0 ∷ 0 ∷ 0 ∷ 0 ∷ 2 ∷ 1 ∷
-    2 ∷ 0 ∷ 1 ∷ 4 ∷ 4 ∷ 0 ∷ 0 ∷ 0 ∷ 0 ∷ 0 ∷
-    2 ∷ 0 ∷ 2 ∷ 1 ∷ 4 ∷ 0 ∷ 0 ∷ 0 ∷ 0 ∷ 0 ∷
-    3 ∷ 0 ∷ 0 ∷ 0 ∷ 1 ∷ 2 ∷
-    4 ∷ 1 ∷ 0 ∷ 1 ∷ 1 ∷ 0 ∷ 0 ∷ 0 ∷ 0 ∷ 0 ∷ 0 ∷ 0 ∷ 2 ∷ []
-
-abbrev image-2146 : List ℕ
-image-2146 =
-    1 ∷ 0 ∷ 0 ∷ 0 ∷ 0 ∷ 0 ∷ 0 ∷ 128 ∷ 1 ∷ 0 ∷ 0 ∷ 128 ∷ 0 ∷ 0 ∷ 0 ∷ 0 ∷ 0 ∷ 0 ∷ 0 ∷ 0 ∷ 0 ∷ 0 ∷ 2 ∷ 1 ∷
-    2 ∷ 0 ∷ 1 ∷ 4 ∷ 4 ∷ 0 ∷ 0 ∷ 0 ∷ 0 ∷ 0 ∷
-    2 ∷ 0 ∷ 2 ∷ 2 ∷ 4 ∷ 0 ∷ 0 ∷ 0 ∷ 0 ∷ 0 ∷
-    3 ∷ 0 ∷ 0 ∷ 0 ∷ 1 ∷ 2 ∷
-    4 ∷ 2 ∷ 0 ∷ 0 ∷ 1 ∷ 0 ∷ 0 ∷ 0 ∷ 0 ∷ 0 ∷ 0 ∷ 0 ∷ 3 ∷ []
-
-abbrev image-2151 : List ℕ
-image-2151 =
-    1 ∷ 0 ∷ 0 ∷ 0 ∷ 0 ∷ 0 ∷ 0 ∷ 128 ∷ 1 ∷ 0 ∷ 0 ∷ 128 ∷ 0 ∷ 0 ∷ 0 ∷ 0 ∷ 0 ∷ 0 ∷ 0 ∷ 0 ∷ 0 ∷ 0 ∷ 2 ∷ 1 ∷
-    2 ∷ 0 ∷ 1 ∷ 4 ∷ 4 ∷ 0 ∷ 0 ∷ 0 ∷ 0 ∷ 0 ∷
-    2 ∷ 0 ∷ 1 ∷ 2 ∷ 4 ∷ 0 ∷ 0 ∷ 0 ∷ 0 ∷ 0 ∷
-    3 ∷ 0 ∷ 0 ∷ 0 ∷ 1 ∷ 2 ∷
-    4 ∷ 2 ∷ 0 ∷ 0 ∷ 1 ∷ 0 ∷ 0 ∷ 0 ∷ 0 ∷ 0 ∷ 0 ∷ 0 ∷ 3 ∷ []
-
-abbrev image-2154 : List ℕ
-image-2154 =
-    1 ∷ 0 ∷ 0 ∷ 0 ∷ 0 ∷ 0 ∷ 0 ∷ 128 ∷ 1 ∷ 0 ∷ 0 ∷ 128 ∷ 0 ∷ 0 ∷ 0 ∷ 0 ∷ 0 ∷ 0 ∷ 0 ∷ 0 ∷ 0 ∷ 0 ∷ 2 ∷ 1 ∷
-    2 ∷ 0 ∷ 1 ∷ 4 ∷ 4 ∷ 0 ∷ 0 ∷ 0 ∷ 0 ∷ 0 ∷
-    2 ∷ 0 ∷ 0 ∷ 2 ∷ 4 ∷ 0 ∷ 0 ∷ 0 ∷ 0 ∷ 0 ∷
-    3 ∷ 0 ∷ 0 ∷ 0 ∷ 1 ∷ 2 ∷
-    4 ∷ 2 ∷ 0 ∷ 0 ∷ 1 ∷ 0 ∷ 0 ∷ 0 ∷ 0 ∷ 0 ∷ 0 ∷ 0 ∷ 3 ∷ []
-
-abbrev image-2155 : List ℕ
-image-2155 =
-    1 ∷ 0 ∷ 0 ∷ 0 ∷ 0 ∷ 0 ∷ 0 ∷ 128 ∷ 1 ∷ 0 ∷ 0 ∷ 128 ∷ 0 ∷ 0 ∷ 0 ∷ 0 ∷ 0 ∷ 0 ∷ 0 ∷ 0 ∷ 0 ∷ 0 ∷ 2 ∷ 0 ∷
-    2 ∷ 0 ∷ 1 ∷ 4 ∷ 4 ∷ 0 ∷ 0 ∷ 0 ∷ 0 ∷ 0 ∷
-    2 ∷ 0 ∷ 0 ∷ 2 ∷ 4 ∷ 0 ∷ 0 ∷ 0 ∷ 0 ∷ 0 ∷
-    3 ∷ 0 ∷ 0 ∷ 0 ∷ 1 ∷ 2 ∷
-    4 ∷ 2 ∷ 0 ∷ 0 ∷ 1 ∷ 0 ∷ 0 ∷ 0 ∷ 0 ∷ 0 ∷ 0 ∷ 0 ∷ 3 ∷
-    6 ∷ 0 ∷ 0 ∷ 0 ∷ 0 ∷ []
-
-abbrev image-2158 : List ℕ
-image-2158 =
-    1 ∷ 0 ∷ 0 ∷ 0 ∷ 0 ∷ 0 ∷ 0 ∷ 128 ∷ 1 ∷ 0 ∷ 0 ∷ 128 ∷ 0 ∷ 0 ∷ 0 ∷ 0 ∷ 0 ∷ 0 ∷ 0 ∷ 0 ∷ 0 ∷ 0 ∷ 2 ∷ 0 ∷
-    2 ∷ 0 ∷ 1 ∷ 4 ∷ 6 ∷ 0 ∷ 0 ∷ 0 ∷ 0 ∷ 0 ∷
-    2 ∷ 0 ∷ 0 ∷ 2 ∷ 4 ∷ 0 ∷ 0 ∷ 0 ∷ 0 ∷ 0 ∷
-    3 ∷ 0 ∷ 0 ∷ 0 ∷ 1 ∷ 2 ∷
-    4 ∷ 2 ∷ 0 ∷ 0 ∷ 1 ∷ 0 ∷ 0 ∷ 0 ∷ 0 ∷ 0 ∷ 0 ∷ 0 ∷ 3 ∷
-    6 ∷ 0 ∷ 0 ∷ 0 ∷ 0 ∷ []
-
--- calls 2132 to 2160
-calls-2132 :
-    outcomes none
-    (new-line 1000000 32769 32768
-    ∷ call-line 1000000 (question (partial-at 1099511627776))
-    ∷ call-line 1000000 (pick-pieces (asking 58 2 0 1 (some 1) 2 (255 ∷ 0 ∷ []) []) 4351 (words 5000 []))
-    ∷ call-line 1000000 (question (ofBlock is-requested 3 0))
-    ∷ call-line 1000000 (abort-download 1 0 (some 18446744073709551615) (words 4352 []))
-    ∷ call-line 1000000 (mark-as-downloading 1 0 (some 2) 0 (words 5000 []))
-    ∷ call-line 1000000 (inc-refcount 0 (words 5000 []))
-    ∷ call-line 1000000 (set-piece-priority 0 4 (words 4352 []))
-    ∷ call-line 1000000 (inc-refcount 1 (words 4352 []))
-    ∷ call-line 1000000 (question (listOfPiece get-downloaders 0 1000000))
-    ∷ call-line 1000000 (inc-refcount 1 (words 5000 []))
-    ∷ call-line 1000000 (lock-piece 1)
-    ∷ call-line 1000000 (mark-as-writing 1 0 (some 3) (words 5000 []))
-    ∷ call-line 1000000 (mark-as-downloading 1 0 (some 18446744073709551615) 2 (words 4352 []))
-    ∷ call-line 1000000 (question (listOfPiece blocks-for-piece 0 1000000))
-    ∷ call-line 1000000 (question (recent-extent 0))
-    ∷ call-line 1000000 (mark-as-downloading 1 0 (some 0) 0 (words 4352 []))
-    ∷ call-line 1000000 (dec-refcount 1 (words 5000 []))
-    ∷ call-line 1000000 (question (listOfPiece get-downloaders 0 1000000))
-    ∷ call-line 1000000 (abort-download 1 0 none (words 4352 []))
-    ∷ call-line 1000000 (dec-refcount 1 (words 4352 []))
-    ∷ call-line 1000000 (pick-pieces (asking 180 1 0 5 (some 0) 2 (26 ∷ []) []) 4351 (words 4352 []))
-    ∷ call-line 1000000 (mark-as-downloading 1 0 none 128 (words 4352 []))
-    ∷ call-line 1000000 (pick-pieces (asking 164 8 0 10 (some 0) 2 (255 ∷ []) (0 ∷ 1 ∷ 1 ∷ 0 ∷ 0 ∷ 0 ∷ 1 ∷ 0 ∷ 0 ∷ 0 ∷ 0 ∷ 1 ∷ 1 ∷ 0 ∷ 1 ∷ 1 ∷ 0 ∷ 1 ∷ 1 ∷ 0 ∷ [])) 4351 (words 4352 (3060109003 ∷ [])))
-    ∷ call-line 1000000 (set-piece-priority 0 6 (words 5000 []))
-    ∷ call-line 1000000 (question (listOfPiece blocks-for-piece 2147483648 3))
-    ∷ [])
-    ≡ outcome stands image-2132
-    ∷ outcome (answered (told nothing)) image-2132
-    ∷ outcome (answered (refused 11)) image-2132
-    ∷ outcome (answered (refused 5)) image-2132
-    ∷ outcome (answered (done 0)) image-2132
-    ∷ outcome (answered (said true 0)) image-2138
-    ∷ outcome (answered (done 0)) image-2139
-    ∷ outcome (answered (said false 0)) image-2139
-    ∷ outcome (answered (done 0)) image-2142
-    ∷ outcome (answered (told (numbers (none ∷ none ∷ [])))) image-2142
-    ∷ outcome (answered (done 0)) image-2144
-    ∷ outcome (answered (done 0)) image-2145
-    ∷ outcome (answered (said true 0)) image-2146
-    ∷ outcome (answered (said false 0)) image-2146
-    ∷ outcome (answered (told nothing)) image-2146
-    ∷ outcome (answered (told nothing)) image-2146
-    ∷ outcome (answered (said false 0)) image-2146
-    ∷ outcome (answered (done 0)) image-2151
-    ∷ outcome (answered (told (numbers (none ∷ none ∷ [])))) image-2151
-    ∷ outcome (answered (done 0)) image-2151
-    ∷ outcome (answered (done 0)) image-2154
-    ∷ outcome (answered (picked [] 8192 (0 ∷ 0 ∷ 0 ∷ 1 ∷ 0 ∷ 0 ∷ 0 ∷ []) 0)) image-2155
-    ∷ outcome (answered (said false 0)) image-2155
-    ∷ outcome (answered (picked ((pieceBlock 0 0) ∷ (pieceBlock 0 1) ∷ []) 8224 (0 ∷ 20 ∷ 0 ∷ 0 ∷ 2 ∷ 0 ∷ 0 ∷ []) 1)) image-2155
-    ∷ outcome (answered (said false 0)) image-2158
-    ∷ outcome (answered (refused 5)) image-2158
-    ∷ []
-unfolding replaying
-calls-2132 = refl
-
-abbrev image-2192 : List ℕ
-image-2192 =
-    1 ∷ 0 ∷ 0 ∷ 0 ∷ 0 ∷ 0 ∷ 1 ∷ 0 ∷ 0 ∷ 0 ∷ 0 ∷ 128 ∷ 0 ∷ 0 ∷ 1 ∷ 0 ∷ 0 ∷ 0 ∷ 2 ∷ 0 ∷ 0 ∷ 0 ∷ 2 ∷ 0 ∷
-    2 ∷ 0 ∷ 1 ∷ 4 ∷ 7 ∷ 0 ∷ 0 ∷ 0 ∷ 64 ∷ 1 ∷
-    2 ∷ 0 ∷ 1 ∷ 4 ∷ 7 ∷ 0 ∷ 0 ∷ 0 ∷ 0 ∷ 0 ∷
-    5 ∷ 0 ∷ 0 ∷ 0 ∷ 0 ∷
-    6 ∷ 0 ∷ 0 ∷ 0 ∷ 1 ∷
-    6 ∷ 0 ∷ 0 ∷ 0 ∷ 0 ∷ []
-
-abbrev image-2194 : List ℕ
-image-2194 =
-    1 ∷ 0 ∷ 0 ∷ 0 ∷ 0 ∷ 0 ∷ 1 ∷ 0 ∷ 0 ∷ 0 ∷ 0 ∷ 128 ∷ 0 ∷ 0 ∷ 2 ∷ 0 ∷ 0 ∷ 0 ∷ 2 ∷ 0 ∷ 0 ∷ 0 ∷ 2 ∷ 0 ∷
-    2 ∷ 0 ∷ 1 ∷ 4 ∷ 7 ∷ 0 ∷ 0 ∷ 0 ∷ 64 ∷ 1 ∷
-    2 ∷ 0 ∷ 1 ∷ 4 ∷ 7 ∷ 0 ∷ 0 ∷ 0 ∷ 0 ∷ 0 ∷
-    5 ∷ 0 ∷ 0 ∷ 0 ∷ 0 ∷
-    6 ∷ 0 ∷ 0 ∷ 0 ∷ 1 ∷
-    6 ∷ 0 ∷ 0 ∷ 0 ∷ 0 ∷ []
-
-abbrev image-2195 : List ℕ
-image-2195 =
-    1 ∷ 0 ∷ 0 ∷ 0 ∷ 0 ∷ 0 ∷ 1 ∷ 0 ∷ 0 ∷ 0 ∷ 0 ∷ 128 ∷ 0 ∷ 0 ∷ 2 ∷ 0 ∷ 0 ∷ 0 ∷ 2 ∷ 0 ∷ 0 ∷ 0 ∷ 2 ∷ 0 ∷
-    2 ∷ 0 ∷ 1 ∷ 4 ∷ 7 ∷ 0 ∷ 0 ∷ 0 ∷ 64 ∷ 1 ∷
-    2 ∷ 0 ∷ 0 ∷ 4 ∷ 7 ∷ 0 ∷ 0 ∷ 0 ∷ 0 ∷ 0 ∷
-    5 ∷ 0 ∷ 0 ∷ 0 ∷ 0 ∷
-    6 ∷ 0 ∷ 0 ∷ 0 ∷ 1 ∷
-    6 ∷ 0 ∷ 0 ∷ 0 ∷ 0 ∷ []
-
-abbrev image-2196 : List ℕ
-image-2196 =
-    1 ∷ 0 ∷ 0 ∷ 0 ∷ 0 ∷ 0 ∷ 1 ∷ 0 ∷ 0 ∷ 0 ∷ 0 ∷ 128 ∷ 0 ∷ 0 ∷ 2 ∷ 0 ∷ 0 ∷ 0 ∷ 2 ∷ 0 ∷ 0 ∷ 0 ∷ 2 ∷ 0 ∷
-    2 ∷ 0 ∷ 1 ∷ 5 ∷ 7 ∷ 0 ∷ 0 ∷ 0 ∷ 64 ∷ 1 ∷
-    2 ∷ 0 ∷ 0 ∷ 4 ∷ 7 ∷ 0 ∷ 0 ∷ 0 ∷ 0 ∷ 0 ∷
+abbrev image-1210 : List ℕ
+image-1210 =
+    1 ∷ 0 ∷ 0 ∷ 0 ∷ 0 ∷ 0 ∷ 0 ∷ 214 ∷ 238 ∷ 0 ∷ 0 ∷ 128 ∷ 0 ∷ 0 ∷ 0 ∷ 0 ∷ 0 ∷ 0 ∷ 0 ∷ 0 ∷ 0 ∷ 0 ∷ 2 ∷ 1 ∷
+    2 ∷ 0 ∷ 0 ∷ 0 ∷ 4 ∷ 0 ∷ 0 ∷ 0 ∷ 0 ∷ 0 ∷
+    2 ∷ 0 ∷ 0 ∷ 5 ∷ 4 ∷ 0 ∷ 0 ∷ 0 ∷ 0 ∷ 0 ∷
     3 ∷ 0 ∷ 0 ∷ 0 ∷ 0 ∷ 0 ∷
     4 ∷ 0 ∷ 0 ∷ 0 ∷ 0 ∷ 0 ∷ 0 ∷ 0 ∷ 0 ∷ 0 ∷ 0 ∷ 0 ∷ 0 ∷
-    4 ∷ 3 ∷ 0 ∷ 0 ∷ 0 ∷ 0 ∷ 0 ∷ 0 ∷ 0 ∷ 0 ∷ 0 ∷ 0 ∷ 0 ∷
-    5 ∷ 0 ∷ 0 ∷ 0 ∷ 0 ∷
-    6 ∷ 0 ∷ 0 ∷ 0 ∷ 1 ∷
-    6 ∷ 0 ∷ 0 ∷ 0 ∷ 0 ∷ []
+    4 ∷ 3 ∷ 0 ∷ 0 ∷ 1 ∷ 0 ∷ 0 ∷ 0 ∷ 0 ∷ 0 ∷ 0 ∷ 0 ∷ 3 ∷
+    3 ∷ 0 ∷ 0 ∷ 0 ∷ 1 ∷ 0 ∷
+    4 ∷ 1 ∷ 0 ∷ 1 ∷ 1 ∷ 0 ∷ 0 ∷ 0 ∷ 0 ∷ 0 ∷ 0 ∷ 0 ∷ 0 ∷
+    4 ∷ 0 ∷ 0 ∷ 0 ∷ 0 ∷ 0 ∷ 0 ∷ 0 ∷ 0 ∷ 0 ∷ 0 ∷ 0 ∷ 0 ∷ []
 
--- calls 2192 to 2197
-calls-2192 :
+abbrev image-1213 : List ℕ
+image-1213 =
+    1 ∷ 0 ∷ 0 ∷ 0 ∷ 0 ∷ 0 ∷ 0 ∷ 214 ∷ 238 ∷ 0 ∷ 0 ∷ 128 ∷ 0 ∷ 0 ∷ 0 ∷ 0 ∷ 0 ∷ 0 ∷ 0 ∷ 0 ∷ 0 ∷ 0 ∷ 2 ∷ 1 ∷
+    2 ∷ 0 ∷ 0 ∷ 0 ∷ 4 ∷ 0 ∷ 0 ∷ 0 ∷ 0 ∷ 0 ∷
+    2 ∷ 0 ∷ 0 ∷ 6 ∷ 4 ∷ 0 ∷ 0 ∷ 0 ∷ 0 ∷ 0 ∷
+    3 ∷ 0 ∷ 0 ∷ 0 ∷ 0 ∷ 0 ∷
+    4 ∷ 0 ∷ 0 ∷ 0 ∷ 0 ∷ 0 ∷ 0 ∷ 0 ∷ 0 ∷ 0 ∷ 0 ∷ 0 ∷ 0 ∷
+    4 ∷ 3 ∷ 0 ∷ 0 ∷ 1 ∷ 0 ∷ 0 ∷ 0 ∷ 0 ∷ 0 ∷ 0 ∷ 0 ∷ 3 ∷
+    3 ∷ 0 ∷ 0 ∷ 0 ∷ 1 ∷ 0 ∷
+    4 ∷ 1 ∷ 0 ∷ 1 ∷ 1 ∷ 0 ∷ 0 ∷ 0 ∷ 0 ∷ 0 ∷ 0 ∷ 0 ∷ 0 ∷
+    4 ∷ 1 ∷ 0 ∷ 1 ∷ 1 ∷ 0 ∷ 0 ∷ 0 ∷ 0 ∷ 0 ∷ 0 ∷ 0 ∷ 0 ∷ []
+
+abbrev image-1215 : List ℕ
+image-1215 =
+    1 ∷ 0 ∷ 0 ∷ 0 ∷ 0 ∷ 0 ∷ 0 ∷ 214 ∷ 238 ∷ 0 ∷ 0 ∷ 128 ∷ 0 ∷ 0 ∷ 0 ∷ 0 ∷ 0 ∷ 0 ∷ 0 ∷ 0 ∷ 0 ∷ 0 ∷ 2 ∷ 1 ∷
+    2 ∷ 0 ∷ 0 ∷ 0 ∷ 7 ∷ 0 ∷ 0 ∷ 0 ∷ 0 ∷ 0 ∷
+    2 ∷ 0 ∷ 0 ∷ 6 ∷ 4 ∷ 0 ∷ 0 ∷ 0 ∷ 0 ∷ 0 ∷
+    3 ∷ 0 ∷ 0 ∷ 0 ∷ 0 ∷ 0 ∷
+    4 ∷ 0 ∷ 0 ∷ 0 ∷ 0 ∷ 0 ∷ 0 ∷ 0 ∷ 0 ∷ 0 ∷ 0 ∷ 0 ∷ 0 ∷
+    4 ∷ 3 ∷ 0 ∷ 0 ∷ 1 ∷ 0 ∷ 0 ∷ 0 ∷ 0 ∷ 0 ∷ 0 ∷ 0 ∷ 3 ∷
+    3 ∷ 0 ∷ 0 ∷ 0 ∷ 1 ∷ 0 ∷
+    4 ∷ 1 ∷ 0 ∷ 1 ∷ 1 ∷ 0 ∷ 0 ∷ 0 ∷ 0 ∷ 0 ∷ 0 ∷ 0 ∷ 0 ∷
+    4 ∷ 1 ∷ 0 ∷ 1 ∷ 1 ∷ 0 ∷ 0 ∷ 0 ∷ 0 ∷ 0 ∷ 0 ∷ 0 ∷ 0 ∷ []
+
+abbrev image-1217 : List ℕ
+image-1217 =
+    1 ∷ 0 ∷ 0 ∷ 0 ∷ 0 ∷ 0 ∷ 0 ∷ 214 ∷ 238 ∷ 0 ∷ 0 ∷ 128 ∷ 0 ∷ 0 ∷ 0 ∷ 0 ∷ 0 ∷ 0 ∷ 0 ∷ 0 ∷ 0 ∷ 0 ∷ 2 ∷ 1 ∷
+    2 ∷ 0 ∷ 0 ∷ 0 ∷ 6 ∷ 0 ∷ 0 ∷ 0 ∷ 0 ∷ 0 ∷
+    2 ∷ 0 ∷ 0 ∷ 6 ∷ 4 ∷ 0 ∷ 0 ∷ 0 ∷ 0 ∷ 0 ∷
+    3 ∷ 0 ∷ 0 ∷ 0 ∷ 0 ∷ 0 ∷
+    4 ∷ 0 ∷ 0 ∷ 0 ∷ 0 ∷ 0 ∷ 0 ∷ 0 ∷ 0 ∷ 0 ∷ 0 ∷ 0 ∷ 0 ∷
+    4 ∷ 3 ∷ 0 ∷ 0 ∷ 1 ∷ 0 ∷ 0 ∷ 0 ∷ 0 ∷ 0 ∷ 0 ∷ 0 ∷ 3 ∷
+    3 ∷ 0 ∷ 0 ∷ 0 ∷ 1 ∷ 0 ∷
+    4 ∷ 1 ∷ 0 ∷ 1 ∷ 1 ∷ 0 ∷ 0 ∷ 0 ∷ 0 ∷ 0 ∷ 0 ∷ 0 ∷ 0 ∷
+    4 ∷ 1 ∷ 0 ∷ 1 ∷ 1 ∷ 0 ∷ 0 ∷ 0 ∷ 0 ∷ 0 ∷ 0 ∷ 0 ∷ 0 ∷ []
+
+abbrev image-1220 : List ℕ
+image-1220 =
+    1 ∷ 0 ∷ 0 ∷ 0 ∷ 0 ∷ 0 ∷ 0 ∷ 214 ∷ 238 ∷ 0 ∷ 0 ∷ 128 ∷ 0 ∷ 0 ∷ 1 ∷ 0 ∷ 0 ∷ 0 ∷ 0 ∷ 0 ∷ 0 ∷ 0 ∷ 2 ∷ 1 ∷
+    2 ∷ 0 ∷ 0 ∷ 0 ∷ 6 ∷ 0 ∷ 0 ∷ 0 ∷ 0 ∷ 0 ∷
+    2 ∷ 0 ∷ 0 ∷ 6 ∷ 4 ∷ 0 ∷ 0 ∷ 0 ∷ 0 ∷ 0 ∷
+    3 ∷ 0 ∷ 0 ∷ 0 ∷ 0 ∷ 0 ∷
+    4 ∷ 0 ∷ 0 ∷ 0 ∷ 0 ∷ 0 ∷ 0 ∷ 0 ∷ 0 ∷ 0 ∷ 0 ∷ 0 ∷ 0 ∷
+    4 ∷ 3 ∷ 0 ∷ 0 ∷ 1 ∷ 0 ∷ 0 ∷ 0 ∷ 0 ∷ 0 ∷ 0 ∷ 0 ∷ 3 ∷
+    3 ∷ 0 ∷ 0 ∷ 0 ∷ 1 ∷ 0 ∷
+    4 ∷ 1 ∷ 0 ∷ 1 ∷ 1 ∷ 0 ∷ 0 ∷ 0 ∷ 0 ∷ 0 ∷ 0 ∷ 0 ∷ 0 ∷
+    4 ∷ 1 ∷ 0 ∷ 1 ∷ 1 ∷ 0 ∷ 0 ∷ 0 ∷ 0 ∷ 0 ∷ 0 ∷ 0 ∷ 0 ∷ []
+
+abbrev image-1221 : List ℕ
+image-1221 =
+    1 ∷ 0 ∷ 0 ∷ 0 ∷ 0 ∷ 0 ∷ 0 ∷ 214 ∷ 238 ∷ 0 ∷ 0 ∷ 128 ∷ 0 ∷ 0 ∷ 1 ∷ 0 ∷ 0 ∷ 0 ∷ 0 ∷ 0 ∷ 0 ∷ 0 ∷ 2 ∷ 1 ∷
+    2 ∷ 0 ∷ 0 ∷ 0 ∷ 6 ∷ 0 ∷ 0 ∷ 0 ∷ 0 ∷ 0 ∷
+    2 ∷ 0 ∷ 0 ∷ 6 ∷ 4 ∷ 0 ∷ 0 ∷ 0 ∷ 0 ∷ 0 ∷
+    3 ∷ 0 ∷ 0 ∷ 0 ∷ 0 ∷ 0 ∷
+    4 ∷ 0 ∷ 0 ∷ 0 ∷ 0 ∷ 0 ∷ 0 ∷ 0 ∷ 0 ∷ 0 ∷ 0 ∷ 0 ∷ 0 ∷
+    4 ∷ 3 ∷ 0 ∷ 0 ∷ 1 ∷ 0 ∷ 0 ∷ 0 ∷ 0 ∷ 0 ∷ 0 ∷ 0 ∷ 3 ∷
+    3 ∷ 0 ∷ 0 ∷ 0 ∷ 1 ∷ 0 ∷
+    4 ∷ 2 ∷ 0 ∷ 0 ∷ 1 ∷ 0 ∷ 0 ∷ 0 ∷ 0 ∷ 0 ∷ 0 ∷ 0 ∷ 3 ∷
+    4 ∷ 1 ∷ 0 ∷ 1 ∷ 1 ∷ 0 ∷ 0 ∷ 0 ∷ 0 ∷ 0 ∷ 0 ∷ 0 ∷ 0 ∷ []
+
+abbrev image-1222 : List ℕ
+image-1222 =
+    1 ∷ 0 ∷ 0 ∷ 0 ∷ 0 ∷ 0 ∷ 0 ∷ 214 ∷ 238 ∷ 0 ∷ 0 ∷ 128 ∷ 0 ∷ 0 ∷ 1 ∷ 0 ∷ 0 ∷ 0 ∷ 0 ∷ 0 ∷ 0 ∷ 0 ∷ 2 ∷ 1 ∷
+    2 ∷ 0 ∷ 0 ∷ 0 ∷ 6 ∷ 0 ∷ 0 ∷ 0 ∷ 0 ∷ 0 ∷
+    2 ∷ 0 ∷ 0 ∷ 6 ∷ 4 ∷ 0 ∷ 0 ∷ 0 ∷ 0 ∷ 0 ∷
+    3 ∷ 0 ∷ 0 ∷ 0 ∷ 0 ∷ 0 ∷
+    4 ∷ 0 ∷ 0 ∷ 0 ∷ 1 ∷ 0 ∷ 0 ∷ 0 ∷ 0 ∷ 0 ∷ 0 ∷ 0 ∷ 1 ∷
+    4 ∷ 3 ∷ 0 ∷ 0 ∷ 1 ∷ 0 ∷ 0 ∷ 0 ∷ 0 ∷ 0 ∷ 0 ∷ 0 ∷ 3 ∷
+    3 ∷ 0 ∷ 0 ∷ 0 ∷ 1 ∷ 0 ∷
+    4 ∷ 2 ∷ 0 ∷ 0 ∷ 1 ∷ 0 ∷ 0 ∷ 0 ∷ 0 ∷ 0 ∷ 0 ∷ 0 ∷ 3 ∷
+    4 ∷ 1 ∷ 0 ∷ 1 ∷ 1 ∷ 0 ∷ 0 ∷ 0 ∷ 0 ∷ 0 ∷ 0 ∷ 0 ∷ 0 ∷ []
+
+abbrev image-1224 : List ℕ
+image-1224 =
+    1 ∷ 0 ∷ 0 ∷ 0 ∷ 0 ∷ 0 ∷ 0 ∷ 214 ∷ 238 ∷ 0 ∷ 0 ∷ 128 ∷ 0 ∷ 0 ∷ 1 ∷ 0 ∷ 0 ∷ 0 ∷ 0 ∷ 0 ∷ 0 ∷ 0 ∷ 2 ∷ 1 ∷
+    2 ∷ 0 ∷ 0 ∷ 0 ∷ 6 ∷ 0 ∷ 0 ∷ 0 ∷ 0 ∷ 0 ∷
+    2 ∷ 0 ∷ 0 ∷ 6 ∷ 4 ∷ 0 ∷ 0 ∷ 0 ∷ 0 ∷ 0 ∷
+    3 ∷ 0 ∷ 0 ∷ 0 ∷ 0 ∷ 0 ∷
+    4 ∷ 0 ∷ 0 ∷ 0 ∷ 1 ∷ 0 ∷ 0 ∷ 0 ∷ 0 ∷ 0 ∷ 0 ∷ 0 ∷ 1 ∷
+    4 ∷ 3 ∷ 0 ∷ 0 ∷ 1 ∷ 0 ∷ 0 ∷ 0 ∷ 0 ∷ 0 ∷ 0 ∷ 0 ∷ 3 ∷
+    3 ∷ 0 ∷ 0 ∷ 0 ∷ 1 ∷ 0 ∷
+    4 ∷ 2 ∷ 0 ∷ 0 ∷ 1 ∷ 0 ∷ 0 ∷ 0 ∷ 0 ∷ 0 ∷ 0 ∷ 0 ∷ 3 ∷
+    4 ∷ 1 ∷ 0 ∷ 1 ∷ 0 ∷ 0 ∷ 0 ∷ 0 ∷ 0 ∷ 0 ∷ 0 ∷ 0 ∷ 0 ∷ []
+
+-- calls 1205 to 1225
+calls-1205 :
     outcomes none
-    (read-line 1000000 image-2192
-    ∷ call-line 0 (set-piece-priority 1 4 (words 4352 []))
+    (new-line 1000000 55022 32768
+    ∷ call-line 1000000 (mark-as-finished 0 1 (some 3) (words 4352 []))
+    ∷ call-line 1000000 (set-piece-priority 0 4 (words 5000 []))
+    ∷ call-line 1000000 (pick-pieces (asking 198 300 4 2 (some 2) 2 (255 ∷ []) (0 ∷ 2147483647 ∷ 1 ∷ 0 ∷ 1 ∷ [])) 4351 (words 5000 (3254735028 ∷ [])))
+    ∷ call-line 1000000 (question (listOfPicker get-availability-vec 1000000))
+    ∷ call-line 1000000 (mark-as-downloading 1 0 (some 0) 2 (words 4352 []))
+    ∷ call-line 1000000 (question (ofPicker want))
+    ∷ call-line 1000000 (abort-download 0 0 (some 2) (words 4352 []))
+    ∷ call-line 1000000 (mark-as-downloading 1 1 (some 0) 7011 (words 4352 []))
+    ∷ call-line 1000000 (mark-as-canceled 0 1 (some 0) (words 4352 []))
+    ∷ call-line 1000000 (set-piece-priority 0 7 (words 4352 []))
+    ∷ call-line 1000000 (pick-pieces (asking 4 3 2048 1 (some 18446744073709551615) 2 (184 ∷ []) (0 ∷ 0 ∷ 1 ∷ [])) 4351 (words 4352 (0 ∷ [])))
+    ∷ call-line 1000000 (set-piece-priority 0 6 (words 4352 []))
+    ∷ call-line 1000000 (question (ofBlock block-num-peers 1 0))
+    ∷ call-line 1000000 (pick-pieces (asking 44 8 4 2 (some 2) 1 (255 ∷ []) (0 ∷ 0 ∷ 1 ∷ [])) 4351 (words 5000 []))
     ∷ call-line 1000000 inc-refcount-all
-    ∷ call-line 1000000 (dec-refcount 1 (words 4352 []))
-    ∷ call-line 1000000 (mark-as-downloading 0 1 (some 18446744073709551615) 47794 (words 4352 []))
-    ∷ call-line 1000000 (question (ofPiece piece-priority 0))
+    ∷ call-line 1000000 (mark-as-writing 1 0 (some 3) (words 4352 []))
+    ∷ call-line 1000000 (mark-as-canceled 0 0 (some 1) (words 4352 []))
+    ∷ call-line 1000000 (abort-download 0 1 (some 0) (words 5000 []))
+    ∷ call-line 1000000 (mark-as-canceled 1 1 none (words 4352 []))
+    ∷ call-line 16 (dec-refcount 1 (words 4352 []))
     ∷ [])
-    ≡ outcome stands image-2192
-    ∷ outcome (answered (refused 2)) image-2192
-    ∷ outcome (answered (done 0)) image-2194
-    ∷ outcome (answered (done 0)) image-2195
-    ∷ outcome (answered (said false 0)) image-2196
-    ∷ outcome (answered (told (numbers ((some 7) ∷ [])))) image-2196
+    ≡ outcome stands image-1205
+    ∷ outcome (answered (done 0)) image-1206
+    ∷ outcome (answered (said false 0)) image-1206
+    ∷ outcome (answered (picked ((pieceBlock 1 0) ∷ (pieceBlock 1 1) ∷ []) 10272 (0 ∷ 5 ∷ 0 ∷ 0 ∷ 2 ∷ 0 ∷ 0 ∷ []) 1)) image-1206
+    ∷ outcome (answered (replied (numbers ((some 0) ∷ (some 0) ∷ [])))) image-1206
+    ∷ outcome (answered (said true 0)) image-1210
+    ∷ outcome (answered (replied (numbers ((some 2) ∷ (some 0) ∷ (some 1) ∷ [])))) image-1210
+    ∷ outcome (answered (done 0)) image-1210
+    ∷ outcome (answered (said true 0)) image-1213
+    ∷ outcome (answered (done 0)) image-1213
+    ∷ outcome (answered (said false 0)) image-1215
+    ∷ outcome (answered (picked [] 10272 (0 ∷ 3 ∷ 0 ∷ 0 ∷ 2 ∷ 0 ∷ 0 ∷ []) 1)) image-1215
+    ∷ outcome (answered (said false 0)) image-1217
+    ∷ outcome (answered (replied (numbers ((some 1) ∷ [])))) image-1217
+    ∷ outcome (answered (refused PickArguments)) image-1217
+    ∷ outcome (answered (done 0)) image-1220
+    ∷ outcome (answered (said true 0)) image-1221
+    ∷ outcome (answered (done 0)) image-1222
+    ∷ outcome (answered (done 0)) image-1222
+    ∷ outcome (answered (done 0)) image-1224
+    ∷ outcome (answered (refused ShortMemory)) image-1224
     ∷ []
 unfolding replaying
-calls-2192 = refl
+calls-1205 = refl
 
-abbrev image-2282 : List ℕ
-image-2282 =
-    1 ∷ 0 ∷ 0 ∷ 0 ∷ 0 ∷ 0 ∷ 0 ∷ 0 ∷ 1 ∷ 0 ∷ 0 ∷ 0 ∷ 3 ∷ 0 ∷ 0 ∷ 0 ∷ 0 ∷ 0 ∷ 0 ∷ 0 ∷ 0 ∷ 0 ∷ 1 ∷ 1 ∷
-    2 ∷ 0 ∷ 0 ∷ 4 ∷ 4 ∷ 0 ∷ 0 ∷ 0 ∷ 0 ∷ 0 ∷ []
+abbrev image-1414 : List ℕ
+image-1414 =
+    1 ∷ 0 ∷ 0 ∷ 0 ∷ 0 ∷ 0 ∷ 0 ∷ 0 ∷ 13 ∷ 0 ∷ 0 ∷ 0 ∷ 3 ∷ 0 ∷ 2 ∷ 0 ∷ 0 ∷ 0 ∷ 3 ∷ 0 ∷ 0 ∷ 0 ∷ 3 ∷ 1 ∷
+    2 ∷ 0 ∷ 0 ∷ 4 ∷ 6 ∷ 1 ∷ 0 ∷ 0 ∷ 0 ∷ 0 ∷
+    2 ∷ 0 ∷ 1 ∷ 1 ∷ 7 ∷ 0 ∷ 0 ∷ 0 ∷ 0 ∷ 3 ∷
+    2 ∷ 3 ∷ 229 ∷ 2 ∷ 6 ∷ 0 ∷ 0 ∷ 0 ∷ 0 ∷ 3 ∷
+    2 ∷ 0 ∷ 3 ∷ 4 ∷ 7 ∷ 0 ∷ 0 ∷ 0 ∷ 0 ∷ 1 ∷
+    2 ∷ 0 ∷ 0 ∷ 4 ∷ 4 ∷ 0 ∷ 0 ∷ 0 ∷ 0 ∷ 1 ∷
+    3 ∷ 0 ∷ 0 ∷ 0 ∷ 1 ∷ 0 ∷
+    4 ∷ 1 ∷ 0 ∷ 2 ∷ 0 ∷ 0 ∷ 0 ∷ 0 ∷ 0 ∷ 0 ∷ 0 ∷ 0 ∷ 0 ∷
+    3 ∷ 0 ∷ 0 ∷ 0 ∷ 2 ∷ 0 ∷
+    4 ∷ 2 ∷ 0 ∷ 2 ∷ 1 ∷ 255 ∷ 255 ∷ 255 ∷ 255 ∷ 255 ∷ 255 ∷ 255 ∷ 255 ∷
+    5 ∷ 0 ∷ 0 ∷ 0 ∷ 0 ∷ []
 
-abbrev image-2286 : List ℕ
-image-2286 =
-    1 ∷ 0 ∷ 0 ∷ 0 ∷ 0 ∷ 0 ∷ 0 ∷ 0 ∷ 1 ∷ 0 ∷ 0 ∷ 0 ∷ 3 ∷ 0 ∷ 0 ∷ 0 ∷ 0 ∷ 0 ∷ 0 ∷ 0 ∷ 0 ∷ 0 ∷ 1 ∷ 1 ∷
-    2 ∷ 0 ∷ 0 ∷ 1 ∷ 4 ∷ 0 ∷ 0 ∷ 0 ∷ 0 ∷ 0 ∷
-    3 ∷ 0 ∷ 0 ∷ 0 ∷ 0 ∷ 0 ∷
-    4 ∷ 1 ∷ 0 ∷ 1 ∷ 1 ∷ 0 ∷ 0 ∷ 0 ∷ 0 ∷ 0 ∷ 0 ∷ 0 ∷ 3 ∷ []
+abbrev image-1415 : List ℕ
+image-1415 =
+    1 ∷ 0 ∷ 0 ∷ 0 ∷ 0 ∷ 0 ∷ 0 ∷ 0 ∷ 13 ∷ 0 ∷ 0 ∷ 0 ∷ 3 ∷ 0 ∷ 2 ∷ 0 ∷ 0 ∷ 0 ∷ 3 ∷ 0 ∷ 0 ∷ 0 ∷ 3 ∷ 1 ∷
+    2 ∷ 0 ∷ 0 ∷ 4 ∷ 6 ∷ 1 ∷ 0 ∷ 0 ∷ 0 ∷ 0 ∷
+    2 ∷ 0 ∷ 1 ∷ 1 ∷ 7 ∷ 0 ∷ 0 ∷ 0 ∷ 0 ∷ 3 ∷
+    2 ∷ 3 ∷ 230 ∷ 2 ∷ 6 ∷ 0 ∷ 0 ∷ 0 ∷ 0 ∷ 3 ∷
+    2 ∷ 0 ∷ 3 ∷ 4 ∷ 7 ∷ 0 ∷ 0 ∷ 0 ∷ 0 ∷ 1 ∷
+    2 ∷ 0 ∷ 0 ∷ 4 ∷ 4 ∷ 0 ∷ 0 ∷ 0 ∷ 0 ∷ 1 ∷
+    3 ∷ 0 ∷ 0 ∷ 0 ∷ 1 ∷ 0 ∷
+    4 ∷ 1 ∷ 0 ∷ 2 ∷ 0 ∷ 0 ∷ 0 ∷ 0 ∷ 0 ∷ 0 ∷ 0 ∷ 0 ∷ 0 ∷
+    3 ∷ 0 ∷ 0 ∷ 0 ∷ 2 ∷ 0 ∷
+    4 ∷ 2 ∷ 0 ∷ 2 ∷ 1 ∷ 255 ∷ 255 ∷ 255 ∷ 255 ∷ 255 ∷ 255 ∷ 255 ∷ 255 ∷
+    5 ∷ 0 ∷ 0 ∷ 0 ∷ 0 ∷ []
 
-abbrev image-2287 : List ℕ
-image-2287 =
-    1 ∷ 0 ∷ 0 ∷ 0 ∷ 0 ∷ 0 ∷ 0 ∷ 0 ∷ 1 ∷ 0 ∷ 0 ∷ 0 ∷ 3 ∷ 0 ∷ 0 ∷ 0 ∷ 0 ∷ 0 ∷ 0 ∷ 0 ∷ 0 ∷ 0 ∷ 1 ∷ 1 ∷
-    2 ∷ 0 ∷ 0 ∷ 1 ∷ 4 ∷ 0 ∷ 0 ∷ 0 ∷ 0 ∷ 0 ∷
-    3 ∷ 0 ∷ 0 ∷ 0 ∷ 0 ∷ 0 ∷
-    4 ∷ 1 ∷ 0 ∷ 2 ∷ 1 ∷ 0 ∷ 0 ∷ 0 ∷ 0 ∷ 0 ∷ 0 ∷ 0 ∷ 0 ∷ []
-
--- calls 2282 to 2291
-calls-2282 :
+-- calls 1414 to 1416
+calls-1414 :
     outcomes none
-    (new-line 1000000 1 3
-    ∷ call-line 1000000 (pick-pieces (asking 72 13 5 1 (some 0) 1 (52 ∷ []) []) 4351 (words 4352 (918053548 ∷ [])))
-    ∷ call-line 1000000 (dec-refcount 0 (words 5000 []))
-    ∷ call-line 1000000 (mark-as-downloading 0 0 (some 3) 137 (words 4352 []))
-    ∷ call-line 1000000 (mark-as-downloading 0 0 (some 0) 128 (words 5000 []))
-    ∷ call-line 1000000 (question (ofPiece locked? 0))
-    ∷ call-line 1000000 (pick-pieces (asking 142 3 2 300 (some 1) 1 (255 ∷ []) (0 ∷ 0 ∷ 0 ∷ 0 ∷ 0 ∷ [])) 259 (words 4352 []))
-    ∷ call-line 1000000 (mark-as-finished 0 0 (some 0) (words 4352 []))
-    ∷ call-line 28 (question (ofPicker get-download-queue-sizes))
+    (read-line 1000000 image-1414
+    ∷ call-line 1000000 (inc-refcount 2 (words 4352 []))
+    ∷ call-line 1000000 (question (ofPiece hashing? 4))
     ∷ [])
-    ≡ outcome stands image-2282
-    ∷ outcome (answered (picked [] 10240 (0 ∷ 0 ∷ 0 ∷ 0 ∷ 1 ∷ 0 ∷ 0 ∷ []) 1)) image-2282
-    ∷ outcome (answered (refused 7)) image-2282
-    ∷ outcome (answered (said true 0)) image-2286
-    ∷ outcome (answered (said true 0)) image-2287
-    ∷ outcome (answered (told (numbers ((some 0) ∷ [])))) image-2287
-    ∷ outcome (answered (refused 12)) image-2287
-    ∷ outcome (answered (refused 9)) image-2287
-    ∷ outcome (answered (refused 2)) image-2287
+    ≡ outcome stands image-1414
+    ∷ outcome (answered (done 0)) image-1415
+    ∷ outcome (answered (replied nothing)) image-1415
     ∷ []
 unfolding replaying
-calls-2282 = refl
+calls-1414 = refl
 
-abbrev image-2342 : List ℕ
-image-2342 =
-    1 ∷ 0 ∷ 0 ∷ 0 ∷ 0 ∷ 0 ∷ 0 ∷ 0 ∷ 15 ∷ 0 ∷ 0 ∷ 0 ∷ 3 ∷ 0 ∷ 0 ∷ 0 ∷ 0 ∷ 0 ∷ 1 ∷ 0 ∷ 0 ∷ 0 ∷ 0 ∷ 0 ∷
-    2 ∷ 0 ∷ 1 ∷ 2 ∷ 4 ∷ 0 ∷ 0 ∷ 0 ∷ 0 ∷ 0 ∷
-    2 ∷ 0 ∷ 0 ∷ 4 ∷ 4 ∷ 1 ∷ 0 ∷ 0 ∷ 0 ∷ 0 ∷
+abbrev image-1567 : List ℕ
+image-1567 =
+    1 ∷ 0 ∷ 0 ∷ 0 ∷ 0 ∷ 0 ∷ 0 ∷ 0 ∷ 1 ∷ 0 ∷ 0 ∷ 64 ∷ 0 ∷ 0 ∷ 1 ∷ 0 ∷ 0 ∷ 0 ∷ 1 ∷ 0 ∷ 0 ∷ 0 ∷ 1 ∷ 0 ∷
+    2 ∷ 0 ∷ 4 ∷ 2 ∷ 4 ∷ 0 ∷ 0 ∷ 0 ∷ 0 ∷ 0 ∷
+    3 ∷ 0 ∷ 0 ∷ 0 ∷ 0 ∷ 5 ∷
+    4 ∷ 3 ∷ 0 ∷ 0 ∷ 1 ∷ 0 ∷ 0 ∷ 0 ∷ 0 ∷ 0 ∷ 0 ∷ 0 ∷ 0 ∷
+    5 ∷ 0 ∷ 0 ∷ 0 ∷ 0 ∷ []
+
+-- calls 1567 to 1570
+calls-1567 :
+    outcomes none
+    (read-line 1000000 image-1567
+    ∷ call-line 1000000 (abort-download 0 0 (some 3) (words 4352 []))
+    ∷ call-line 1000000 (mark-as-downloading 0 0 (some 0) 130 (words 4352 []))
+    ∷ call-line 1000000 (question (ofPiece hashing? 0))
+    ∷ [])
+    ≡ outcome stands image-1567
+    ∷ outcome (answered (done 0)) image-1567
+    ∷ outcome (answered (said false 0)) image-1567
+    ∷ outcome (answered (replied (numbers ((some 1) ∷ [])))) image-1567
+    ∷ []
+unfolding replaying
+calls-1567 = refl
+
+abbrev image-1657 : List ℕ
+image-1657 =
+    1 ∷ 0 ∷ 0 ∷ 0 ∷ 0 ∷ 0 ∷ 1 ∷ 128 ∷ 0 ∷ 0 ∷ 0 ∷ 128 ∷ 0 ∷ 0 ∷ 0 ∷ 0 ∷ 0 ∷ 0 ∷ 3 ∷ 0 ∷ 0 ∷ 0 ∷ 3 ∷ 1 ∷
+    2 ∷ 0 ∷ 0 ∷ 1 ∷ 7 ∷ 0 ∷ 0 ∷ 0 ∷ 0 ∷ 0 ∷
+    2 ∷ 0 ∷ 0 ∷ 4 ∷ 0 ∷ 0 ∷ 0 ∷ 0 ∷ 0 ∷ 0 ∷
     2 ∷ 0 ∷ 2 ∷ 4 ∷ 7 ∷ 0 ∷ 0 ∷ 0 ∷ 0 ∷ 0 ∷
-    2 ∷ 0 ∷ 0 ∷ 4 ∷ 7 ∷ 0 ∷ 0 ∷ 0 ∷ 0 ∷ 0 ∷
-    2 ∷ 0 ∷ 6 ∷ 2 ∷ 4 ∷ 0 ∷ 0 ∷ 0 ∷ 0 ∷ 0 ∷
-    3 ∷ 0 ∷ 0 ∷ 0 ∷ 0 ∷ 4 ∷
-    4 ∷ 0 ∷ 0 ∷ 0 ∷ 1 ∷ 0 ∷ 0 ∷ 0 ∷ 0 ∷ 0 ∷ 0 ∷ 0 ∷ 0 ∷
-    3 ∷ 0 ∷ 0 ∷ 0 ∷ 4 ∷ 0 ∷
-    4 ∷ 3 ∷ 0 ∷ 0 ∷ 0 ∷ 0 ∷ 0 ∷ 0 ∷ 0 ∷ 0 ∷ 0 ∷ 0 ∷ 0 ∷
-    6 ∷ 0 ∷ 0 ∷ 0 ∷ 2 ∷ []
+    3 ∷ 0 ∷ 0 ∷ 0 ∷ 0 ∷ 0 ∷
+    4 ∷ 1 ∷ 3 ∷ 231 ∷ 0 ∷ 0 ∷ 0 ∷ 0 ∷ 0 ∷ 0 ∷ 0 ∷ 0 ∷ 0 ∷
+    4 ∷ 2 ∷ 0 ∷ 0 ∷ 1 ∷ 255 ∷ 255 ∷ 255 ∷ 255 ∷ 255 ∷ 255 ∷ 255 ∷ 255 ∷
+    5 ∷ 0 ∷ 0 ∷ 0 ∷ 0 ∷ []
 
-abbrev image-2343 : List ℕ
-image-2343 =
-    1 ∷ 0 ∷ 0 ∷ 0 ∷ 0 ∷ 0 ∷ 0 ∷ 0 ∷ 15 ∷ 0 ∷ 0 ∷ 0 ∷ 3 ∷ 0 ∷ 0 ∷ 0 ∷ 0 ∷ 0 ∷ 1 ∷ 0 ∷ 0 ∷ 0 ∷ 0 ∷ 0 ∷
-    2 ∷ 0 ∷ 1 ∷ 2 ∷ 4 ∷ 0 ∷ 0 ∷ 0 ∷ 0 ∷ 0 ∷
-    2 ∷ 0 ∷ 0 ∷ 4 ∷ 4 ∷ 1 ∷ 0 ∷ 0 ∷ 0 ∷ 0 ∷
+abbrev image-1659 : List ℕ
+image-1659 =
+    1 ∷ 0 ∷ 0 ∷ 0 ∷ 0 ∷ 0 ∷ 1 ∷ 128 ∷ 0 ∷ 0 ∷ 0 ∷ 128 ∷ 0 ∷ 0 ∷ 0 ∷ 0 ∷ 0 ∷ 0 ∷ 3 ∷ 0 ∷ 0 ∷ 0 ∷ 3 ∷ 1 ∷
+    2 ∷ 0 ∷ 0 ∷ 1 ∷ 7 ∷ 0 ∷ 0 ∷ 0 ∷ 0 ∷ 0 ∷
+    2 ∷ 0 ∷ 0 ∷ 4 ∷ 0 ∷ 0 ∷ 0 ∷ 0 ∷ 0 ∷ 0 ∷
     2 ∷ 0 ∷ 2 ∷ 4 ∷ 7 ∷ 0 ∷ 0 ∷ 0 ∷ 0 ∷ 0 ∷
-    2 ∷ 0 ∷ 0 ∷ 4 ∷ 7 ∷ 0 ∷ 0 ∷ 0 ∷ 0 ∷ 0 ∷
-    2 ∷ 0 ∷ 6 ∷ 2 ∷ 4 ∷ 0 ∷ 0 ∷ 0 ∷ 0 ∷ 0 ∷
-    3 ∷ 0 ∷ 0 ∷ 0 ∷ 0 ∷ 4 ∷
-    4 ∷ 2 ∷ 0 ∷ 0 ∷ 0 ∷ 0 ∷ 0 ∷ 0 ∷ 0 ∷ 0 ∷ 0 ∷ 0 ∷ 0 ∷
-    3 ∷ 0 ∷ 0 ∷ 0 ∷ 4 ∷ 0 ∷
-    4 ∷ 3 ∷ 0 ∷ 0 ∷ 0 ∷ 0 ∷ 0 ∷ 0 ∷ 0 ∷ 0 ∷ 0 ∷ 0 ∷ 0 ∷
-    6 ∷ 0 ∷ 0 ∷ 0 ∷ 2 ∷ []
-
--- calls 2342 to 2347
-calls-2342 :
-    outcomes none
-    (read-line 1000000 image-2342
-    ∷ call-line 1000000 (mark-as-writing 0 0 none (words 4352 []))
-    ∷ call-line 1000000 (pick-pieces (asking 42 5 5 2 (some 18446744073709551615) 5 (203 ∷ []) (0 ∷ 4 ∷ 2147483647 ∷ 4 ∷ 2 ∷ 1 ∷ 0 ∷ 4 ∷ 0 ∷ 2 ∷ 1 ∷ 3 ∷ 0 ∷ 0 ∷ 2 ∷ 1 ∷ 2 ∷ 1 ∷ 0 ∷ 2 ∷ [])) 4351 (words 5000 (781809613 ∷ [])))
-    ∷ call-line 1000000 (pick-pieces (asking 6 1 2049 0 (some 0) 5 (253 ∷ []) (4 ∷ 3 ∷ 3 ∷ [])) 4351 (words 4352 []))
-    ∷ call-line 1000000 (mark-as-finished 4 0 none (words 4352 []))
-    ∷ call-line 15 (question (ofBlock block-state 0 2))
-    ∷ [])
-    ≡ outcome stands image-2342
-    ∷ outcome (answered (said true 0)) image-2343
-    ∷ outcome (answered (picked [] 10272 (0 ∷ 20 ∷ 0 ∷ 0 ∷ 5 ∷ 0 ∷ 0 ∷ []) 1)) image-2343
-    ∷ outcome (answered (refused 11)) image-2343
-    ∷ outcome (answered (done 0)) image-2343
-    ∷ outcome (answered (refused 2)) image-2343
-    ∷ []
-unfolding replaying
-calls-2342 = refl
-
-abbrev image-2372 : List ℕ
-image-2372 =
-    1 ∷ 0 ∷ 0 ∷ 0 ∷ 0 ∷ 0 ∷ 1 ∷ 0 ∷ 0 ∷ 0 ∷ 0 ∷ 128 ∷ 0 ∷ 0 ∷ 1 ∷ 0 ∷ 0 ∷ 0 ∷ 0 ∷ 0 ∷ 0 ∷ 0 ∷ 0 ∷ 1 ∷
-    2 ∷ 3 ∷ 231 ∷ 5 ∷ 1 ∷ 0 ∷ 0 ∷ 0 ∷ 0 ∷ 0 ∷
-    2 ∷ 0 ∷ 1 ∷ 2 ∷ 6 ∷ 0 ∷ 0 ∷ 0 ∷ 0 ∷ 0 ∷
     3 ∷ 0 ∷ 0 ∷ 0 ∷ 0 ∷ 0 ∷
-    4 ∷ 1 ∷ 0 ∷ 1 ∷ 0 ∷ 0 ∷ 0 ∷ 0 ∷ 0 ∷ 0 ∷ 0 ∷ 0 ∷ 0 ∷
-    4 ∷ 0 ∷ 0 ∷ 3 ∷ 1 ∷ 0 ∷ 0 ∷ 0 ∷ 0 ∷ 0 ∷ 0 ∷ 0 ∷ 1 ∷
-    3 ∷ 0 ∷ 0 ∷ 0 ∷ 1 ∷ 0 ∷
-    4 ∷ 3 ∷ 0 ∷ 0 ∷ 1 ∷ 0 ∷ 0 ∷ 0 ∷ 0 ∷ 0 ∷ 0 ∷ 0 ∷ 3 ∷
-    4 ∷ 2 ∷ 3 ∷ 231 ∷ 1 ∷ 255 ∷ 255 ∷ 255 ∷ 255 ∷ 255 ∷ 255 ∷ 255 ∷ 255 ∷ []
+    4 ∷ 1 ∷ 3 ∷ 232 ∷ 1 ∷ 0 ∷ 0 ∷ 0 ∷ 0 ∷ 0 ∷ 0 ∷ 0 ∷ 3 ∷
+    4 ∷ 2 ∷ 0 ∷ 0 ∷ 1 ∷ 255 ∷ 255 ∷ 255 ∷ 255 ∷ 255 ∷ 255 ∷ 255 ∷ 255 ∷
+    5 ∷ 0 ∷ 0 ∷ 0 ∷ 0 ∷ []
 
-abbrev image-2374 : List ℕ
-image-2374 =
-    1 ∷ 0 ∷ 0 ∷ 0 ∷ 0 ∷ 0 ∷ 1 ∷ 0 ∷ 0 ∷ 0 ∷ 0 ∷ 128 ∷ 0 ∷ 0 ∷ 1 ∷ 0 ∷ 0 ∷ 0 ∷ 0 ∷ 0 ∷ 0 ∷ 0 ∷ 0 ∷ 0 ∷
-    2 ∷ 3 ∷ 231 ∷ 5 ∷ 1 ∷ 0 ∷ 0 ∷ 0 ∷ 0 ∷ 0 ∷
-    2 ∷ 0 ∷ 1 ∷ 2 ∷ 6 ∷ 0 ∷ 0 ∷ 0 ∷ 0 ∷ 0 ∷
-    3 ∷ 0 ∷ 0 ∷ 0 ∷ 0 ∷ 0 ∷
-    4 ∷ 1 ∷ 0 ∷ 1 ∷ 0 ∷ 0 ∷ 0 ∷ 0 ∷ 0 ∷ 0 ∷ 0 ∷ 0 ∷ 0 ∷
-    4 ∷ 0 ∷ 0 ∷ 3 ∷ 1 ∷ 0 ∷ 0 ∷ 0 ∷ 0 ∷ 0 ∷ 0 ∷ 0 ∷ 1 ∷
-    3 ∷ 0 ∷ 0 ∷ 0 ∷ 1 ∷ 0 ∷
-    4 ∷ 3 ∷ 0 ∷ 0 ∷ 1 ∷ 0 ∷ 0 ∷ 0 ∷ 0 ∷ 0 ∷ 0 ∷ 0 ∷ 3 ∷
-    4 ∷ 2 ∷ 3 ∷ 231 ∷ 1 ∷ 255 ∷ 255 ∷ 255 ∷ 255 ∷ 255 ∷ 255 ∷ 255 ∷ 255 ∷
-    6 ∷ 0 ∷ 0 ∷ 0 ∷ 0 ∷ []
-
-abbrev image-2378 : List ℕ
-image-2378 =
-    1 ∷ 0 ∷ 0 ∷ 0 ∷ 0 ∷ 0 ∷ 1 ∷ 0 ∷ 0 ∷ 0 ∷ 0 ∷ 128 ∷ 0 ∷ 0 ∷ 1 ∷ 0 ∷ 0 ∷ 0 ∷ 0 ∷ 0 ∷ 0 ∷ 0 ∷ 0 ∷ 0 ∷
-    2 ∷ 3 ∷ 231 ∷ 5 ∷ 1 ∷ 0 ∷ 0 ∷ 0 ∷ 0 ∷ 0 ∷
-    2 ∷ 0 ∷ 1 ∷ 2 ∷ 6 ∷ 0 ∷ 0 ∷ 0 ∷ 0 ∷ 0 ∷
-    3 ∷ 0 ∷ 0 ∷ 0 ∷ 0 ∷ 2 ∷
-    4 ∷ 1 ∷ 0 ∷ 1 ∷ 0 ∷ 0 ∷ 0 ∷ 0 ∷ 0 ∷ 0 ∷ 0 ∷ 0 ∷ 0 ∷
-    4 ∷ 0 ∷ 0 ∷ 3 ∷ 1 ∷ 0 ∷ 0 ∷ 0 ∷ 0 ∷ 0 ∷ 0 ∷ 0 ∷ 1 ∷
-    3 ∷ 0 ∷ 0 ∷ 0 ∷ 1 ∷ 0 ∷
-    4 ∷ 3 ∷ 0 ∷ 0 ∷ 1 ∷ 0 ∷ 0 ∷ 0 ∷ 0 ∷ 0 ∷ 0 ∷ 0 ∷ 3 ∷
-    4 ∷ 2 ∷ 3 ∷ 231 ∷ 1 ∷ 255 ∷ 255 ∷ 255 ∷ 255 ∷ 255 ∷ 255 ∷ 255 ∷ 255 ∷
-    6 ∷ 0 ∷ 0 ∷ 0 ∷ 0 ∷ []
-
-abbrev image-2379 : List ℕ
-image-2379 =
-    1 ∷ 0 ∷ 0 ∷ 0 ∷ 0 ∷ 0 ∷ 1 ∷ 0 ∷ 0 ∷ 0 ∷ 0 ∷ 128 ∷ 0 ∷ 0 ∷ 1 ∷ 0 ∷ 0 ∷ 0 ∷ 0 ∷ 0 ∷ 0 ∷ 0 ∷ 0 ∷ 0 ∷
-    2 ∷ 3 ∷ 231 ∷ 5 ∷ 1 ∷ 0 ∷ 0 ∷ 0 ∷ 0 ∷ 0 ∷
-    2 ∷ 0 ∷ 1 ∷ 2 ∷ 6 ∷ 0 ∷ 0 ∷ 0 ∷ 0 ∷ 0 ∷
-    3 ∷ 0 ∷ 0 ∷ 0 ∷ 0 ∷ 2 ∷
-    4 ∷ 1 ∷ 0 ∷ 1 ∷ 0 ∷ 0 ∷ 0 ∷ 0 ∷ 0 ∷ 0 ∷ 0 ∷ 0 ∷ 0 ∷
-    4 ∷ 0 ∷ 0 ∷ 3 ∷ 1 ∷ 0 ∷ 0 ∷ 0 ∷ 0 ∷ 0 ∷ 0 ∷ 0 ∷ 1 ∷
-    3 ∷ 0 ∷ 0 ∷ 0 ∷ 1 ∷ 0 ∷
-    4 ∷ 3 ∷ 0 ∷ 0 ∷ 1 ∷ 0 ∷ 0 ∷ 0 ∷ 0 ∷ 0 ∷ 0 ∷ 0 ∷ 3 ∷
-    4 ∷ 2 ∷ 3 ∷ 231 ∷ 1 ∷ 0 ∷ 0 ∷ 0 ∷ 0 ∷ 0 ∷ 0 ∷ 0 ∷ 3 ∷
-    6 ∷ 0 ∷ 0 ∷ 0 ∷ 0 ∷ []
-
-abbrev image-2391 : List ℕ
-image-2391 =
-    1 ∷ 0 ∷ 0 ∷ 0 ∷ 0 ∷ 0 ∷ 1 ∷ 0 ∷ 0 ∷ 0 ∷ 0 ∷ 128 ∷ 0 ∷ 0 ∷ 1 ∷ 0 ∷ 0 ∷ 0 ∷ 0 ∷ 0 ∷ 0 ∷ 0 ∷ 0 ∷ 0 ∷
-    2 ∷ 3 ∷ 231 ∷ 5 ∷ 1 ∷ 0 ∷ 0 ∷ 0 ∷ 0 ∷ 0 ∷
-    2 ∷ 0 ∷ 1 ∷ 2 ∷ 6 ∷ 0 ∷ 0 ∷ 0 ∷ 0 ∷ 0 ∷
-    3 ∷ 0 ∷ 0 ∷ 0 ∷ 0 ∷ 2 ∷
-    4 ∷ 1 ∷ 0 ∷ 1 ∷ 0 ∷ 0 ∷ 0 ∷ 0 ∷ 0 ∷ 0 ∷ 0 ∷ 0 ∷ 0 ∷
-    4 ∷ 0 ∷ 0 ∷ 3 ∷ 1 ∷ 0 ∷ 0 ∷ 0 ∷ 0 ∷ 0 ∷ 0 ∷ 0 ∷ 1 ∷
-    3 ∷ 0 ∷ 0 ∷ 0 ∷ 1 ∷ 1 ∷
-    4 ∷ 3 ∷ 0 ∷ 0 ∷ 1 ∷ 0 ∷ 0 ∷ 0 ∷ 0 ∷ 0 ∷ 0 ∷ 0 ∷ 3 ∷
-    4 ∷ 2 ∷ 3 ∷ 231 ∷ 1 ∷ 0 ∷ 0 ∷ 0 ∷ 0 ∷ 0 ∷ 0 ∷ 0 ∷ 3 ∷
-    6 ∷ 0 ∷ 0 ∷ 0 ∷ 0 ∷ []
-
-abbrev image-2392 : List ℕ
-image-2392 =
-    1 ∷ 0 ∷ 0 ∷ 0 ∷ 0 ∷ 0 ∷ 1 ∷ 0 ∷ 0 ∷ 0 ∷ 0 ∷ 128 ∷ 0 ∷ 0 ∷ 1 ∷ 0 ∷ 0 ∷ 0 ∷ 0 ∷ 0 ∷ 0 ∷ 0 ∷ 0 ∷ 0 ∷
-    2 ∷ 3 ∷ 231 ∷ 6 ∷ 1 ∷ 0 ∷ 0 ∷ 0 ∷ 0 ∷ 0 ∷
-    2 ∷ 0 ∷ 1 ∷ 2 ∷ 6 ∷ 0 ∷ 0 ∷ 0 ∷ 0 ∷ 0 ∷
-    3 ∷ 0 ∷ 0 ∷ 0 ∷ 0 ∷ 2 ∷
-    4 ∷ 1 ∷ 0 ∷ 1 ∷ 0 ∷ 0 ∷ 0 ∷ 0 ∷ 0 ∷ 0 ∷ 0 ∷ 0 ∷ 0 ∷
-    4 ∷ 2 ∷ 0 ∷ 0 ∷ 1 ∷ 0 ∷ 0 ∷ 0 ∷ 0 ∷ 0 ∷ 0 ∷ 0 ∷ 1 ∷
-    3 ∷ 0 ∷ 0 ∷ 0 ∷ 1 ∷ 1 ∷
-    4 ∷ 3 ∷ 0 ∷ 0 ∷ 1 ∷ 0 ∷ 0 ∷ 0 ∷ 0 ∷ 0 ∷ 0 ∷ 0 ∷ 3 ∷
-    4 ∷ 2 ∷ 3 ∷ 231 ∷ 1 ∷ 0 ∷ 0 ∷ 0 ∷ 0 ∷ 0 ∷ 0 ∷ 0 ∷ 3 ∷
-    6 ∷ 0 ∷ 0 ∷ 0 ∷ 0 ∷ []
-
--- calls 2372 to 2395
-calls-2372 :
+-- calls 1657 to 1664
+calls-1657 :
     outcomes none
-    (read-line 1000000 image-2372
-    ∷ call-line 1000000 (question (listOfPiece blocks-for-piece 1 1000000))
-    ∷ call-line 1000000 (pick-pieces (asking 188 300 4 3 (some 2) 2 (255 ∷ []) (0 ∷ 0 ∷ 0 ∷ 1 ∷ 1 ∷ [])) 4351 (words 4352 []))
-    ∷ call-line 1000000 (question (listOfPiece get-downloaders 1 1000000))
-    ∷ call-line 1000000 (pick-pieces (asking 102 13 3 2 (some 3) 2 (93 ∷ []) []) 4351 (words 4352 (1515592933 ∷ [])))
-    ∷ call-line 1000000 (pick-pieces (asking 174 1 2048 3 (some 1) 2 (255 ∷ []) (0 ∷ 1 ∷ [])) 4351 (words 4352 (3336206494 ∷ [])))
-    ∷ call-line 1000000 (lock-piece 0)
-    ∷ call-line 1000000 (mark-as-writing 1 1 (some 3) (words 4352 []))
-    ∷ call-line 1000000 (abort-download 1 1 (some 1) (words 4352 []))
-    ∷ call-line 1000000 (mark-as-finished 0 0 (some 3) (words 5000 []))
-    ∷ call-line 1000000 (piece-passed 0)
-    ∷ call-line 49 (pick-pieces (asking 9962 1 10 300 (some 18446744073709551615) 2 (255 ∷ []) []) 4351 (words 5000 []))
-    ∷ call-line 1000000 (pick-pieces (asking 238 2048 10 1 (some 18446744073709551615) 2 (209 ∷ []) (1 ∷ [])) 4351 (words 5000 (1089335235 ∷ [])))
-    ∷ call-line 1000000 (pick-pieces (asking 152 13 3 10 (some 0) 2 (255 ∷ []) (1 ∷ [])) 4351 (words 4352 []))
-    ∷ call-line 1000000 (question (listOfPicker get-download-queue 1000000))
-    ∷ call-line 1000000 (pick-pieces (asking 233 2047 0 300 (some 3) 2 (159 ∷ []) (1 ∷ 1 ∷ 0 ∷ 0 ∷ 0 ∷ [])) 4351 (words 4352 []))
-    ∷ call-line 1000000 (pick-pieces (asking 239 300 1 300 (some 2) 2 [] (1 ∷ 0 ∷ [])) 4351 (words 4352 []))
-    ∷ call-line 1000000 (piece-passed 1)
-    ∷ call-line 1000000 (mark-as-writing 0 1 (some 1) (words 4352 []))
-    ∷ call-line 1000000 (question (ofBlock is-downloaded 1 1))
-    ∷ call-line 1000000 (mark-as-finished 4294967296 0 (some 18446744073709551615) (words 4352 []))
-    ∷ call-line 1000000 (question (ofPiece piece-stats 3))
-    ∷ [])
-    ≡ outcome stands image-2372
-    ∷ outcome (answered (told (numbers ((some 3) ∷ (some 0) ∷ (some 3) ∷ (some 2) ∷ (some 999) ∷ (some 18446744073709551615) ∷ [])))) image-2372
-    ∷ outcome (answered (picked [] 10282 (1 ∷ 5 ∷ 0 ∷ 1 ∷ 0 ∷ 0 ∷ 0 ∷ []) 0)) image-2374
-    ∷ outcome (answered (told (numbers ((some 3) ∷ (some 18446744073709551615) ∷ [])))) image-2374
-    ∷ outcome (answered (picked [] 11264 (0 ∷ 0 ∷ 0 ∷ 0 ∷ 1 ∷ 0 ∷ 0 ∷ []) 1)) image-2374
-    ∷ outcome (answered (picked [] 10274 (1 ∷ 2 ∷ 0 ∷ 0 ∷ 2 ∷ 0 ∷ 0 ∷ []) 1)) image-2374
-    ∷ outcome (answered (done 0)) image-2378
-    ∷ outcome (answered (said false 0)) image-2379
-    ∷ outcome (answered (done 0)) image-2379
-    ∷ outcome (answered (refused 9)) image-2379
-    ∷ outcome (answered (done 0)) image-2379
-    ∷ outcome (answered (refused 2)) image-2379
-    ∷ outcome (answered (picked [] 11296 (1 ∷ 1 ∷ 0 ∷ 0 ∷ 1 ∷ 0 ∷ 0 ∷ []) 1)) image-2379
-    ∷ outcome (answered (picked [] 10280 (1 ∷ 1 ∷ 0 ∷ 1 ∷ 0 ∷ 0 ∷ 0 ∷ []) 0)) image-2379
-    ∷ outcome (answered (told (numbers ((some 0) ∷ (some 0) ∷ (some 0) ∷ (some 0) ∷ (some 1) ∷ (some 1) ∷ (some 0) ∷ (some 1) ∷ (some 1) ∷ (some 0) ∷ (some 1) ∷ (some 0) ∷ (some 0) ∷ (some 0) ∷ [])))) image-2379
-    ∷ outcome (answered (picked [] 8236 (1 ∷ 5 ∷ 0 ∷ 1 ∷ 0 ∷ 0 ∷ 0 ∷ []) 0)) image-2379
-    ∷ outcome (answered (refused 11)) image-2379
-    ∷ outcome (answered (done 0)) image-2391
-    ∷ outcome (answered (said true 0)) image-2392
-    ∷ outcome (answered (told (numbers ((some 1) ∷ [])))) image-2392
-    ∷ outcome (answered (refused 5)) image-2392
-    ∷ outcome (answered (refused 5)) image-2392
-    ∷ []
-unfolding replaying
-calls-2372 = refl
-
-abbrev image-2519 : List ℕ
-image-2519 =
-    1 ∷ 0 ∷ 0 ∷ 0 ∷ 0 ∷ 0 ∷ 0 ∷ 0 ∷ 7 ∷ 0 ∷ 0 ∷ 0 ∷ 3 ∷ 0 ∷ 0 ∷ 0 ∷ 0 ∷ 0 ∷ 0 ∷ 0 ∷ 0 ∷ 0 ∷ 3 ∷ 1 ∷
-    2 ∷ 0 ∷ 0 ∷ 4 ∷ 4 ∷ 0 ∷ 0 ∷ 0 ∷ 0 ∷ 0 ∷
-    2 ∷ 0 ∷ 0 ∷ 4 ∷ 4 ∷ 0 ∷ 0 ∷ 0 ∷ 0 ∷ 0 ∷
-    2 ∷ 0 ∷ 0 ∷ 4 ∷ 4 ∷ 0 ∷ 0 ∷ 0 ∷ 0 ∷ 0 ∷ []
-
--- calls 2519 to 2520
-calls-2519 :
-    outcomes none
-    (new-line 1000000 7 3
-    ∷ call-line 15 (pick-pieces (asking 162 2047 1 1000 (some 2) 3 (139 ∷ []) []) 4351 (words 4352 []))
-    ∷ [])
-    ≡ outcome stands image-2519
-    ∷ outcome (answered (refused 2)) image-2519
-    ∷ []
-unfolding replaying
-calls-2519 = refl
-
-abbrev image-2585 : List ℕ
-image-2585 =
-    1 ∷ 0 ∷ 0 ∷ 0 ∷ 0 ∷ 0 ∷ 0 ∷ 64 ∷ 0 ∷ 0 ∷ 0 ∷ 64 ∷ 0 ∷ 0 ∷ 0 ∷ 0 ∷ 0 ∷ 0 ∷ 0 ∷ 0 ∷ 0 ∷ 0 ∷ 1 ∷ 1 ∷
-    2 ∷ 0 ∷ 0 ∷ 4 ∷ 4 ∷ 0 ∷ 0 ∷ 0 ∷ 0 ∷ 0 ∷ []
-
-abbrev image-2586 : List ℕ
-image-2586 =
-    1 ∷ 0 ∷ 0 ∷ 0 ∷ 0 ∷ 0 ∷ 0 ∷ 64 ∷ 0 ∷ 0 ∷ 0 ∷ 64 ∷ 0 ∷ 0 ∷ 0 ∷ 0 ∷ 0 ∷ 0 ∷ 0 ∷ 0 ∷ 0 ∷ 0 ∷ 1 ∷ 1 ∷
-    2 ∷ 0 ∷ 1 ∷ 4 ∷ 4 ∷ 0 ∷ 0 ∷ 0 ∷ 0 ∷ 0 ∷ []
-
-abbrev image-2590 : List ℕ
-image-2590 =
-    1 ∷ 0 ∷ 0 ∷ 0 ∷ 0 ∷ 0 ∷ 0 ∷ 64 ∷ 0 ∷ 0 ∷ 0 ∷ 64 ∷ 0 ∷ 0 ∷ 0 ∷ 0 ∷ 0 ∷ 0 ∷ 0 ∷ 0 ∷ 0 ∷ 0 ∷ 1 ∷ 0 ∷
-    2 ∷ 0 ∷ 1 ∷ 4 ∷ 4 ∷ 0 ∷ 0 ∷ 0 ∷ 0 ∷ 0 ∷
-    6 ∷ 0 ∷ 0 ∷ 0 ∷ 0 ∷ []
-
--- calls 2585 to 2592
-calls-2585 :
-    outcomes none
-    (new-line 1000000 16384 16384
-    ∷ call-line 1000000 (inc-refcount 0 (words 4352 []))
-    ∷ call-line 1000000 (set-piece-priority 0 1 (words 0 []))
+    (read-line 1000000 image-1657
+    ∷ call-line 1000000 (mark-as-downloading 0 0 (some 3) 118 (words 4352 []))
+    ∷ call-line 1000000 (mark-as-finished 0 0 (some 2) (words 4352 []))
     ∷ call-line 1000000 (question (recent-extent 0))
-    ∷ call-line 1000000 (inc-refcount 0 (words 0 []))
-    ∷ call-line 1000000 (pick-pieces (asking 25581 1 0 300 (some 18446744073709551615) 1 (40 ∷ []) []) 4351 (words 4352 []))
-    ∷ call-line 1000000 (question (ofPiece piece-size 0))
+    ∷ call-line 1000000 (set-piece-priority 1 0 (words 5000 []))
+    ∷ call-line 1000000 (mark-as-downloading 0 0 (some 0) 43688 (words 4352 []))
     ∷ [])
-    ≡ outcome stands image-2585
-    ∷ outcome (answered (done 0)) image-2586
-    ∷ outcome (answered (refused 4)) image-2586
-    ∷ outcome (answered (told nothing)) image-2586
-    ∷ outcome (answered (refused 4)) image-2586
-    ∷ outcome (answered (picked [] 8192 (0 ∷ 0 ∷ 0 ∷ 1 ∷ 0 ∷ 0 ∷ 0 ∷ []) 0)) image-2590
-    ∷ outcome (answered (told (numbers ((some 16384) ∷ [])))) image-2590
+    ≡ outcome stands image-1657
+    ∷ outcome (answered (said true 0)) image-1659
+    ∷ outcome (answered (refused NotWriting)) image-1659
+    ∷ outcome (answered (replied (numbers ((some 0) ∷ [])))) image-1659
+    ∷ outcome (answered (said false 0)) image-1659
+    ∷ outcome (answered (refused TooManyPeers)) image-1659
     ∷ []
 unfolding replaying
-calls-2585 = refl
+calls-1657 = refl
 
-abbrev image-2733 : List ℕ
-image-2733 =
-    1 ∷ 0 ∷ 0 ∷ 0 ∷ 0 ∷ 0 ∷ 0 ∷ 64 ∷ 1 ∷ 0 ∷ 0 ∷ 64 ∷ 0 ∷ 0 ∷ 1 ∷ 0 ∷ 0 ∷ 0 ∷ 1 ∷ 0 ∷ 0 ∷ 0 ∷ 2 ∷ 0 ∷
-    2 ∷ 3 ∷ 230 ∷ 4 ∷ 4 ∷ 0 ∷ 0 ∷ 0 ∷ 0 ∷ 0 ∷
+abbrev image-1806 : List ℕ
+image-1806 =
+    1 ∷ 0 ∷ 0 ∷ 0 ∷ 0 ∷ 0 ∷ 4 ∷ 120 ∷ 255 ∷ 0 ∷ 1 ∷ 0 ∷ 0 ∷ 0 ∷ 0 ∷ 0 ∷ 0 ∷ 0 ∷ 0 ∷ 0 ∷ 0 ∷ 0 ∷ 5 ∷ 1 ∷
     2 ∷ 0 ∷ 0 ∷ 4 ∷ 4 ∷ 0 ∷ 0 ∷ 0 ∷ 0 ∷ 0 ∷
-    5 ∷ 0 ∷ 0 ∷ 0 ∷ 0 ∷
-    6 ∷ 0 ∷ 0 ∷ 0 ∷ 1 ∷
-    6 ∷ 0 ∷ 0 ∷ 0 ∷ 0 ∷ []
+    2 ∷ 0 ∷ 0 ∷ 4 ∷ 4 ∷ 0 ∷ 0 ∷ 0 ∷ 0 ∷ 0 ∷
+    2 ∷ 0 ∷ 0 ∷ 4 ∷ 4 ∷ 0 ∷ 0 ∷ 0 ∷ 0 ∷ 0 ∷
+    2 ∷ 0 ∷ 0 ∷ 4 ∷ 4 ∷ 0 ∷ 0 ∷ 0 ∷ 0 ∷ 0 ∷
+    2 ∷ 0 ∷ 0 ∷ 4 ∷ 4 ∷ 0 ∷ 0 ∷ 0 ∷ 0 ∷ 0 ∷ []
 
--- calls 2733 to 2736
-calls-2733 :
+abbrev image-1807 : List ℕ
+image-1807 =
+    1 ∷ 0 ∷ 0 ∷ 0 ∷ 0 ∷ 0 ∷ 4 ∷ 120 ∷ 255 ∷ 0 ∷ 1 ∷ 0 ∷ 0 ∷ 0 ∷ 0 ∷ 0 ∷ 0 ∷ 0 ∷ 0 ∷ 0 ∷ 0 ∷ 0 ∷ 5 ∷ 1 ∷
+    2 ∷ 0 ∷ 0 ∷ 4 ∷ 4 ∷ 0 ∷ 0 ∷ 0 ∷ 0 ∷ 0 ∷
+    2 ∷ 0 ∷ 0 ∷ 4 ∷ 4 ∷ 0 ∷ 0 ∷ 0 ∷ 0 ∷ 0 ∷
+    2 ∷ 0 ∷ 0 ∷ 4 ∷ 4 ∷ 0 ∷ 0 ∷ 0 ∷ 0 ∷ 0 ∷
+    2 ∷ 0 ∷ 0 ∷ 4 ∷ 4 ∷ 0 ∷ 0 ∷ 0 ∷ 0 ∷ 0 ∷
+    2 ∷ 0 ∷ 0 ∷ 0 ∷ 4 ∷ 0 ∷ 0 ∷ 0 ∷ 0 ∷ 0 ∷
+    3 ∷ 0 ∷ 0 ∷ 0 ∷ 4 ∷ 0 ∷
+    4 ∷ 3 ∷ 0 ∷ 0 ∷ 1 ∷ 0 ∷ 0 ∷ 0 ∷ 0 ∷ 0 ∷ 0 ∷ 0 ∷ 2 ∷
+    4 ∷ 0 ∷ 0 ∷ 0 ∷ 0 ∷ 0 ∷ 0 ∷ 0 ∷ 0 ∷ 0 ∷ 0 ∷ 0 ∷ 0 ∷ []
+
+abbrev image-1808 : List ℕ
+image-1808 =
+    1 ∷ 0 ∷ 0 ∷ 0 ∷ 0 ∷ 0 ∷ 4 ∷ 120 ∷ 255 ∷ 0 ∷ 1 ∷ 0 ∷ 0 ∷ 0 ∷ 0 ∷ 0 ∷ 0 ∷ 0 ∷ 0 ∷ 0 ∷ 0 ∷ 0 ∷ 5 ∷ 0 ∷
+    2 ∷ 0 ∷ 0 ∷ 4 ∷ 4 ∷ 0 ∷ 0 ∷ 0 ∷ 0 ∷ 0 ∷
+    2 ∷ 0 ∷ 0 ∷ 4 ∷ 4 ∷ 0 ∷ 0 ∷ 0 ∷ 0 ∷ 0 ∷
+    2 ∷ 0 ∷ 0 ∷ 4 ∷ 4 ∷ 0 ∷ 0 ∷ 0 ∷ 0 ∷ 0 ∷
+    2 ∷ 0 ∷ 0 ∷ 4 ∷ 4 ∷ 0 ∷ 0 ∷ 0 ∷ 0 ∷ 0 ∷
+    2 ∷ 0 ∷ 0 ∷ 0 ∷ 4 ∷ 0 ∷ 0 ∷ 0 ∷ 0 ∷ 0 ∷
+    3 ∷ 0 ∷ 0 ∷ 0 ∷ 4 ∷ 0 ∷
+    4 ∷ 3 ∷ 0 ∷ 0 ∷ 1 ∷ 0 ∷ 0 ∷ 0 ∷ 0 ∷ 0 ∷ 0 ∷ 0 ∷ 2 ∷
+    4 ∷ 0 ∷ 0 ∷ 0 ∷ 0 ∷ 0 ∷ 0 ∷ 0 ∷ 0 ∷ 0 ∷ 0 ∷ 0 ∷ 0 ∷ []
+
+-- calls 1806 to 1808
+calls-1806 :
     outcomes none
-    (read-line 1000000 image-2733
-    ∷ call-line 1000000 (question (ofBlock is-downloaded 1 0))
-    ∷ call-line 1000000 (question (recent-extent 1))
-    ∷ call-line 1000000 (question (ofPiece is-hashing 0))
+    (new-line 1000000 293119 65536
+    ∷ call-line 1000000 (mark-as-finished 4 0 (some 2) (words 4352 []))
+    ∷ call-line 1000000 (pick-pieces (asking 16 2048 0 0 (some 2) 5 (255 ∷ []) (4 ∷ 3 ∷ 0 ∷ 1 ∷ 2 ∷ 2 ∷ 0 ∷ 2 ∷ 3 ∷ 4 ∷ 0 ∷ 2 ∷ 0 ∷ 3 ∷ 1 ∷ 3 ∷ 4 ∷ 2 ∷ 4 ∷ 2 ∷ [])) 4351 (words 5000 []))
     ∷ [])
-    ≡ outcome stands image-2733
-    ∷ outcome (answered (told (numbers ((some 0) ∷ [])))) image-2733
-    ∷ outcome (answered (told nothing)) image-2733
-    ∷ outcome (answered (told (numbers ((some 0) ∷ [])))) image-2733
+    ≡ outcome stands image-1806
+    ∷ outcome (answered (done 0)) image-1807
+    ∷ outcome (answered (picked ((pieceBlock 4 1) ∷ (pieceBlock 3 0) ∷ (pieceBlock 3 1) ∷ (pieceBlock 3 2) ∷ (pieceBlock 3 3) ∷ (pieceBlock 0 0) ∷ (pieceBlock 0 1) ∷ (pieceBlock 0 2) ∷ (pieceBlock 0 3) ∷ (pieceBlock 1 0) ∷ (pieceBlock 1 1) ∷ (pieceBlock 1 2) ∷ (pieceBlock 1 3) ∷ (pieceBlock 2 0) ∷ (pieceBlock 2 1) ∷ (pieceBlock 2 2) ∷ (pieceBlock 2 3) ∷ []) 8355 (1 ∷ 20 ∷ 0 ∷ 0 ∷ 0 ∷ 0 ∷ 0 ∷ []) 0)) image-1808
     ∷ []
 unfolding replaying
-calls-2733 = refl
+calls-1806 = refl
 
-abbrev image-2822 : List ℕ
-image-2822 =
-    1 ∷ 0 ∷ 0 ∷ 0 ∷ 0 ∷ 0 ∷ 3 ∷ 0 ∷ 0 ∷ 0 ∷ 1 ∷ 0 ∷ 0 ∷ 0 ∷ 0 ∷ 0 ∷ 0 ∷ 0 ∷ 3 ∷ 0 ∷ 0 ∷ 0 ∷ 0 ∷ 0 ∷
-    2 ∷ 0 ∷ 3 ∷ 2 ∷ 1 ∷ 0 ∷ 0 ∷ 0 ∷ 0 ∷ 0 ∷
-    2 ∷ 0 ∷ 3 ∷ 4 ∷ 4 ∷ 0 ∷ 0 ∷ 0 ∷ 0 ∷ 0 ∷
-    2 ∷ 0 ∷ 2 ∷ 4 ∷ 4 ∷ 0 ∷ 0 ∷ 0 ∷ 0 ∷ 1 ∷
+abbrev image-1926 : List ℕ
+image-1926 =
+    1 ∷ 0 ∷ 0 ∷ 0 ∷ 0 ∷ 0 ∷ 1 ∷ 0 ∷ 1 ∷ 0 ∷ 0 ∷ 64 ∷ 0 ∷ 0 ∷ 0 ∷ 0 ∷ 0 ∷ 0 ∷ 0 ∷ 0 ∷ 0 ∷ 0 ∷ 5 ∷ 1 ∷
+    2 ∷ 0 ∷ 0 ∷ 4 ∷ 4 ∷ 0 ∷ 0 ∷ 0 ∷ 0 ∷ 0 ∷
+    2 ∷ 0 ∷ 0 ∷ 4 ∷ 4 ∷ 0 ∷ 0 ∷ 0 ∷ 0 ∷ 0 ∷
+    2 ∷ 0 ∷ 0 ∷ 4 ∷ 4 ∷ 0 ∷ 0 ∷ 0 ∷ 0 ∷ 0 ∷
+    2 ∷ 0 ∷ 0 ∷ 4 ∷ 4 ∷ 0 ∷ 0 ∷ 0 ∷ 0 ∷ 0 ∷
+    2 ∷ 0 ∷ 0 ∷ 4 ∷ 4 ∷ 0 ∷ 0 ∷ 0 ∷ 0 ∷ 0 ∷ []
+
+-- calls 1926 to 1928
+calls-1926 :
+    outcomes none
+    (new-line 1000000 65537 16384
+    ∷ call-line 1000000 (question (ofPiece get-availability 3))
+    ∷ call-line 1000000 (question (ofBlock get-downloader 2 0))
+    ∷ [])
+    ≡ outcome stands image-1926
+    ∷ outcome (answered (replied (numbers ((some 0) ∷ [])))) image-1926
+    ∷ outcome (answered (replied (numbers (none ∷ [])))) image-1926
+    ∷ []
+unfolding replaying
+calls-1926 = refl
+
+abbrev image-2058 : List ℕ
+image-2058 =
+    1 ∷ 0 ∷ 0 ∷ 0 ∷ 0 ∷ 0 ∷ 0 ∷ 91 ∷ 188 ∷ 0 ∷ 0 ∷ 64 ∷ 0 ∷ 0 ∷ 0 ∷ 0 ∷ 0 ∷ 0 ∷ 0 ∷ 0 ∷ 0 ∷ 0 ∷ 2 ∷ 1 ∷
+    2 ∷ 0 ∷ 0 ∷ 4 ∷ 4 ∷ 0 ∷ 0 ∷ 0 ∷ 0 ∷ 0 ∷
+    2 ∷ 0 ∷ 0 ∷ 4 ∷ 4 ∷ 0 ∷ 0 ∷ 0 ∷ 0 ∷ 0 ∷ []
+
+-- calls 2058 to 2059
+calls-2058 :
+    outcomes none
+    (new-line 1000000 23484 16384
+    ∷ call-line 1000000 (question (ofPiece payload-blocks-in-piece 1))
+    ∷ [])
+    ≡ outcome stands image-2058
+    ∷ outcome (answered (replied (numbers ((some 1) ∷ [])))) image-2058
+    ∷ []
+unfolding replaying
+calls-2058 = refl
+
+abbrev image-2076 : List ℕ
+image-2076 =
+    1 ∷ 0 ∷ 0 ∷ 0 ∷ 0 ∷ 0 ∷ 0 ∷ 128 ∷ 1 ∷ 0 ∷ 0 ∷ 128 ∷ 0 ∷ 0 ∷ 1 ∷ 0 ∷ 0 ∷ 0 ∷ 0 ∷ 0 ∷ 0 ∷ 0 ∷ 0 ∷ 1 ∷
+    2 ∷ 0 ∷ 3 ∷ 5 ∷ 6 ∷ 0 ∷ 0 ∷ 0 ∷ 0 ∷ 0 ∷
+    2 ∷ 0 ∷ 8 ∷ 4 ∷ 7 ∷ 0 ∷ 0 ∷ 0 ∷ 0 ∷ 0 ∷
     3 ∷ 0 ∷ 0 ∷ 0 ∷ 0 ∷ 0 ∷
-    4 ∷ 2 ∷ 0 ∷ 0 ∷ 1 ∷ 0 ∷ 0 ∷ 0 ∷ 0 ∷ 0 ∷ 0 ∷ 0 ∷ 2 ∷
-    4 ∷ 2 ∷ 0 ∷ 0 ∷ 1 ∷ 0 ∷ 0 ∷ 0 ∷ 0 ∷ 0 ∷ 0 ∷ 0 ∷ 2 ∷
-    4 ∷ 2 ∷ 0 ∷ 0 ∷ 1 ∷ 0 ∷ 0 ∷ 0 ∷ 0 ∷ 0 ∷ 0 ∷ 0 ∷ 2 ∷
-    4 ∷ 2 ∷ 0 ∷ 0 ∷ 1 ∷ 0 ∷ 0 ∷ 0 ∷ 0 ∷ 0 ∷ 0 ∷ 0 ∷ 2 ∷
-    5 ∷ 0 ∷ 0 ∷ 0 ∷ 0 ∷
+    4 ∷ 0 ∷ 0 ∷ 0 ∷ 1 ∷ 255 ∷ 255 ∷ 255 ∷ 255 ∷ 255 ∷ 255 ∷ 255 ∷ 255 ∷
+    4 ∷ 0 ∷ 0 ∷ 0 ∷ 1 ∷ 0 ∷ 0 ∷ 0 ∷ 0 ∷ 0 ∷ 0 ∷ 0 ∷ 1 ∷
+    5 ∷ 0 ∷ 0 ∷ 0 ∷ 0 ∷ []
+
+abbrev image-2077 : List ℕ
+image-2077 =
+    1 ∷ 0 ∷ 0 ∷ 0 ∷ 0 ∷ 0 ∷ 0 ∷ 128 ∷ 1 ∷ 0 ∷ 0 ∷ 128 ∷ 0 ∷ 0 ∷ 1 ∷ 0 ∷ 0 ∷ 0 ∷ 0 ∷ 0 ∷ 0 ∷ 0 ∷ 0 ∷ 1 ∷
+    2 ∷ 0 ∷ 3 ∷ 5 ∷ 6 ∷ 0 ∷ 0 ∷ 0 ∷ 0 ∷ 0 ∷
+    2 ∷ 0 ∷ 8 ∷ 4 ∷ 7 ∷ 0 ∷ 0 ∷ 0 ∷ 0 ∷ 0 ∷
+    3 ∷ 0 ∷ 0 ∷ 0 ∷ 0 ∷ 2 ∷
+    4 ∷ 0 ∷ 0 ∷ 0 ∷ 1 ∷ 255 ∷ 255 ∷ 255 ∷ 255 ∷ 255 ∷ 255 ∷ 255 ∷ 255 ∷
+    4 ∷ 0 ∷ 0 ∷ 0 ∷ 1 ∷ 0 ∷ 0 ∷ 0 ∷ 0 ∷ 0 ∷ 0 ∷ 0 ∷ 1 ∷
+    5 ∷ 0 ∷ 0 ∷ 0 ∷ 0 ∷ []
+
+abbrev image-2078 : List ℕ
+image-2078 =
+    1 ∷ 0 ∷ 0 ∷ 0 ∷ 0 ∷ 0 ∷ 0 ∷ 128 ∷ 1 ∷ 0 ∷ 0 ∷ 128 ∷ 0 ∷ 0 ∷ 1 ∷ 0 ∷ 0 ∷ 0 ∷ 0 ∷ 0 ∷ 0 ∷ 0 ∷ 0 ∷ 1 ∷
+    2 ∷ 0 ∷ 3 ∷ 5 ∷ 4 ∷ 0 ∷ 0 ∷ 0 ∷ 0 ∷ 0 ∷
+    2 ∷ 0 ∷ 8 ∷ 4 ∷ 7 ∷ 0 ∷ 0 ∷ 0 ∷ 0 ∷ 0 ∷
+    3 ∷ 0 ∷ 0 ∷ 0 ∷ 0 ∷ 2 ∷
+    4 ∷ 0 ∷ 0 ∷ 0 ∷ 1 ∷ 255 ∷ 255 ∷ 255 ∷ 255 ∷ 255 ∷ 255 ∷ 255 ∷ 255 ∷
+    4 ∷ 0 ∷ 0 ∷ 0 ∷ 1 ∷ 0 ∷ 0 ∷ 0 ∷ 0 ∷ 0 ∷ 0 ∷ 0 ∷ 1 ∷
+    5 ∷ 0 ∷ 0 ∷ 0 ∷ 0 ∷ []
+
+abbrev image-2079 : List ℕ
+image-2079 =
+    1 ∷ 0 ∷ 0 ∷ 0 ∷ 0 ∷ 0 ∷ 0 ∷ 128 ∷ 1 ∷ 0 ∷ 0 ∷ 128 ∷ 0 ∷ 0 ∷ 1 ∷ 0 ∷ 0 ∷ 0 ∷ 0 ∷ 0 ∷ 0 ∷ 0 ∷ 0 ∷ 1 ∷
+    2 ∷ 0 ∷ 3 ∷ 5 ∷ 4 ∷ 0 ∷ 0 ∷ 0 ∷ 0 ∷ 0 ∷
+    2 ∷ 0 ∷ 8 ∷ 1 ∷ 7 ∷ 0 ∷ 0 ∷ 0 ∷ 0 ∷ 0 ∷
+    3 ∷ 0 ∷ 0 ∷ 0 ∷ 0 ∷ 2 ∷
+    4 ∷ 0 ∷ 0 ∷ 0 ∷ 1 ∷ 255 ∷ 255 ∷ 255 ∷ 255 ∷ 255 ∷ 255 ∷ 255 ∷ 255 ∷
+    4 ∷ 0 ∷ 0 ∷ 0 ∷ 1 ∷ 0 ∷ 0 ∷ 0 ∷ 0 ∷ 0 ∷ 0 ∷ 0 ∷ 1 ∷
+    3 ∷ 0 ∷ 0 ∷ 0 ∷ 1 ∷ 0 ∷
+    4 ∷ 1 ∷ 0 ∷ 1 ∷ 1 ∷ 0 ∷ 0 ∷ 0 ∷ 0 ∷ 0 ∷ 0 ∷ 0 ∷ 2 ∷
+    5 ∷ 0 ∷ 0 ∷ 0 ∷ 0 ∷ []
+
+abbrev image-2080 : List ℕ
+image-2080 =
+    1 ∷ 0 ∷ 0 ∷ 0 ∷ 0 ∷ 0 ∷ 0 ∷ 128 ∷ 1 ∷ 0 ∷ 0 ∷ 128 ∷ 0 ∷ 0 ∷ 0 ∷ 0 ∷ 0 ∷ 0 ∷ 0 ∷ 0 ∷ 0 ∷ 0 ∷ 0 ∷ 1 ∷
+    2 ∷ 0 ∷ 3 ∷ 5 ∷ 4 ∷ 0 ∷ 0 ∷ 0 ∷ 0 ∷ 0 ∷
+    2 ∷ 0 ∷ 8 ∷ 1 ∷ 7 ∷ 0 ∷ 0 ∷ 0 ∷ 0 ∷ 0 ∷
+    3 ∷ 0 ∷ 0 ∷ 0 ∷ 0 ∷ 2 ∷
+    4 ∷ 0 ∷ 0 ∷ 0 ∷ 1 ∷ 255 ∷ 255 ∷ 255 ∷ 255 ∷ 255 ∷ 255 ∷ 255 ∷ 255 ∷
+    4 ∷ 0 ∷ 0 ∷ 0 ∷ 1 ∷ 0 ∷ 0 ∷ 0 ∷ 0 ∷ 0 ∷ 0 ∷ 0 ∷ 1 ∷
+    3 ∷ 0 ∷ 0 ∷ 0 ∷ 1 ∷ 0 ∷
+    4 ∷ 1 ∷ 0 ∷ 1 ∷ 1 ∷ 0 ∷ 0 ∷ 0 ∷ 0 ∷ 0 ∷ 0 ∷ 0 ∷ 2 ∷
+    5 ∷ 0 ∷ 0 ∷ 0 ∷ 0 ∷ []
+
+abbrev image-2082 : List ℕ
+image-2082 =
+    1 ∷ 0 ∷ 0 ∷ 0 ∷ 0 ∷ 0 ∷ 0 ∷ 128 ∷ 1 ∷ 0 ∷ 0 ∷ 128 ∷ 0 ∷ 0 ∷ 0 ∷ 0 ∷ 0 ∷ 0 ∷ 0 ∷ 0 ∷ 0 ∷ 0 ∷ 0 ∷ 1 ∷
+    2 ∷ 0 ∷ 3 ∷ 0 ∷ 4 ∷ 0 ∷ 0 ∷ 0 ∷ 0 ∷ 0 ∷
+    2 ∷ 0 ∷ 8 ∷ 1 ∷ 7 ∷ 0 ∷ 0 ∷ 0 ∷ 0 ∷ 0 ∷
+    3 ∷ 0 ∷ 0 ∷ 0 ∷ 0 ∷ 2 ∷
+    4 ∷ 1 ∷ 0 ∷ 1 ∷ 1 ∷ 0 ∷ 0 ∷ 0 ∷ 0 ∷ 0 ∷ 0 ∷ 0 ∷ 3 ∷
+    4 ∷ 0 ∷ 0 ∷ 0 ∷ 1 ∷ 0 ∷ 0 ∷ 0 ∷ 0 ∷ 0 ∷ 0 ∷ 0 ∷ 1 ∷
+    3 ∷ 0 ∷ 0 ∷ 0 ∷ 1 ∷ 0 ∷
+    4 ∷ 1 ∷ 0 ∷ 1 ∷ 1 ∷ 0 ∷ 0 ∷ 0 ∷ 0 ∷ 0 ∷ 0 ∷ 0 ∷ 2 ∷
+    5 ∷ 0 ∷ 0 ∷ 0 ∷ 0 ∷ []
+
+abbrev image-2083 : List ℕ
+image-2083 =
+    1 ∷ 0 ∷ 0 ∷ 0 ∷ 0 ∷ 0 ∷ 0 ∷ 128 ∷ 1 ∷ 0 ∷ 0 ∷ 128 ∷ 0 ∷ 0 ∷ 0 ∷ 0 ∷ 0 ∷ 0 ∷ 0 ∷ 0 ∷ 0 ∷ 0 ∷ 0 ∷ 1 ∷
+    2 ∷ 0 ∷ 3 ∷ 0 ∷ 6 ∷ 0 ∷ 0 ∷ 0 ∷ 0 ∷ 0 ∷
+    2 ∷ 0 ∷ 8 ∷ 1 ∷ 7 ∷ 0 ∷ 0 ∷ 0 ∷ 0 ∷ 0 ∷
+    3 ∷ 0 ∷ 0 ∷ 0 ∷ 0 ∷ 2 ∷
+    4 ∷ 1 ∷ 0 ∷ 1 ∷ 1 ∷ 0 ∷ 0 ∷ 0 ∷ 0 ∷ 0 ∷ 0 ∷ 0 ∷ 3 ∷
+    4 ∷ 0 ∷ 0 ∷ 0 ∷ 1 ∷ 0 ∷ 0 ∷ 0 ∷ 0 ∷ 0 ∷ 0 ∷ 0 ∷ 1 ∷
+    3 ∷ 0 ∷ 0 ∷ 0 ∷ 1 ∷ 0 ∷
+    4 ∷ 1 ∷ 0 ∷ 1 ∷ 1 ∷ 0 ∷ 0 ∷ 0 ∷ 0 ∷ 0 ∷ 0 ∷ 0 ∷ 2 ∷
+    5 ∷ 0 ∷ 0 ∷ 0 ∷ 0 ∷ []
+
+abbrev image-2084 : List ℕ
+image-2084 =
+    1 ∷ 0 ∷ 0 ∷ 0 ∷ 0 ∷ 0 ∷ 0 ∷ 128 ∷ 1 ∷ 0 ∷ 0 ∷ 128 ∷ 0 ∷ 0 ∷ 0 ∷ 0 ∷ 0 ∷ 0 ∷ 0 ∷ 0 ∷ 0 ∷ 0 ∷ 0 ∷ 1 ∷
+    2 ∷ 0 ∷ 3 ∷ 0 ∷ 4 ∷ 0 ∷ 0 ∷ 0 ∷ 0 ∷ 0 ∷
+    2 ∷ 0 ∷ 8 ∷ 1 ∷ 7 ∷ 0 ∷ 0 ∷ 0 ∷ 0 ∷ 0 ∷
+    3 ∷ 0 ∷ 0 ∷ 0 ∷ 0 ∷ 2 ∷
+    4 ∷ 1 ∷ 0 ∷ 1 ∷ 1 ∷ 0 ∷ 0 ∷ 0 ∷ 0 ∷ 0 ∷ 0 ∷ 0 ∷ 3 ∷
+    4 ∷ 0 ∷ 0 ∷ 0 ∷ 1 ∷ 0 ∷ 0 ∷ 0 ∷ 0 ∷ 0 ∷ 0 ∷ 0 ∷ 1 ∷
+    3 ∷ 0 ∷ 0 ∷ 0 ∷ 1 ∷ 0 ∷
+    4 ∷ 1 ∷ 0 ∷ 1 ∷ 1 ∷ 0 ∷ 0 ∷ 0 ∷ 0 ∷ 0 ∷ 0 ∷ 0 ∷ 2 ∷
+    5 ∷ 0 ∷ 0 ∷ 0 ∷ 0 ∷ []
+
+abbrev image-2085 : List ℕ
+image-2085 =
+    1 ∷ 0 ∷ 0 ∷ 0 ∷ 0 ∷ 0 ∷ 0 ∷ 128 ∷ 1 ∷ 0 ∷ 0 ∷ 128 ∷ 0 ∷ 0 ∷ 0 ∷ 0 ∷ 0 ∷ 0 ∷ 0 ∷ 0 ∷ 0 ∷ 0 ∷ 0 ∷ 1 ∷
+    2 ∷ 0 ∷ 3 ∷ 0 ∷ 4 ∷ 0 ∷ 0 ∷ 0 ∷ 0 ∷ 0 ∷
+    2 ∷ 0 ∷ 8 ∷ 4 ∷ 7 ∷ 0 ∷ 0 ∷ 0 ∷ 0 ∷ 0 ∷
+    3 ∷ 0 ∷ 0 ∷ 0 ∷ 0 ∷ 2 ∷
+    4 ∷ 1 ∷ 0 ∷ 1 ∷ 1 ∷ 0 ∷ 0 ∷ 0 ∷ 0 ∷ 0 ∷ 0 ∷ 0 ∷ 3 ∷
+    4 ∷ 0 ∷ 0 ∷ 0 ∷ 1 ∷ 0 ∷ 0 ∷ 0 ∷ 0 ∷ 0 ∷ 0 ∷ 0 ∷ 1 ∷
+    5 ∷ 0 ∷ 0 ∷ 0 ∷ 0 ∷ []
+
+abbrev image-2087 : List ℕ
+image-2087 =
+    1 ∷ 0 ∷ 0 ∷ 0 ∷ 0 ∷ 0 ∷ 0 ∷ 128 ∷ 1 ∷ 0 ∷ 0 ∷ 128 ∷ 0 ∷ 0 ∷ 0 ∷ 0 ∷ 0 ∷ 0 ∷ 0 ∷ 0 ∷ 0 ∷ 0 ∷ 0 ∷ 1 ∷
+    2 ∷ 0 ∷ 3 ∷ 0 ∷ 4 ∷ 0 ∷ 0 ∷ 0 ∷ 0 ∷ 0 ∷
+    2 ∷ 0 ∷ 8 ∷ 4 ∷ 7 ∷ 0 ∷ 0 ∷ 0 ∷ 0 ∷ 0 ∷
+    3 ∷ 0 ∷ 0 ∷ 0 ∷ 0 ∷ 2 ∷
+    4 ∷ 2 ∷ 0 ∷ 0 ∷ 0 ∷ 0 ∷ 0 ∷ 0 ∷ 0 ∷ 0 ∷ 0 ∷ 0 ∷ 0 ∷
+    4 ∷ 0 ∷ 0 ∷ 0 ∷ 1 ∷ 0 ∷ 0 ∷ 0 ∷ 0 ∷ 0 ∷ 0 ∷ 0 ∷ 1 ∷
+    5 ∷ 0 ∷ 0 ∷ 0 ∷ 0 ∷ []
+
+abbrev image-2090 : List ℕ
+image-2090 =
+    1 ∷ 0 ∷ 0 ∷ 0 ∷ 0 ∷ 0 ∷ 0 ∷ 128 ∷ 1 ∷ 0 ∷ 0 ∷ 128 ∷ 0 ∷ 0 ∷ 0 ∷ 0 ∷ 0 ∷ 0 ∷ 1 ∷ 0 ∷ 0 ∷ 0 ∷ 0 ∷ 1 ∷
+    2 ∷ 0 ∷ 3 ∷ 3 ∷ 0 ∷ 0 ∷ 0 ∷ 0 ∷ 0 ∷ 0 ∷
+    2 ∷ 0 ∷ 8 ∷ 4 ∷ 7 ∷ 0 ∷ 0 ∷ 0 ∷ 0 ∷ 0 ∷
+    3 ∷ 0 ∷ 0 ∷ 0 ∷ 0 ∷ 2 ∷
+    4 ∷ 2 ∷ 0 ∷ 0 ∷ 0 ∷ 0 ∷ 0 ∷ 0 ∷ 0 ∷ 0 ∷ 0 ∷ 0 ∷ 0 ∷
+    4 ∷ 0 ∷ 0 ∷ 0 ∷ 1 ∷ 0 ∷ 0 ∷ 0 ∷ 0 ∷ 0 ∷ 0 ∷ 0 ∷ 1 ∷
+    5 ∷ 0 ∷ 0 ∷ 0 ∷ 0 ∷ []
+
+-- calls 2076 to 2096
+calls-2076 :
+    outcomes none
+    (read-line 1000000 image-2076
+    ∷ call-line 1000000 (lock-piece 0)
+    ∷ call-line 1000000 (set-piece-priority 0 4 (words 4352 []))
+    ∷ call-line 1000000 (mark-as-downloading 1 0 (some 2) 0 (words 4352 []))
+    ∷ call-line 1000000 dec-refcount-all
+    ∷ call-line 1000000 (question (ofPicker total-size))
+    ∷ call-line 1000000 (mark-as-downloading 0 0 (some 3) 0 (words 4352 []))
+    ∷ call-line 1000000 (set-piece-priority 0 6 (words 4352 []))
+    ∷ call-line 1000000 (set-piece-priority 0 4 (words 4352 []))
+    ∷ call-line 1000000 (abort-download 1 0 (some 3) (words 4352 []))
+    ∷ call-line 1000000 (abort-download 0 0 none (words 1 []))
+    ∷ call-line 1000000 (mark-as-writing 0 0 none (words 4352 []))
+    ∷ call-line 0 (pick-pieces (asking 139 1 0 0 (some 2) 2 (32 ∷ []) []) 4351 (words 5000 []))
+    ∷ call-line 1000000 (set-piece-priority 0 0 (words 4352 []))
+    ∷ call-line 1000000 (question (listOfPicker piece-priorities 1000000))
+    ∷ call-line 1000000 (question (ofPiece piece-priority 0))
+    ∷ call-line 1000000 (pick-pieces (asking 64580 2048 1 5 (some 3) 2 (255 ∷ []) []) 4351 (words 4352 (2678420885 ∷ [])))
+    ∷ call-line 1000000 (piece-passed 0)
+    ∷ call-line 1000000 (pick-pieces (asking 74 40 0 300 (some 0) 2 (255 ∷ []) (1 ∷ 1 ∷ [])) 296 (words 4352 (3 ∷ [])))
+    ∷ call-line 16 dec-refcount-all
+    ∷ [])
+    ≡ outcome stands image-2076
+    ∷ outcome (answered (done 0)) image-2077
+    ∷ outcome (answered (said false 0)) image-2078
+    ∷ outcome (answered (said true 0)) image-2079
+    ∷ outcome (answered (done 0)) image-2080
+    ∷ outcome (answered (replied (numbers ((some 32769) ∷ [])))) image-2080
+    ∷ outcome (answered (said true 0)) image-2082
+    ∷ outcome (answered (said false 0)) image-2083
+    ∷ outcome (answered (said false 0)) image-2084
+    ∷ outcome (answered (done 0)) image-2085
+    ∷ outcome (answered (refused FewDraws)) image-2085
+    ∷ outcome (answered (said true 0)) image-2087
+    ∷ outcome (answered (refused ShortMemory)) image-2087
+    ∷ outcome (answered (said true 0)) image-2090
+    ∷ outcome (answered (replied (numbers ((some 0) ∷ (some 7) ∷ [])))) image-2090
+    ∷ outcome (answered (replied (numbers ((some 0) ∷ [])))) image-2090
+    ∷ outcome (answered (picked ((pieceBlock 1 0) ∷ []) 11264 (0 ∷ 0 ∷ 0 ∷ 0 ∷ 1 ∷ 0 ∷ 0 ∷ []) 1)) image-2090
+    ∷ outcome (answered (done 0)) image-2090
+    ∷ outcome (answered (picked ((pieceBlock 1 0) ∷ []) 8224 (0 ∷ 2 ∷ 0 ∷ 0 ∷ 2 ∷ 0 ∷ 0 ∷ []) 1)) image-2090
+    ∷ outcome (answered (refused ShortMemory)) image-2090
+    ∷ []
+unfolding replaying
+calls-2076 = refl
+
+abbrev image-2156 : List ℕ
+image-2156 =
+    1 ∷ 0 ∷ 0 ∷ 0 ∷ 0 ∷ 0 ∷ 0 ∷ 141 ∷ 217 ∷ 0 ∷ 1 ∷ 0 ∷ 0 ∷ 0 ∷ 0 ∷ 0 ∷ 0 ∷ 0 ∷ 0 ∷ 0 ∷ 0 ∷ 0 ∷ 0 ∷ 1 ∷
+    2 ∷ 0 ∷ 3 ∷ 4 ∷ 7 ∷ 1 ∷ 0 ∷ 0 ∷ 0 ∷ 0 ∷ []
+
+-- calls 2156 to 2157
+calls-2156 :
+    outcomes none
+    (read-line 1000000 image-2156
+    ∷ call-line 1000000 (mark-as-downloading 0 0 (some 2) 130 (words 4352 []))
+    ∷ [])
+    ≡ outcome stands image-2156
+    ∷ outcome (answered (refused HavePiece)) image-2156
+    ∷ []
+unfolding replaying
+calls-2156 = refl
+
+abbrev image-2346 : List ℕ
+image-2346 =
+    1 ∷ 0 ∷ 0 ∷ 0 ∷ 0 ∷ 0 ∷ 1 ∷ 15 ∷ 165 ∷ 0 ∷ 1 ∷ 0 ∷ 0 ∷ 0 ∷ 0 ∷ 0 ∷ 0 ∷ 0 ∷ 0 ∷ 0 ∷ 0 ∷ 0 ∷ 2 ∷ 1 ∷
+    2 ∷ 0 ∷ 0 ∷ 4 ∷ 4 ∷ 0 ∷ 0 ∷ 0 ∷ 0 ∷ 0 ∷
+    2 ∷ 0 ∷ 0 ∷ 4 ∷ 4 ∷ 0 ∷ 0 ∷ 0 ∷ 0 ∷ 0 ∷ []
+
+-- calls 2346 to 2349
+calls-2346 :
+    outcomes none
+    (new-line 1000000 69541 65536
+    ∷ call-line 1000000 (piece-passed 0)
+    ∷ call-line 1000000 (question (listOfPiece blocks-for-piece 1 1))
+    ∷ call-line 1000000 (pick-pieces (asking 44902 2 4 1000 none 2 (36 ∷ []) (1 ∷ 1 ∷ 0 ∷ 1 ∷ 1 ∷ [])) 4351 (words 4352 (0 ∷ [])))
+    ∷ [])
+    ≡ outcome stands image-2346
+    ∷ outcome (answered (done 0)) image-2346
+    ∷ outcome (answered (refused ShortMemory)) image-2346
+    ∷ outcome (answered (picked [] 10240 (0 ∷ 5 ∷ 0 ∷ 0 ∷ 2 ∷ 0 ∷ 0 ∷ []) 1)) image-2346
+    ∷ []
+unfolding replaying
+calls-2346 = refl
+
+abbrev image-2466 : List ℕ
+image-2466 =
+    1 ∷ 0 ∷ 0 ∷ 0 ∷ 0 ∷ 0 ∷ 2 ∷ 128 ∷ 0 ∷ 0 ∷ 0 ∷ 128 ∷ 0 ∷ 0 ∷ 2 ∷ 0 ∷ 0 ∷ 0 ∷ 0 ∷ 0 ∷ 0 ∷ 0 ∷ 2 ∷ 0 ∷
+    2 ∷ 0 ∷ 1 ∷ 4 ∷ 7 ∷ 1 ∷ 0 ∷ 0 ∷ 0 ∷ 0 ∷
+    2 ∷ 0 ∷ 1 ∷ 4 ∷ 4 ∷ 0 ∷ 0 ∷ 0 ∷ 0 ∷ 0 ∷
+    2 ∷ 0 ∷ 1 ∷ 4 ∷ 4 ∷ 0 ∷ 0 ∷ 0 ∷ 0 ∷ 0 ∷
+    2 ∷ 3 ∷ 229 ∷ 4 ∷ 7 ∷ 0 ∷ 0 ∷ 0 ∷ 22 ∷ 191 ∷
+    2 ∷ 0 ∷ 1 ∷ 4 ∷ 4 ∷ 0 ∷ 0 ∷ 0 ∷ 0 ∷ 0 ∷
     6 ∷ 0 ∷ 0 ∷ 0 ∷ 2 ∷
+    6 ∷ 0 ∷ 0 ∷ 0 ∷ 1 ∷
+    6 ∷ 0 ∷ 0 ∷ 0 ∷ 4 ∷
+    6 ∷ 0 ∷ 0 ∷ 0 ∷ 3 ∷ []
+
+abbrev image-2467 : List ℕ
+image-2467 =
+    1 ∷ 0 ∷ 0 ∷ 0 ∷ 0 ∷ 0 ∷ 2 ∷ 128 ∷ 0 ∷ 0 ∷ 0 ∷ 128 ∷ 0 ∷ 0 ∷ 2 ∷ 0 ∷ 0 ∷ 0 ∷ 0 ∷ 0 ∷ 0 ∷ 0 ∷ 2 ∷ 0 ∷
+    2 ∷ 0 ∷ 1 ∷ 4 ∷ 7 ∷ 1 ∷ 0 ∷ 0 ∷ 0 ∷ 0 ∷
+    2 ∷ 0 ∷ 1 ∷ 4 ∷ 4 ∷ 0 ∷ 0 ∷ 0 ∷ 0 ∷ 0 ∷
+    2 ∷ 0 ∷ 0 ∷ 4 ∷ 4 ∷ 0 ∷ 0 ∷ 0 ∷ 0 ∷ 0 ∷
+    2 ∷ 3 ∷ 229 ∷ 4 ∷ 7 ∷ 0 ∷ 0 ∷ 0 ∷ 22 ∷ 191 ∷
+    2 ∷ 0 ∷ 1 ∷ 4 ∷ 4 ∷ 0 ∷ 0 ∷ 0 ∷ 0 ∷ 0 ∷
+    6 ∷ 0 ∷ 0 ∷ 0 ∷ 2 ∷
+    6 ∷ 0 ∷ 0 ∷ 0 ∷ 1 ∷
+    6 ∷ 0 ∷ 0 ∷ 0 ∷ 4 ∷
+    6 ∷ 0 ∷ 0 ∷ 0 ∷ 3 ∷ []
+
+abbrev image-2468 : List ℕ
+image-2468 =
+    1 ∷ 0 ∷ 0 ∷ 0 ∷ 0 ∷ 0 ∷ 2 ∷ 128 ∷ 0 ∷ 0 ∷ 0 ∷ 128 ∷ 0 ∷ 0 ∷ 2 ∷ 0 ∷ 0 ∷ 0 ∷ 0 ∷ 0 ∷ 0 ∷ 0 ∷ 2 ∷ 0 ∷
+    2 ∷ 0 ∷ 1 ∷ 4 ∷ 7 ∷ 1 ∷ 0 ∷ 0 ∷ 0 ∷ 0 ∷
+    2 ∷ 0 ∷ 1 ∷ 4 ∷ 4 ∷ 0 ∷ 0 ∷ 0 ∷ 0 ∷ 0 ∷
+    2 ∷ 0 ∷ 0 ∷ 4 ∷ 4 ∷ 0 ∷ 0 ∷ 0 ∷ 0 ∷ 0 ∷
+    2 ∷ 3 ∷ 229 ∷ 4 ∷ 7 ∷ 0 ∷ 0 ∷ 0 ∷ 22 ∷ 191 ∷
+    2 ∷ 0 ∷ 1 ∷ 0 ∷ 4 ∷ 0 ∷ 0 ∷ 0 ∷ 0 ∷ 0 ∷
+    3 ∷ 0 ∷ 0 ∷ 0 ∷ 4 ∷ 0 ∷
+    4 ∷ 0 ∷ 0 ∷ 0 ∷ 0 ∷ 0 ∷ 0 ∷ 0 ∷ 0 ∷ 0 ∷ 0 ∷ 0 ∷ 0 ∷
+    4 ∷ 3 ∷ 0 ∷ 0 ∷ 1 ∷ 0 ∷ 0 ∷ 0 ∷ 0 ∷ 0 ∷ 0 ∷ 0 ∷ 3 ∷
+    6 ∷ 0 ∷ 0 ∷ 0 ∷ 2 ∷
+    6 ∷ 0 ∷ 0 ∷ 0 ∷ 4 ∷
+    6 ∷ 0 ∷ 0 ∷ 0 ∷ 1 ∷
+    6 ∷ 0 ∷ 0 ∷ 0 ∷ 3 ∷ []
+
+-- calls 2466 to 2469
+calls-2466 :
+    outcomes none
+    (read-line 1000000 image-2466
+    ∷ call-line 1000000 (dec-refcount 2 (words 4352 []))
+    ∷ call-line 1000000 (mark-as-finished 4 1 (some 3) (words 4352 []))
+    ∷ call-line 1000000 (mark-as-canceled 1 2 (some 3) (words 4352 []))
+    ∷ [])
+    ≡ outcome stands image-2466
+    ∷ outcome (answered (done 0)) image-2467
+    ∷ outcome (answered (done 0)) image-2468
+    ∷ outcome (answered (refused OutOfRange)) image-2468
+    ∷ []
+unfolding replaying
+calls-2466 = refl
+
+abbrev image-2492 : List ℕ
+image-2492 =
+    1 ∷ 0 ∷ 0 ∷ 0 ∷ 0 ∷ 0 ∷ 0 ∷ 192 ∷ 1 ∷ 0 ∷ 0 ∷ 64 ∷ 0 ∷ 0 ∷ 0 ∷ 0 ∷ 0 ∷ 0 ∷ 1 ∷ 0 ∷ 0 ∷ 0 ∷ 1 ∷ 0 ∷
+    2 ∷ 0 ∷ 1 ∷ 2 ∷ 4 ∷ 0 ∷ 0 ∷ 0 ∷ 0 ∷ 0 ∷
+    2 ∷ 0 ∷ 3 ∷ 3 ∷ 4 ∷ 0 ∷ 0 ∷ 0 ∷ 0 ∷ 0 ∷
+    2 ∷ 0 ∷ 0 ∷ 6 ∷ 4 ∷ 0 ∷ 0 ∷ 0 ∷ 64 ∷ 0 ∷
+    2 ∷ 0 ∷ 1 ∷ 1 ∷ 1 ∷ 0 ∷ 0 ∷ 0 ∷ 0 ∷ 0 ∷
+    3 ∷ 0 ∷ 0 ∷ 0 ∷ 0 ∷ 2 ∷
+    4 ∷ 3 ∷ 0 ∷ 1 ∷ 1 ∷ 0 ∷ 0 ∷ 0 ∷ 0 ∷ 0 ∷ 0 ∷ 0 ∷ 0 ∷
+    3 ∷ 0 ∷ 0 ∷ 0 ∷ 1 ∷ 0 ∷
+    4 ∷ 0 ∷ 0 ∷ 0 ∷ 1 ∷ 0 ∷ 0 ∷ 0 ∷ 0 ∷ 0 ∷ 0 ∷ 0 ∷ 3 ∷
+    3 ∷ 0 ∷ 0 ∷ 0 ∷ 2 ∷ 0 ∷
+    4 ∷ 1 ∷ 0 ∷ 1 ∷ 1 ∷ 0 ∷ 0 ∷ 0 ∷ 0 ∷ 0 ∷ 0 ∷ 0 ∷ 1 ∷
+    3 ∷ 0 ∷ 0 ∷ 0 ∷ 3 ∷ 0 ∷
+    4 ∷ 1 ∷ 0 ∷ 1 ∷ 0 ∷ 0 ∷ 0 ∷ 0 ∷ 0 ∷ 0 ∷ 0 ∷ 0 ∷ 0 ∷
+    5 ∷ 0 ∷ 0 ∷ 0 ∷ 0 ∷
     6 ∷ 0 ∷ 0 ∷ 0 ∷ 1 ∷ []
 
--- calls 2822 to 2823
-calls-2822 :
+-- calls 2492 to 2494
+calls-2492 :
     outcomes none
-    (read-line 1000000 image-2822
-    ∷ call-line 92 (question (recent-extent 0))
+    (read-line 1000000 image-2492
+    ∷ call-line 1000000 (piece-passed 0)
+    ∷ call-line 0 (mark-as-finished 0 0 (some 1) (words 5000 []))
     ∷ [])
-    ≡ outcome stands image-2822
-    ∷ outcome (answered (told (numbers ((some 0) ∷ [])))) image-2822
+    ≡ outcome stands image-2492
+    ∷ outcome (answered (done 0)) image-2492
+    ∷ outcome (answered (refused ShortMemory)) image-2492
     ∷ []
 unfolding replaying
-calls-2822 = refl
+calls-2492 = refl
 
-abbrev image-2882 : List ℕ
-image-2882 =
-    1 ∷ 0 ∷ 0 ∷ 0 ∷ 0 ∷ 0 ∷ 0 ∷ 23 ∷ 51 ∷ 0 ∷ 0 ∷ 64 ∷ 0 ∷ 0 ∷ 0 ∷ 0 ∷ 0 ∷ 0 ∷ 0 ∷ 0 ∷ 0 ∷ 0 ∷ 1 ∷ 1 ∷
+abbrev image-2526 : List ℕ
+image-2526 =
+    1 ∷ 0 ∷ 0 ∷ 0 ∷ 0 ∷ 0 ∷ 2 ∷ 158 ∷ 202 ∷ 0 ∷ 1 ∷ 0 ∷ 0 ∷ 2 ∷ 227 ∷ 0 ∷ 0 ∷ 0 ∷ 1 ∷ 0 ∷ 0 ∷ 0 ∷ 0 ∷ 1 ∷
+    2 ∷ 0 ∷ 0 ∷ 2 ∷ 4 ∷ 0 ∷ 0 ∷ 0 ∷ 0 ∷ 0 ∷
+    2 ∷ 0 ∷ 0 ∷ 6 ∷ 7 ∷ 0 ∷ 0 ∷ 0 ∷ 0 ∷ 0 ∷
+    2 ∷ 0 ∷ 1 ∷ 5 ∷ 7 ∷ 0 ∷ 0 ∷ 0 ∷ 0 ∷ 0 ∷
+    3 ∷ 0 ∷ 0 ∷ 0 ∷ 0 ∷ 0 ∷
+    4 ∷ 2 ∷ 0 ∷ 2 ∷ 1 ∷ 0 ∷ 0 ∷ 0 ∷ 0 ∷ 0 ∷ 0 ∷ 0 ∷ 3 ∷
+    4 ∷ 2 ∷ 0 ∷ 2 ∷ 1 ∷ 0 ∷ 0 ∷ 0 ∷ 0 ∷ 0 ∷ 0 ∷ 0 ∷ 3 ∷
+    4 ∷ 2 ∷ 0 ∷ 2 ∷ 1 ∷ 0 ∷ 0 ∷ 0 ∷ 0 ∷ 0 ∷ 0 ∷ 0 ∷ 3 ∷
+    4 ∷ 2 ∷ 0 ∷ 2 ∷ 1 ∷ 0 ∷ 0 ∷ 0 ∷ 0 ∷ 0 ∷ 0 ∷ 0 ∷ 3 ∷
+    3 ∷ 0 ∷ 0 ∷ 0 ∷ 1 ∷ 3 ∷
+    4 ∷ 0 ∷ 0 ∷ 0 ∷ 1 ∷ 0 ∷ 0 ∷ 0 ∷ 0 ∷ 0 ∷ 0 ∷ 0 ∷ 3 ∷
+    4 ∷ 0 ∷ 0 ∷ 0 ∷ 0 ∷ 0 ∷ 0 ∷ 0 ∷ 0 ∷ 0 ∷ 0 ∷ 0 ∷ 0 ∷
+    4 ∷ 0 ∷ 0 ∷ 1 ∷ 1 ∷ 0 ∷ 0 ∷ 0 ∷ 0 ∷ 0 ∷ 0 ∷ 0 ∷ 0 ∷
+    4 ∷ 0 ∷ 0 ∷ 0 ∷ 0 ∷ 0 ∷ 0 ∷ 0 ∷ 0 ∷ 0 ∷ 0 ∷ 0 ∷ 0 ∷
+    3 ∷ 0 ∷ 0 ∷ 0 ∷ 2 ∷ 7 ∷
+    4 ∷ 2 ∷ 3 ∷ 232 ∷ 1 ∷ 0 ∷ 0 ∷ 0 ∷ 0 ∷ 0 ∷ 0 ∷ 0 ∷ 2 ∷
+    4 ∷ 0 ∷ 0 ∷ 0 ∷ 0 ∷ 0 ∷ 0 ∷ 0 ∷ 0 ∷ 0 ∷ 0 ∷ 0 ∷ 0 ∷
+    4 ∷ 1 ∷ 0 ∷ 2 ∷ 1 ∷ 255 ∷ 255 ∷ 255 ∷ 255 ∷ 255 ∷ 255 ∷ 255 ∷ 255 ∷ []
+
+abbrev image-2528 : List ℕ
+image-2528 =
+    1 ∷ 0 ∷ 0 ∷ 0 ∷ 0 ∷ 0 ∷ 2 ∷ 158 ∷ 202 ∷ 0 ∷ 1 ∷ 0 ∷ 0 ∷ 2 ∷ 227 ∷ 0 ∷ 0 ∷ 0 ∷ 1 ∷ 0 ∷ 0 ∷ 0 ∷ 0 ∷ 1 ∷
+    2 ∷ 0 ∷ 1 ∷ 2 ∷ 4 ∷ 0 ∷ 0 ∷ 0 ∷ 0 ∷ 0 ∷
+    2 ∷ 0 ∷ 0 ∷ 6 ∷ 7 ∷ 0 ∷ 0 ∷ 0 ∷ 0 ∷ 0 ∷
+    2 ∷ 0 ∷ 1 ∷ 5 ∷ 7 ∷ 0 ∷ 0 ∷ 0 ∷ 0 ∷ 0 ∷
+    3 ∷ 0 ∷ 0 ∷ 0 ∷ 0 ∷ 0 ∷
+    4 ∷ 2 ∷ 0 ∷ 2 ∷ 1 ∷ 0 ∷ 0 ∷ 0 ∷ 0 ∷ 0 ∷ 0 ∷ 0 ∷ 3 ∷
+    4 ∷ 2 ∷ 0 ∷ 2 ∷ 1 ∷ 0 ∷ 0 ∷ 0 ∷ 0 ∷ 0 ∷ 0 ∷ 0 ∷ 3 ∷
+    4 ∷ 2 ∷ 0 ∷ 2 ∷ 1 ∷ 0 ∷ 0 ∷ 0 ∷ 0 ∷ 0 ∷ 0 ∷ 0 ∷ 3 ∷
+    4 ∷ 2 ∷ 0 ∷ 2 ∷ 1 ∷ 0 ∷ 0 ∷ 0 ∷ 0 ∷ 0 ∷ 0 ∷ 0 ∷ 3 ∷
+    3 ∷ 0 ∷ 0 ∷ 0 ∷ 1 ∷ 3 ∷
+    4 ∷ 0 ∷ 0 ∷ 0 ∷ 1 ∷ 0 ∷ 0 ∷ 0 ∷ 0 ∷ 0 ∷ 0 ∷ 0 ∷ 3 ∷
+    4 ∷ 0 ∷ 0 ∷ 0 ∷ 0 ∷ 0 ∷ 0 ∷ 0 ∷ 0 ∷ 0 ∷ 0 ∷ 0 ∷ 0 ∷
+    4 ∷ 0 ∷ 0 ∷ 1 ∷ 1 ∷ 0 ∷ 0 ∷ 0 ∷ 0 ∷ 0 ∷ 0 ∷ 0 ∷ 0 ∷
+    4 ∷ 0 ∷ 0 ∷ 0 ∷ 0 ∷ 0 ∷ 0 ∷ 0 ∷ 0 ∷ 0 ∷ 0 ∷ 0 ∷ 0 ∷
+    3 ∷ 0 ∷ 0 ∷ 0 ∷ 2 ∷ 7 ∷
+    4 ∷ 2 ∷ 3 ∷ 232 ∷ 1 ∷ 0 ∷ 0 ∷ 0 ∷ 0 ∷ 0 ∷ 0 ∷ 0 ∷ 2 ∷
+    4 ∷ 0 ∷ 0 ∷ 0 ∷ 0 ∷ 0 ∷ 0 ∷ 0 ∷ 0 ∷ 0 ∷ 0 ∷ 0 ∷ 0 ∷
+    4 ∷ 1 ∷ 0 ∷ 2 ∷ 1 ∷ 255 ∷ 255 ∷ 255 ∷ 255 ∷ 255 ∷ 255 ∷ 255 ∷ 255 ∷ []
+
+abbrev image-2532 : List ℕ
+image-2532 =
+    1 ∷ 0 ∷ 0 ∷ 0 ∷ 0 ∷ 0 ∷ 2 ∷ 158 ∷ 202 ∷ 0 ∷ 1 ∷ 0 ∷ 0 ∷ 2 ∷ 227 ∷ 0 ∷ 0 ∷ 0 ∷ 1 ∷ 0 ∷ 0 ∷ 0 ∷ 0 ∷ 1 ∷
+    2 ∷ 0 ∷ 1 ∷ 2 ∷ 4 ∷ 0 ∷ 0 ∷ 0 ∷ 0 ∷ 0 ∷
+    2 ∷ 0 ∷ 0 ∷ 6 ∷ 7 ∷ 0 ∷ 0 ∷ 0 ∷ 0 ∷ 0 ∷
+    2 ∷ 0 ∷ 2 ∷ 5 ∷ 7 ∷ 0 ∷ 0 ∷ 0 ∷ 0 ∷ 0 ∷
+    3 ∷ 0 ∷ 0 ∷ 0 ∷ 0 ∷ 0 ∷
+    4 ∷ 2 ∷ 0 ∷ 2 ∷ 1 ∷ 0 ∷ 0 ∷ 0 ∷ 0 ∷ 0 ∷ 0 ∷ 0 ∷ 3 ∷
+    4 ∷ 2 ∷ 0 ∷ 2 ∷ 1 ∷ 0 ∷ 0 ∷ 0 ∷ 0 ∷ 0 ∷ 0 ∷ 0 ∷ 3 ∷
+    4 ∷ 2 ∷ 0 ∷ 2 ∷ 1 ∷ 0 ∷ 0 ∷ 0 ∷ 0 ∷ 0 ∷ 0 ∷ 0 ∷ 3 ∷
+    4 ∷ 2 ∷ 0 ∷ 2 ∷ 1 ∷ 0 ∷ 0 ∷ 0 ∷ 0 ∷ 0 ∷ 0 ∷ 0 ∷ 3 ∷
+    3 ∷ 0 ∷ 0 ∷ 0 ∷ 1 ∷ 3 ∷
+    4 ∷ 0 ∷ 0 ∷ 0 ∷ 1 ∷ 0 ∷ 0 ∷ 0 ∷ 0 ∷ 0 ∷ 0 ∷ 0 ∷ 3 ∷
+    4 ∷ 0 ∷ 0 ∷ 0 ∷ 0 ∷ 0 ∷ 0 ∷ 0 ∷ 0 ∷ 0 ∷ 0 ∷ 0 ∷ 0 ∷
+    4 ∷ 0 ∷ 0 ∷ 1 ∷ 1 ∷ 0 ∷ 0 ∷ 0 ∷ 0 ∷ 0 ∷ 0 ∷ 0 ∷ 0 ∷
+    4 ∷ 0 ∷ 0 ∷ 0 ∷ 0 ∷ 0 ∷ 0 ∷ 0 ∷ 0 ∷ 0 ∷ 0 ∷ 0 ∷ 0 ∷
+    3 ∷ 0 ∷ 0 ∷ 0 ∷ 2 ∷ 7 ∷
+    4 ∷ 2 ∷ 3 ∷ 232 ∷ 1 ∷ 0 ∷ 0 ∷ 0 ∷ 0 ∷ 0 ∷ 0 ∷ 0 ∷ 2 ∷
+    4 ∷ 0 ∷ 0 ∷ 0 ∷ 0 ∷ 0 ∷ 0 ∷ 0 ∷ 0 ∷ 0 ∷ 0 ∷ 0 ∷ 0 ∷
+    4 ∷ 1 ∷ 0 ∷ 2 ∷ 1 ∷ 255 ∷ 255 ∷ 255 ∷ 255 ∷ 255 ∷ 255 ∷ 255 ∷ 255 ∷ []
+
+abbrev image-2533 : List ℕ
+image-2533 =
+    1 ∷ 0 ∷ 0 ∷ 0 ∷ 0 ∷ 0 ∷ 2 ∷ 158 ∷ 202 ∷ 0 ∷ 1 ∷ 0 ∷ 0 ∷ 2 ∷ 227 ∷ 0 ∷ 0 ∷ 0 ∷ 1 ∷ 0 ∷ 0 ∷ 0 ∷ 0 ∷ 1 ∷
+    2 ∷ 0 ∷ 1 ∷ 0 ∷ 4 ∷ 0 ∷ 0 ∷ 0 ∷ 0 ∷ 0 ∷
+    2 ∷ 0 ∷ 0 ∷ 6 ∷ 7 ∷ 0 ∷ 0 ∷ 0 ∷ 0 ∷ 0 ∷
+    2 ∷ 0 ∷ 2 ∷ 5 ∷ 7 ∷ 0 ∷ 0 ∷ 0 ∷ 0 ∷ 0 ∷
+    3 ∷ 0 ∷ 0 ∷ 0 ∷ 0 ∷ 0 ∷
+    4 ∷ 0 ∷ 0 ∷ 2 ∷ 0 ∷ 0 ∷ 0 ∷ 0 ∷ 0 ∷ 0 ∷ 0 ∷ 0 ∷ 0 ∷
+    4 ∷ 2 ∷ 0 ∷ 2 ∷ 1 ∷ 0 ∷ 0 ∷ 0 ∷ 0 ∷ 0 ∷ 0 ∷ 0 ∷ 3 ∷
+    4 ∷ 2 ∷ 0 ∷ 2 ∷ 1 ∷ 0 ∷ 0 ∷ 0 ∷ 0 ∷ 0 ∷ 0 ∷ 0 ∷ 3 ∷
+    4 ∷ 2 ∷ 0 ∷ 2 ∷ 1 ∷ 0 ∷ 0 ∷ 0 ∷ 0 ∷ 0 ∷ 0 ∷ 0 ∷ 3 ∷
+    3 ∷ 0 ∷ 0 ∷ 0 ∷ 1 ∷ 3 ∷
+    4 ∷ 0 ∷ 0 ∷ 0 ∷ 1 ∷ 0 ∷ 0 ∷ 0 ∷ 0 ∷ 0 ∷ 0 ∷ 0 ∷ 3 ∷
+    4 ∷ 0 ∷ 0 ∷ 0 ∷ 0 ∷ 0 ∷ 0 ∷ 0 ∷ 0 ∷ 0 ∷ 0 ∷ 0 ∷ 0 ∷
+    4 ∷ 0 ∷ 0 ∷ 1 ∷ 1 ∷ 0 ∷ 0 ∷ 0 ∷ 0 ∷ 0 ∷ 0 ∷ 0 ∷ 0 ∷
+    4 ∷ 0 ∷ 0 ∷ 0 ∷ 0 ∷ 0 ∷ 0 ∷ 0 ∷ 0 ∷ 0 ∷ 0 ∷ 0 ∷ 0 ∷
+    3 ∷ 0 ∷ 0 ∷ 0 ∷ 2 ∷ 7 ∷
+    4 ∷ 2 ∷ 3 ∷ 232 ∷ 1 ∷ 0 ∷ 0 ∷ 0 ∷ 0 ∷ 0 ∷ 0 ∷ 0 ∷ 2 ∷
+    4 ∷ 0 ∷ 0 ∷ 0 ∷ 0 ∷ 0 ∷ 0 ∷ 0 ∷ 0 ∷ 0 ∷ 0 ∷ 0 ∷ 0 ∷
+    4 ∷ 1 ∷ 0 ∷ 2 ∷ 1 ∷ 255 ∷ 255 ∷ 255 ∷ 255 ∷ 255 ∷ 255 ∷ 255 ∷ 255 ∷ []
+
+abbrev image-2534 : List ℕ
+image-2534 =
+    1 ∷ 0 ∷ 0 ∷ 0 ∷ 0 ∷ 0 ∷ 2 ∷ 158 ∷ 202 ∷ 0 ∷ 1 ∷ 0 ∷ 0 ∷ 2 ∷ 227 ∷ 0 ∷ 0 ∷ 0 ∷ 1 ∷ 0 ∷ 0 ∷ 0 ∷ 0 ∷ 1 ∷
+    2 ∷ 0 ∷ 1 ∷ 0 ∷ 4 ∷ 0 ∷ 0 ∷ 0 ∷ 0 ∷ 0 ∷
+    2 ∷ 0 ∷ 0 ∷ 6 ∷ 7 ∷ 0 ∷ 0 ∷ 0 ∷ 0 ∷ 0 ∷
+    2 ∷ 0 ∷ 2 ∷ 5 ∷ 7 ∷ 0 ∷ 0 ∷ 0 ∷ 0 ∷ 0 ∷
+    3 ∷ 0 ∷ 0 ∷ 0 ∷ 0 ∷ 0 ∷
+    4 ∷ 0 ∷ 0 ∷ 2 ∷ 0 ∷ 0 ∷ 0 ∷ 0 ∷ 0 ∷ 0 ∷ 0 ∷ 0 ∷ 0 ∷
+    4 ∷ 2 ∷ 0 ∷ 2 ∷ 1 ∷ 0 ∷ 0 ∷ 0 ∷ 0 ∷ 0 ∷ 0 ∷ 0 ∷ 3 ∷
+    4 ∷ 2 ∷ 0 ∷ 2 ∷ 1 ∷ 0 ∷ 0 ∷ 0 ∷ 0 ∷ 0 ∷ 0 ∷ 0 ∷ 3 ∷
+    4 ∷ 2 ∷ 0 ∷ 2 ∷ 1 ∷ 0 ∷ 0 ∷ 0 ∷ 0 ∷ 0 ∷ 0 ∷ 0 ∷ 3 ∷
+    3 ∷ 0 ∷ 0 ∷ 0 ∷ 1 ∷ 3 ∷
+    4 ∷ 0 ∷ 0 ∷ 0 ∷ 1 ∷ 0 ∷ 0 ∷ 0 ∷ 0 ∷ 0 ∷ 0 ∷ 0 ∷ 3 ∷
+    4 ∷ 0 ∷ 0 ∷ 0 ∷ 0 ∷ 0 ∷ 0 ∷ 0 ∷ 0 ∷ 0 ∷ 0 ∷ 0 ∷ 0 ∷
+    4 ∷ 0 ∷ 0 ∷ 1 ∷ 1 ∷ 0 ∷ 0 ∷ 0 ∷ 0 ∷ 0 ∷ 0 ∷ 0 ∷ 0 ∷
+    4 ∷ 0 ∷ 0 ∷ 0 ∷ 0 ∷ 0 ∷ 0 ∷ 0 ∷ 0 ∷ 0 ∷ 0 ∷ 0 ∷ 0 ∷
+    3 ∷ 0 ∷ 0 ∷ 0 ∷ 2 ∷ 7 ∷
+    4 ∷ 2 ∷ 3 ∷ 232 ∷ 1 ∷ 0 ∷ 0 ∷ 0 ∷ 0 ∷ 0 ∷ 0 ∷ 0 ∷ 2 ∷
+    4 ∷ 0 ∷ 0 ∷ 0 ∷ 0 ∷ 0 ∷ 0 ∷ 0 ∷ 0 ∷ 0 ∷ 0 ∷ 0 ∷ 0 ∷
+    4 ∷ 1 ∷ 0 ∷ 1 ∷ 1 ∷ 255 ∷ 255 ∷ 255 ∷ 255 ∷ 255 ∷ 255 ∷ 255 ∷ 255 ∷ []
+
+-- calls 2526 to 2535
+calls-2526 :
+    outcomes none
+    (read-line 1000000 image-2526
+    ∷ call-line 1000000 (pick-pieces (asking 164 300 3 5 (some 3) 3 (255 ∷ 0 ∷ []) []) 4351 (words 4352 []))
+    ∷ call-line 1000000 (inc-refcount 0 (words 5000 []))
+    ∷ call-line 1000000 (pick-pieces (asking 102 2047 20 2 (some 0) 3 (238 ∷ []) (1 ∷ 1 ∷ [])) 4351 (words 4352 (5 ∷ [])))
+    ∷ call-line 1000000 (question (ofPiece passed-hash-check 2))
+    ∷ call-line 1000000 (question (listOfPiece get-downloaders 0 1000000))
+    ∷ call-line 1000000 (inc-refcount 2 (words 4352 []))
+    ∷ call-line 1000000 (mark-as-canceled 0 0 none (words 5000 []))
+    ∷ call-line 1000000 (abort-download 2 2 (some 2) (words 4352 []))
+    ∷ call-line 1000000 (question (ofBlock is-downloaded 2 3))
+    ∷ [])
+    ≡ outcome stands image-2526
+    ∷ outcome (answered (refused PickArguments)) image-2526
+    ∷ outcome (answered (done 0)) image-2528
+    ∷ outcome (answered (picked [] 11296 (0 ∷ 2 ∷ 0 ∷ 0 ∷ 1 ∷ 0 ∷ 0 ∷ []) 1)) image-2528
+    ∷ outcome (answered (replied (numbers ((some 1) ∷ [])))) image-2528
+    ∷ outcome (answered (replied (numbers ((some 3) ∷ (some 3) ∷ (some 3) ∷ (some 3) ∷ [])))) image-2528
+    ∷ outcome (answered (done 0)) image-2532
+    ∷ outcome (answered (done 0)) image-2533
+    ∷ outcome (answered (done 0)) image-2534
+    ∷ outcome (answered (refused OutOfRange)) image-2534
+    ∷ []
+unfolding replaying
+calls-2526 = refl
+
+abbrev image-2662 : List ℕ
+image-2662 =
+    1 ∷ 0 ∷ 0 ∷ 0 ∷ 0 ∷ 0 ∷ 0 ∷ 160 ∷ 88 ∷ 0 ∷ 0 ∷ 128 ∷ 0 ∷ 0 ∷ 0 ∷ 0 ∷ 0 ∷ 0 ∷ 0 ∷ 0 ∷ 0 ∷ 0 ∷ 2 ∷ 1 ∷
+    2 ∷ 0 ∷ 0 ∷ 4 ∷ 4 ∷ 0 ∷ 0 ∷ 0 ∷ 0 ∷ 0 ∷
     2 ∷ 0 ∷ 0 ∷ 4 ∷ 4 ∷ 0 ∷ 0 ∷ 0 ∷ 0 ∷ 0 ∷ []
 
-abbrev image-2884 : List ℕ
-image-2884 =
-    1 ∷ 0 ∷ 0 ∷ 0 ∷ 0 ∷ 0 ∷ 0 ∷ 23 ∷ 51 ∷ 0 ∷ 0 ∷ 64 ∷ 0 ∷ 0 ∷ 0 ∷ 0 ∷ 0 ∷ 0 ∷ 0 ∷ 0 ∷ 0 ∷ 0 ∷ 1 ∷ 1 ∷
-    2 ∷ 0 ∷ 0 ∷ 2 ∷ 4 ∷ 0 ∷ 0 ∷ 0 ∷ 0 ∷ 0 ∷
-    3 ∷ 0 ∷ 0 ∷ 0 ∷ 0 ∷ 0 ∷
-    4 ∷ 3 ∷ 0 ∷ 0 ∷ 1 ∷ 0 ∷ 0 ∷ 0 ∷ 0 ∷ 0 ∷ 0 ∷ 0 ∷ 2 ∷ []
+-- calls 2662 to 2663
+calls-2662 :
+    outcomes none
+    (new-line 1000000 41048 32768
+    ∷ call-line 0 (mark-as-canceled 0 1 (some 2) (words 4351 []))
+    ∷ [])
+    ≡ outcome stands image-2662
+    ∷ outcome (answered (refused ShortMemory)) image-2662
+    ∷ []
+unfolding replaying
+calls-2662 = refl
 
 abbrev image-2886 : List ℕ
 image-2886 =
-    1 ∷ 0 ∷ 0 ∷ 0 ∷ 0 ∷ 0 ∷ 0 ∷ 23 ∷ 51 ∷ 0 ∷ 0 ∷ 64 ∷ 0 ∷ 0 ∷ 0 ∷ 0 ∷ 0 ∷ 0 ∷ 1 ∷ 0 ∷ 0 ∷ 0 ∷ 0 ∷ 1 ∷
-    2 ∷ 0 ∷ 0 ∷ 4 ∷ 4 ∷ 1 ∷ 0 ∷ 0 ∷ 0 ∷ 0 ∷ []
-
-abbrev image-2888 : List ℕ
-image-2888 =
-    1 ∷ 0 ∷ 0 ∷ 0 ∷ 0 ∷ 0 ∷ 0 ∷ 23 ∷ 51 ∷ 0 ∷ 0 ∷ 64 ∷ 0 ∷ 0 ∷ 0 ∷ 0 ∷ 0 ∷ 0 ∷ 1 ∷ 0 ∷ 0 ∷ 0 ∷ 0 ∷ 1 ∷
-    2 ∷ 0 ∷ 0 ∷ 4 ∷ 7 ∷ 1 ∷ 0 ∷ 0 ∷ 0 ∷ 0 ∷ []
-
--- calls 2882 to 2892
-calls-2882 :
-    outcomes none
-    (new-line 1000000 5939 16384
-    ∷ call-line 1000000 (abort-download 0 0 (some 18446744073709551615) (words 5000 []))
-    ∷ call-line 1000000 (mark-as-finished 0 0 (some 2) (words 4352 []))
-    ∷ call-line 1000000 (mark-as-finished 0 0 (some 2) (words 5000 []))
-    ∷ call-line 1000000 (piece-passed 0)
-    ∷ call-line 1000000 (pick-pieces (asking 182 2047 2 300 (some 1) 1 (255 ∷ []) []) 4351 (words 0 []))
-    ∷ call-line 1000000 (set-piece-priority 0 7 (words 4352 []))
-    ∷ call-line 1000000 (pick-pieces (asking 228 1 2 10 (some 18446744073709551615) 1 (64 ∷ []) (0 ∷ 0 ∷ [])) 4351 (words 4352 (5 ∷ [])))
-    ∷ call-line 1000000 (abort-download 0 0 (some 1) (words 5000 []))
-    ∷ call-line 1000000 (mark-as-downloading 0 0 none 62138 (words 4352 []))
-    ∷ call-line 1000000 (question (ofPiece locked? 0))
-    ∷ [])
-    ≡ outcome stands image-2882
-    ∷ outcome (answered (done 0)) image-2882
-    ∷ outcome (answered (done 0)) image-2884
-    ∷ outcome (answered (done 0)) image-2884
-    ∷ outcome (answered (done 0)) image-2886
-    ∷ outcome (answered (refused 4)) image-2886
-    ∷ outcome (answered (said false 0)) image-2888
-    ∷ outcome (answered (picked [] 10240 (0 ∷ 2 ∷ 0 ∷ 0 ∷ 1 ∷ 0 ∷ 0 ∷ []) 1)) image-2888
-    ∷ outcome (answered (done 0)) image-2888
-    ∷ outcome (answered (refused 8)) image-2888
-    ∷ outcome (answered (told nothing)) image-2888
-    ∷ []
-unfolding replaying
-calls-2882 = refl
-
-abbrev image-3032 : List ℕ
-image-3032 =
-    1 ∷ 0 ∷ 0 ∷ 0 ∷ 0 ∷ 0 ∷ 0 ∷ 128 ∷ 1 ∷ 0 ∷ 0 ∷ 128 ∷ 0 ∷ 0 ∷ 0 ∷ 0 ∷ 0 ∷ 0 ∷ 2 ∷ 0 ∷ 0 ∷ 0 ∷ 1 ∷ 0 ∷
-    2 ∷ 3 ∷ 232 ∷ 4 ∷ 4 ∷ 0 ∷ 0 ∷ 0 ∷ 0 ∷ 0 ∷
-    2 ∷ 0 ∷ 1 ∷ 4 ∷ 4 ∷ 1 ∷ 0 ∷ 0 ∷ 0 ∷ 0 ∷
-    6 ∷ 0 ∷ 0 ∷ 0 ∷ 0 ∷ []
-
-abbrev image-3033 : List ℕ
-image-3033 =
-    1 ∷ 0 ∷ 0 ∷ 0 ∷ 0 ∷ 0 ∷ 0 ∷ 128 ∷ 1 ∷ 0 ∷ 0 ∷ 128 ∷ 0 ∷ 0 ∷ 0 ∷ 0 ∷ 0 ∷ 0 ∷ 2 ∷ 0 ∷ 0 ∷ 0 ∷ 1 ∷ 1 ∷
-    2 ∷ 3 ∷ 231 ∷ 4 ∷ 4 ∷ 0 ∷ 0 ∷ 0 ∷ 0 ∷ 0 ∷
-    2 ∷ 0 ∷ 0 ∷ 4 ∷ 4 ∷ 1 ∷ 0 ∷ 0 ∷ 0 ∷ 0 ∷ []
-
-abbrev image-3035 : List ℕ
-image-3035 =
-    1 ∷ 0 ∷ 0 ∷ 0 ∷ 0 ∷ 0 ∷ 0 ∷ 128 ∷ 1 ∷ 0 ∷ 0 ∷ 128 ∷ 0 ∷ 0 ∷ 0 ∷ 0 ∷ 0 ∷ 0 ∷ 2 ∷ 0 ∷ 0 ∷ 0 ∷ 1 ∷ 1 ∷
-    2 ∷ 3 ∷ 230 ∷ 4 ∷ 4 ∷ 0 ∷ 0 ∷ 0 ∷ 0 ∷ 0 ∷
-    2 ∷ 0 ∷ 0 ∷ 4 ∷ 4 ∷ 1 ∷ 0 ∷ 0 ∷ 0 ∷ 0 ∷ []
-
-abbrev image-3038 : List ℕ
-image-3038 =
-    1 ∷ 0 ∷ 0 ∷ 0 ∷ 0 ∷ 0 ∷ 0 ∷ 128 ∷ 1 ∷ 0 ∷ 0 ∷ 128 ∷ 0 ∷ 0 ∷ 0 ∷ 0 ∷ 0 ∷ 0 ∷ 2 ∷ 0 ∷ 0 ∷ 0 ∷ 1 ∷ 1 ∷
-    2 ∷ 3 ∷ 230 ∷ 4 ∷ 4 ∷ 0 ∷ 0 ∷ 0 ∷ 0 ∷ 0 ∷
-    2 ∷ 0 ∷ 0 ∷ 4 ∷ 7 ∷ 1 ∷ 0 ∷ 0 ∷ 0 ∷ 0 ∷ []
-
-abbrev image-3041 : List ℕ
-image-3041 =
-    1 ∷ 0 ∷ 0 ∷ 0 ∷ 0 ∷ 0 ∷ 0 ∷ 128 ∷ 1 ∷ 0 ∷ 0 ∷ 128 ∷ 0 ∷ 0 ∷ 0 ∷ 0 ∷ 0 ∷ 0 ∷ 2 ∷ 0 ∷ 0 ∷ 0 ∷ 1 ∷ 1 ∷
-    2 ∷ 3 ∷ 231 ∷ 4 ∷ 4 ∷ 0 ∷ 0 ∷ 0 ∷ 0 ∷ 0 ∷
-    2 ∷ 0 ∷ 0 ∷ 4 ∷ 7 ∷ 1 ∷ 0 ∷ 0 ∷ 0 ∷ 0 ∷ []
-
-abbrev image-3044 : List ℕ
-image-3044 =
-    1 ∷ 0 ∷ 0 ∷ 0 ∷ 0 ∷ 0 ∷ 0 ∷ 128 ∷ 1 ∷ 0 ∷ 0 ∷ 128 ∷ 0 ∷ 0 ∷ 1 ∷ 0 ∷ 0 ∷ 0 ∷ 2 ∷ 0 ∷ 0 ∷ 0 ∷ 1 ∷ 1 ∷
-    2 ∷ 3 ∷ 231 ∷ 4 ∷ 4 ∷ 0 ∷ 0 ∷ 0 ∷ 0 ∷ 0 ∷
-    2 ∷ 0 ∷ 0 ∷ 4 ∷ 7 ∷ 1 ∷ 0 ∷ 0 ∷ 0 ∷ 0 ∷ []
-
-abbrev image-3046 : List ℕ
-image-3046 =
-    1 ∷ 0 ∷ 0 ∷ 0 ∷ 0 ∷ 0 ∷ 0 ∷ 128 ∷ 1 ∷ 0 ∷ 0 ∷ 128 ∷ 0 ∷ 0 ∷ 1 ∷ 0 ∷ 0 ∷ 0 ∷ 2 ∷ 0 ∷ 0 ∷ 0 ∷ 1 ∷ 1 ∷
-    2 ∷ 3 ∷ 231 ∷ 0 ∷ 4 ∷ 0 ∷ 0 ∷ 0 ∷ 0 ∷ 0 ∷
-    2 ∷ 0 ∷ 0 ∷ 4 ∷ 7 ∷ 1 ∷ 0 ∷ 0 ∷ 0 ∷ 0 ∷
-    3 ∷ 0 ∷ 0 ∷ 0 ∷ 0 ∷ 0 ∷
-    4 ∷ 3 ∷ 0 ∷ 0 ∷ 1 ∷ 0 ∷ 0 ∷ 0 ∷ 0 ∷ 0 ∷ 0 ∷ 0 ∷ 0 ∷
-    4 ∷ 0 ∷ 0 ∷ 0 ∷ 0 ∷ 0 ∷ 0 ∷ 0 ∷ 0 ∷ 0 ∷ 0 ∷ 0 ∷ 0 ∷ []
-
-abbrev image-3047 : List ℕ
-image-3047 =
-    1 ∷ 0 ∷ 0 ∷ 0 ∷ 0 ∷ 0 ∷ 0 ∷ 128 ∷ 1 ∷ 0 ∷ 0 ∷ 128 ∷ 0 ∷ 0 ∷ 1 ∷ 0 ∷ 0 ∷ 0 ∷ 2 ∷ 0 ∷ 0 ∷ 0 ∷ 1 ∷ 1 ∷
-    2 ∷ 3 ∷ 230 ∷ 0 ∷ 4 ∷ 0 ∷ 0 ∷ 0 ∷ 0 ∷ 0 ∷
-    2 ∷ 0 ∷ 0 ∷ 4 ∷ 7 ∷ 1 ∷ 0 ∷ 0 ∷ 0 ∷ 0 ∷
-    3 ∷ 0 ∷ 0 ∷ 0 ∷ 0 ∷ 0 ∷
-    4 ∷ 3 ∷ 0 ∷ 0 ∷ 1 ∷ 0 ∷ 0 ∷ 0 ∷ 0 ∷ 0 ∷ 0 ∷ 0 ∷ 0 ∷
-    4 ∷ 0 ∷ 0 ∷ 0 ∷ 0 ∷ 0 ∷ 0 ∷ 0 ∷ 0 ∷ 0 ∷ 0 ∷ 0 ∷ 0 ∷ []
-
-abbrev image-3048 : List ℕ
-image-3048 =
-    1 ∷ 0 ∷ 0 ∷ 0 ∷ 0 ∷ 0 ∷ 0 ∷ 128 ∷ 1 ∷ 0 ∷ 0 ∷ 128 ∷ 0 ∷ 0 ∷ 1 ∷ 0 ∷ 0 ∷ 0 ∷ 2 ∷ 0 ∷ 0 ∷ 0 ∷ 1 ∷ 1 ∷
-    2 ∷ 3 ∷ 229 ∷ 0 ∷ 4 ∷ 0 ∷ 0 ∷ 0 ∷ 0 ∷ 0 ∷
-    2 ∷ 0 ∷ 0 ∷ 4 ∷ 7 ∷ 1 ∷ 0 ∷ 0 ∷ 0 ∷ 0 ∷
-    3 ∷ 0 ∷ 0 ∷ 0 ∷ 0 ∷ 0 ∷
-    4 ∷ 3 ∷ 0 ∷ 0 ∷ 1 ∷ 0 ∷ 0 ∷ 0 ∷ 0 ∷ 0 ∷ 0 ∷ 0 ∷ 0 ∷
-    4 ∷ 0 ∷ 0 ∷ 0 ∷ 0 ∷ 0 ∷ 0 ∷ 0 ∷ 0 ∷ 0 ∷ 0 ∷ 0 ∷ 0 ∷ []
-
-abbrev image-3049 : List ℕ
-image-3049 =
-    1 ∷ 0 ∷ 0 ∷ 0 ∷ 0 ∷ 0 ∷ 0 ∷ 128 ∷ 1 ∷ 0 ∷ 0 ∷ 128 ∷ 0 ∷ 0 ∷ 1 ∷ 0 ∷ 0 ∷ 0 ∷ 2 ∷ 0 ∷ 0 ∷ 0 ∷ 1 ∷ 1 ∷
-    2 ∷ 3 ∷ 229 ∷ 0 ∷ 4 ∷ 0 ∷ 0 ∷ 0 ∷ 0 ∷ 0 ∷
-    2 ∷ 0 ∷ 0 ∷ 4 ∷ 7 ∷ 1 ∷ 0 ∷ 0 ∷ 0 ∷ 0 ∷
-    3 ∷ 0 ∷ 0 ∷ 0 ∷ 0 ∷ 1 ∷
-    4 ∷ 3 ∷ 0 ∷ 0 ∷ 1 ∷ 0 ∷ 0 ∷ 0 ∷ 0 ∷ 0 ∷ 0 ∷ 0 ∷ 0 ∷
-    4 ∷ 0 ∷ 0 ∷ 0 ∷ 0 ∷ 0 ∷ 0 ∷ 0 ∷ 0 ∷ 0 ∷ 0 ∷ 0 ∷ 0 ∷ []
-
--- calls 3032 to 3050
-calls-3032 :
-    outcomes none
-    (read-line 1000000 image-3032
-    ∷ call-line 1000000 dec-refcount-all
-    ∷ call-line 1000000 (piece-passed 0)
-    ∷ call-line 1000000 (dec-refcount 0 (words 4352 []))
-    ∷ call-line 1000000 (pick-pieces (asking 106 300 3 2 (some 2) 2 (172 ∷ []) (1 ∷ 1 ∷ 0 ∷ 0 ∷ 0 ∷ [])) 4351 (words 5000 (3231565180 ∷ [])))
-    ∷ call-line 1000000 (dec-refcount 1 (words 4352 []))
-    ∷ call-line 1000000 (set-piece-priority 1 7 (words 5000 []))
-    ∷ call-line 1000000 (pick-pieces (asking 232 5 3 2 (some 0) 2 (32 ∷ []) []) 4351 (words 5000 (194590163 ∷ [])))
-    ∷ call-line 1000000 dec-refcount-all
-    ∷ call-line 1000000 (inc-refcount 0 (words 4352 []))
-    ∷ call-line 1000000 (question (ofPicker num-pieces))
-    ∷ call-line 1000000 (question (list-place 1))
-    ∷ call-line 1000000 inc-refcount-all
-    ∷ call-line 1000000 (pick-pieces (asking 132 8 4 3 (some 3) 2 (255 ∷ []) []) 4351 (words 4352 (554672966 ∷ [])))
-    ∷ call-line 1000000 (mark-as-finished 0 0 (some 0) (words 4352 []))
-    ∷ call-line 1000000 (dec-refcount 0 (words 4352 []))
-    ∷ call-line 1000000 (dec-refcount 0 (words 5000 []))
-    ∷ call-line 1000000 (piece-passed 0)
-    ∷ call-line 1000000 (question (ofBlock num-peers-block 3 0))
-    ∷ [])
-    ≡ outcome stands image-3032
-    ∷ outcome (answered (done 0)) image-3033
-    ∷ outcome (answered (done 0)) image-3033
-    ∷ outcome (answered (done 0)) image-3035
-    ∷ outcome (answered (picked ((pieceBlock 0 0) ∷ (pieceBlock 0 1) ∷ []) 10272 (0 ∷ 5 ∷ 0 ∷ 0 ∷ 2 ∷ 0 ∷ 0 ∷ []) 1)) image-3035
-    ∷ outcome (answered (refused 7)) image-3035
-    ∷ outcome (answered (said false 0)) image-3038
-    ∷ outcome (answered (picked [] 10240 (0 ∷ 0 ∷ 0 ∷ 0 ∷ 2 ∷ 0 ∷ 0 ∷ []) 1)) image-3038
-    ∷ outcome (answered (refused 7)) image-3038
-    ∷ outcome (answered (done 0)) image-3041
-    ∷ outcome (answered (told (numbers ((some 2) ∷ [])))) image-3041
-    ∷ outcome (answered (told staleList)) image-3041
-    ∷ outcome (answered (done 0)) image-3044
-    ∷ outcome (answered (picked ((pieceBlock 0 0) ∷ (pieceBlock 0 1) ∷ []) 11264 (0 ∷ 0 ∷ 0 ∷ 0 ∷ 1 ∷ 2 ∷ 0 ∷ []) 1)) image-3044
-    ∷ outcome (answered (done 0)) image-3046
-    ∷ outcome (answered (done 0)) image-3047
-    ∷ outcome (answered (done 0)) image-3048
-    ∷ outcome (answered (done 0)) image-3049
-    ∷ outcome (answered (refused 5)) image-3049
-    ∷ []
-unfolding replaying
-calls-3032 = refl
-
-abbrev image-3152 : List ℕ
-image-3152 =
-    1 ∷ 0 ∷ 0 ∷ 0 ∷ 0 ∷ 0 ∷ 0 ∷ 101 ∷ 195 ∷ 0 ∷ 0 ∷ 64 ∷ 0 ∷ 0 ∷ 0 ∷ 0 ∷ 0 ∷ 0 ∷ 1 ∷ 0 ∷ 0 ∷ 0 ∷ 0 ∷ 0 ∷
-    2 ∷ 0 ∷ 1 ∷ 2 ∷ 7 ∷ 0 ∷ 0 ∷ 0 ∷ 0 ∷ 0 ∷
-    2 ∷ 0 ∷ 2 ∷ 2 ∷ 1 ∷ 0 ∷ 0 ∷ 0 ∷ 19 ∷ 175 ∷
-    3 ∷ 0 ∷ 0 ∷ 0 ∷ 0 ∷ 0 ∷
-    4 ∷ 3 ∷ 0 ∷ 1 ∷ 1 ∷ 255 ∷ 255 ∷ 255 ∷ 255 ∷ 255 ∷ 255 ∷ 255 ∷ 255 ∷
-    3 ∷ 0 ∷ 0 ∷ 0 ∷ 1 ∷ 0 ∷
-    4 ∷ 2 ∷ 0 ∷ 1 ∷ 1 ∷ 0 ∷ 0 ∷ 0 ∷ 0 ∷ 0 ∷ 0 ∷ 0 ∷ 2 ∷
-    5 ∷ 0 ∷ 0 ∷ 0 ∷ 0 ∷ []
-
-abbrev image-3157 : List ℕ
-image-3157 =
-    1 ∷ 0 ∷ 0 ∷ 0 ∷ 0 ∷ 0 ∷ 0 ∷ 101 ∷ 195 ∷ 0 ∷ 0 ∷ 64 ∷ 0 ∷ 0 ∷ 1 ∷ 0 ∷ 0 ∷ 0 ∷ 1 ∷ 0 ∷ 0 ∷ 0 ∷ 0 ∷ 1 ∷
-    2 ∷ 0 ∷ 1 ∷ 2 ∷ 7 ∷ 0 ∷ 0 ∷ 0 ∷ 0 ∷ 0 ∷
-    2 ∷ 0 ∷ 2 ∷ 2 ∷ 1 ∷ 0 ∷ 0 ∷ 0 ∷ 19 ∷ 175 ∷
-    3 ∷ 0 ∷ 0 ∷ 0 ∷ 0 ∷ 0 ∷
-    4 ∷ 3 ∷ 0 ∷ 1 ∷ 1 ∷ 255 ∷ 255 ∷ 255 ∷ 255 ∷ 255 ∷ 255 ∷ 255 ∷ 255 ∷
-    3 ∷ 0 ∷ 0 ∷ 0 ∷ 1 ∷ 0 ∷
-    4 ∷ 2 ∷ 0 ∷ 1 ∷ 1 ∷ 0 ∷ 0 ∷ 0 ∷ 0 ∷ 0 ∷ 0 ∷ 0 ∷ 2 ∷
-    5 ∷ 0 ∷ 0 ∷ 0 ∷ 0 ∷ []
-
--- calls 3152 to 3158
-calls-3152 :
-    outcomes none
-    (read-line 1000000 image-3152
-    ∷ call-line 1000000 (mark-as-downloading 0 0 none 24458 (words 5000 []))
-    ∷ call-line 1000000 (pick-pieces (asking 73 3 2 3 (some 1) 2 (255 ∷ []) (0 ∷ 1 ∷ 0 ∷ [])) 4351 (words 4352 []))
-    ∷ call-line 1000000 (question (listOfPiece blocks-for-piece 1 1000000))
-    ∷ call-line 1000000 (pick-pieces (asking 174 3 1 1 (some 2) 2 (101 ∷ []) []) 4351 (words 5000 (2430131451 ∷ [])))
-    ∷ call-line 1000000 inc-refcount-all
-    ∷ call-line 1000000 (question (ofBlock is-finished-block 1 2))
-    ∷ [])
-    ≡ outcome stands image-3152
-    ∷ outcome (answered (said false 0)) image-3152
-    ∷ outcome (answered (picked [] 10276 (0 ∷ 3 ∷ 0 ∷ 0 ∷ 0 ∷ 0 ∷ 0 ∷ []) 0)) image-3152
-    ∷ outcome (answered (told (numbers ((some 2) ∷ (some 1) ∷ (some 2) ∷ [])))) image-3152
-    ∷ outcome (answered (picked [] 11264 (0 ∷ 0 ∷ 0 ∷ 0 ∷ 1 ∷ 0 ∷ 0 ∷ []) 1)) image-3152
-    ∷ outcome (answered (done 0)) image-3157
-    ∷ outcome (answered (refused 5)) image-3157
-    ∷ []
-unfolding replaying
-calls-3152 = refl
-
-abbrev image-3182 : List ℕ
-image-3182 =
-    1 ∷ 0 ∷ 0 ∷ 0 ∷ 0 ∷ 0 ∷ 2 ∷ 0 ∷ 0 ∷ 0 ∷ 1 ∷ 0 ∷ 0 ∷ 0 ∷ 0 ∷ 0 ∷ 0 ∷ 0 ∷ 0 ∷ 0 ∷ 0 ∷ 0 ∷ 2 ∷ 1 ∷
-    2 ∷ 0 ∷ 8 ∷ 5 ∷ 4 ∷ 0 ∷ 0 ∷ 0 ∷ 0 ∷ 0 ∷
-    2 ∷ 0 ∷ 0 ∷ 4 ∷ 4 ∷ 0 ∷ 0 ∷ 0 ∷ 0 ∷ 0 ∷
-    3 ∷ 0 ∷ 0 ∷ 0 ∷ 0 ∷ 1 ∷
-    4 ∷ 1 ∷ 0 ∷ 1 ∷ 1 ∷ 0 ∷ 0 ∷ 0 ∷ 0 ∷ 0 ∷ 0 ∷ 0 ∷ 0 ∷
-    4 ∷ 1 ∷ 0 ∷ 1 ∷ 1 ∷ 0 ∷ 0 ∷ 0 ∷ 0 ∷ 0 ∷ 0 ∷ 0 ∷ 3 ∷
-    4 ∷ 2 ∷ 0 ∷ 0 ∷ 1 ∷ 255 ∷ 255 ∷ 255 ∷ 255 ∷ 255 ∷ 255 ∷ 255 ∷ 255 ∷
-    4 ∷ 0 ∷ 0 ∷ 2 ∷ 0 ∷ 0 ∷ 0 ∷ 0 ∷ 0 ∷ 0 ∷ 0 ∷ 0 ∷ 0 ∷
-    5 ∷ 0 ∷ 0 ∷ 0 ∷ 0 ∷ []
-
--- calls 3182 to 3184
-calls-3182 :
-    outcomes none
-    (read-line 1000000 image-3182
-    ∷ call-line 1000000 (question (ofBlock is-finished-block 0 3))
-    ∷ call-line 1000000 (dec-refcount 1 (words 4352 []))
-    ∷ [])
-    ≡ outcome stands image-3182
-    ∷ outcome (answered (told (numbers ((some 0) ∷ [])))) image-3182
-    ∷ outcome (answered (refused 7)) image-3182
-    ∷ []
-unfolding replaying
-calls-3182 = refl
-
-abbrev image-3272 : List ℕ
-image-3272 =
-    1 ∷ 0 ∷ 0 ∷ 0 ∷ 0 ∷ 0 ∷ 0 ∷ 116 ∷ 81 ∷ 0 ∷ 0 ∷ 64 ∷ 0 ∷ 0 ∷ 1 ∷ 0 ∷ 0 ∷ 0 ∷ 2 ∷ 0 ∷ 0 ∷ 0 ∷ 2 ∷ 0 ∷
-    2 ∷ 0 ∷ 8 ∷ 2 ∷ 7 ∷ 0 ∷ 0 ∷ 0 ∷ 0 ∷ 1 ∷
-    2 ∷ 0 ∷ 2 ∷ 2 ∷ 4 ∷ 0 ∷ 0 ∷ 0 ∷ 0 ∷ 0 ∷
-    3 ∷ 0 ∷ 0 ∷ 0 ∷ 0 ∷ 4 ∷
-    4 ∷ 3 ∷ 0 ∷ 2 ∷ 1 ∷ 0 ∷ 0 ∷ 0 ∷ 0 ∷ 0 ∷ 0 ∷ 0 ∷ 2 ∷
-    3 ∷ 0 ∷ 0 ∷ 0 ∷ 1 ∷ 0 ∷
-    4 ∷ 3 ∷ 0 ∷ 1 ∷ 1 ∷ 0 ∷ 0 ∷ 0 ∷ 0 ∷ 0 ∷ 0 ∷ 0 ∷ 0 ∷ []
-
--- calls 3272 to 3274
-calls-3272 :
-    outcomes none
-    (read-line 1000000 image-3272
-    ∷ call-line 1000000 (pick-pieces (asking 203 8 1 0 (some 2) 2 (239 ∷ []) (1 ∷ [])) 4351 (words 4352 []))
-    ∷ call-line 1000000 (pick-pieces (asking 100 40 5 5 (some 2) 2 (191 ∷ []) []) 299 (words 4352 []))
-    ∷ [])
-    ≡ outcome stands image-3272
-    ∷ outcome (answered (picked [] 10276 (0 ∷ 1 ∷ 0 ∷ 0 ∷ 0 ∷ 0 ∷ 0 ∷ []) 0)) image-3272
-    ∷ outcome (answered (refused 12)) image-3272
-    ∷ []
-unfolding replaying
-calls-3272 = refl
-
-abbrev image-3332 : List ℕ
-image-3332 =
-    1 ∷ 0 ∷ 0 ∷ 0 ∷ 0 ∷ 0 ∷ 3 ∷ 0 ∷ 0 ∷ 0 ∷ 1 ∷ 0 ∷ 0 ∷ 0 ∷ 2 ∷ 0 ∷ 0 ∷ 0 ∷ 3 ∷ 0 ∷ 0 ∷ 0 ∷ 3 ∷ 0 ∷
-    2 ∷ 3 ∷ 230 ∷ 2 ∷ 6 ∷ 0 ∷ 0 ∷ 0 ∷ 0 ∷ 0 ∷
-    2 ∷ 0 ∷ 4 ∷ 4 ∷ 4 ∷ 0 ∷ 0 ∷ 0 ∷ 0 ∷ 0 ∷
-    2 ∷ 3 ∷ 230 ∷ 4 ∷ 1 ∷ 1 ∷ 0 ∷ 0 ∷ 0 ∷ 0 ∷
-    3 ∷ 0 ∷ 0 ∷ 0 ∷ 0 ∷ 0 ∷
-    4 ∷ 3 ∷ 0 ∷ 1 ∷ 1 ∷ 0 ∷ 0 ∷ 0 ∷ 0 ∷ 0 ∷ 0 ∷ 0 ∷ 0 ∷
-    4 ∷ 3 ∷ 0 ∷ 1 ∷ 1 ∷ 0 ∷ 0 ∷ 0 ∷ 0 ∷ 0 ∷ 0 ∷ 0 ∷ 0 ∷
-    4 ∷ 3 ∷ 0 ∷ 1 ∷ 1 ∷ 0 ∷ 0 ∷ 0 ∷ 0 ∷ 0 ∷ 0 ∷ 0 ∷ 0 ∷
-    4 ∷ 3 ∷ 0 ∷ 1 ∷ 1 ∷ 0 ∷ 0 ∷ 0 ∷ 0 ∷ 0 ∷ 0 ∷ 0 ∷ 0 ∷
-    6 ∷ 0 ∷ 0 ∷ 0 ∷ 1 ∷ []
-
--- calls 3332 to 3336
-calls-3332 :
-    outcomes none
-    (read-line 1000000 image-3332
-    ∷ call-line 1000000 (set-piece-priority 0 6 (words 4352 []))
-    ∷ call-line 1000000 (inc-refcount 0 (words 4352 []))
-    ∷ call-line 1000000 (abort-download 0 3 (some 18446744073709551615) (words 5000 []))
-    ∷ call-line 1000000 (mark-as-downloading 2 1 (some 1) 2 (words 4352 []))
-    ∷ [])
-    ≡ outcome stands image-3332
-    ∷ outcome (answered (said false 0)) image-3332
-    ∷ outcome (answered (refused 6)) image-3332
-    ∷ outcome (answered (done 0)) image-3332
-    ∷ outcome (answered (refused 8)) image-3332
-    ∷ []
-unfolding replaying
-calls-3332 = refl
-
-abbrev image-3392 : List ℕ
-image-3392 =
-    1 ∷ 0 ∷ 0 ∷ 0 ∷ 0 ∷ 0 ∷ 0 ∷ 64 ∷ 1 ∷ 0 ∷ 0 ∷ 64 ∷ 0 ∷ 0 ∷ 0 ∷ 0 ∷ 0 ∷ 0 ∷ 0 ∷ 0 ∷ 0 ∷ 0 ∷ 2 ∷ 1 ∷
+    1 ∷ 0 ∷ 0 ∷ 0 ∷ 0 ∷ 0 ∷ 0 ∷ 128 ∷ 0 ∷ 0 ∷ 0 ∷ 64 ∷ 0 ∷ 0 ∷ 0 ∷ 0 ∷ 0 ∷ 0 ∷ 0 ∷ 0 ∷ 0 ∷ 0 ∷ 2 ∷ 1 ∷
     2 ∷ 0 ∷ 0 ∷ 4 ∷ 4 ∷ 0 ∷ 0 ∷ 0 ∷ 0 ∷ 0 ∷
     2 ∷ 0 ∷ 0 ∷ 4 ∷ 4 ∷ 0 ∷ 0 ∷ 0 ∷ 0 ∷ 0 ∷ []
 
--- calls 3392 to 3393
-calls-3392 :
+abbrev image-2892 : List ℕ
+image-2892 =
+    1 ∷ 0 ∷ 0 ∷ 0 ∷ 0 ∷ 0 ∷ 0 ∷ 128 ∷ 0 ∷ 0 ∷ 0 ∷ 64 ∷ 0 ∷ 0 ∷ 1 ∷ 0 ∷ 0 ∷ 0 ∷ 0 ∷ 0 ∷ 0 ∷ 0 ∷ 2 ∷ 1 ∷
+    2 ∷ 0 ∷ 0 ∷ 4 ∷ 4 ∷ 0 ∷ 0 ∷ 0 ∷ 0 ∷ 0 ∷
+    2 ∷ 0 ∷ 0 ∷ 4 ∷ 4 ∷ 0 ∷ 0 ∷ 0 ∷ 0 ∷ 0 ∷ []
+
+abbrev image-2896 : List ℕ
+image-2896 =
+    1 ∷ 0 ∷ 0 ∷ 0 ∷ 0 ∷ 0 ∷ 0 ∷ 128 ∷ 0 ∷ 0 ∷ 0 ∷ 64 ∷ 0 ∷ 0 ∷ 1 ∷ 0 ∷ 0 ∷ 0 ∷ 0 ∷ 0 ∷ 0 ∷ 0 ∷ 2 ∷ 1 ∷
+    2 ∷ 0 ∷ 0 ∷ 2 ∷ 4 ∷ 0 ∷ 0 ∷ 0 ∷ 0 ∷ 0 ∷
+    2 ∷ 0 ∷ 0 ∷ 4 ∷ 4 ∷ 0 ∷ 0 ∷ 0 ∷ 0 ∷ 0 ∷
+    3 ∷ 0 ∷ 0 ∷ 0 ∷ 0 ∷ 0 ∷
+    4 ∷ 3 ∷ 0 ∷ 0 ∷ 1 ∷ 0 ∷ 0 ∷ 0 ∷ 0 ∷ 0 ∷ 0 ∷ 0 ∷ 0 ∷ []
+
+-- calls 2886 to 2897
+calls-2886 :
     outcomes none
-    (new-line 1000000 16385 16384
-    ∷ call-line 16 (inc-refcount 0 (words 5000 []))
+    (new-line 1000000 32768 16384
+    ∷ call-line 1000000 (pick-pieces (asking 32 8 1 10 (some 1) 2 (29 ∷ 0 ∷ []) []) 4351 (words 4352 []))
+    ∷ call-line 1000000 (mark-as-canceled 1 0 (some 2) (words 4352 []))
+    ∷ call-line 1000000 (question (listOfPicker get-download-queue 1000000))
+    ∷ call-line 1000000 (mark-as-downloading 2147483648 0 (some 1) 128 (words 4352 []))
+    ∷ call-line 1000000 (piece-passed 0)
+    ∷ call-line 1000000 inc-refcount-all
+    ∷ call-line 1000000 (pick-pieces (asking 43746 300 2 10 (some 0) 2 (255 ∷ []) (0 ∷ 0 ∷ [])) 4351 (words 4352 (2331164757 ∷ [])))
+    ∷ image-line 1000000 1000000
+    ∷ call-line 1000000 (question (ofPicker distributed-copies))
+    ∷ call-line 1000000 (mark-as-finished 0 0 (some 0) (words 4352 []))
+    ∷ call-line 16 (question (ofBlock is-finished-block 0 0))
     ∷ [])
-    ≡ outcome stands image-3392
-    ∷ outcome (answered (refused 2)) image-3392
+    ≡ outcome stands image-2886
+    ∷ outcome (answered (refused PickArguments)) image-2886
+    ∷ outcome (answered (done 0)) image-2886
+    ∷ outcome (answered (replied (numbers []))) image-2886
+    ∷ outcome (answered (refused OutOfRange)) image-2886
+    ∷ outcome (answered (done 0)) image-2886
+    ∷ outcome (answered (done 0)) image-2892
+    ∷ outcome (answered (picked ((pieceBlock 0 0) ∷ (pieceBlock 1 0) ∷ []) 10272 (0 ∷ 2 ∷ 0 ∷ 0 ∷ 2 ∷ 0 ∷ 0 ∷ []) 1)) image-2892
+    ∷ outcome (bytesTaken (1 ∷ 0 ∷ 0 ∷ 0 ∷ 0 ∷ 0 ∷ 0 ∷ 128 ∷ 0 ∷ 0 ∷ 0 ∷ 64 ∷ 0 ∷ 0 ∷ 1 ∷ 0 ∷ 0 ∷ 0 ∷ 0 ∷ 0 ∷ 0 ∷ 0 ∷ 2 ∷ 1 ∷ 2 ∷ 0 ∷ 0 ∷ 4 ∷ 4 ∷ 0 ∷ 0 ∷ 0 ∷ 0 ∷ 0 ∷ 2 ∷ 0 ∷ 0 ∷ 4 ∷ 4 ∷ 0 ∷ 0 ∷ 0 ∷ 0 ∷ 0 ∷ [])) image-2892
+    ∷ outcome (answered (replied (numbers ((some 1) ∷ (some 0) ∷ [])))) image-2892
+    ∷ outcome (answered (done 0)) image-2896
+    ∷ outcome (answered (refused ShortMemory)) image-2896
     ∷ []
 unfolding replaying
-calls-3392 = refl
+calls-2886 = refl
 
-abbrev image-3452 : List ℕ
-image-3452 =
-    1 ∷ 0 ∷ 0 ∷ 0 ∷ 0 ∷ 0 ∷ 1 ∷ 128 ∷ 1 ∷ 0 ∷ 0 ∷ 128 ∷ 0 ∷ 0 ∷ 2 ∷ 0 ∷ 0 ∷ 0 ∷ 1 ∷ 0 ∷ 0 ∷ 0 ∷ 0 ∷ 0 ∷
-    2 ∷ 0 ∷ 3 ∷ 4 ∷ 0 ∷ 0 ∷ 0 ∷ 0 ∷ 0 ∷ 0 ∷
-    2 ∷ 0 ∷ 0 ∷ 4 ∷ 4 ∷ 0 ∷ 0 ∷ 0 ∷ 0 ∷ 1 ∷
-    2 ∷ 0 ∷ 1 ∷ 4 ∷ 4 ∷ 0 ∷ 0 ∷ 0 ∷ 64 ∷ 1 ∷
-    2 ∷ 0 ∷ 0 ∷ 3 ∷ 0 ∷ 0 ∷ 0 ∷ 0 ∷ 0 ∷ 0 ∷
-    3 ∷ 0 ∷ 0 ∷ 0 ∷ 3 ∷ 0 ∷
-    4 ∷ 0 ∷ 0 ∷ 0 ∷ 1 ∷ 255 ∷ 255 ∷ 255 ∷ 255 ∷ 255 ∷ 255 ∷ 255 ∷ 255 ∷
-    5 ∷ 0 ∷ 0 ∷ 0 ∷ 0 ∷
-    6 ∷ 0 ∷ 0 ∷ 0 ∷ 1 ∷
-    6 ∷ 0 ∷ 0 ∷ 0 ∷ 2 ∷ []
+abbrev image-3156 : List ℕ
+image-3156 =
+    1 ∷ 0 ∷ 0 ∷ 0 ∷ 0 ∷ 0 ∷ 0 ∷ 0 ∷ 1 ∷ 0 ∷ 0 ∷ 128 ∷ 0 ∷ 0 ∷ 2 ∷ 0 ∷ 0 ∷ 0 ∷ 1 ∷ 0 ∷ 0 ∷ 0 ∷ 0 ∷ 0 ∷
+    2 ∷ 0 ∷ 2 ∷ 4 ∷ 6 ∷ 0 ∷ 0 ∷ 0 ∷ 0 ∷ 0 ∷
+    6 ∷ 0 ∷ 0 ∷ 0 ∷ 0 ∷ []
 
-abbrev image-3453 : List ℕ
-image-3453 =
-    1 ∷ 0 ∷ 0 ∷ 0 ∷ 0 ∷ 0 ∷ 1 ∷ 128 ∷ 1 ∷ 0 ∷ 0 ∷ 128 ∷ 0 ∷ 0 ∷ 1 ∷ 0 ∷ 0 ∷ 0 ∷ 1 ∷ 0 ∷ 0 ∷ 0 ∷ 0 ∷ 1 ∷
-    2 ∷ 0 ∷ 4 ∷ 4 ∷ 0 ∷ 0 ∷ 0 ∷ 0 ∷ 0 ∷ 0 ∷
-    2 ∷ 0 ∷ 1 ∷ 4 ∷ 4 ∷ 0 ∷ 0 ∷ 0 ∷ 0 ∷ 1 ∷
-    2 ∷ 0 ∷ 2 ∷ 4 ∷ 4 ∷ 0 ∷ 0 ∷ 0 ∷ 64 ∷ 1 ∷
-    2 ∷ 0 ∷ 0 ∷ 3 ∷ 0 ∷ 0 ∷ 0 ∷ 0 ∷ 0 ∷ 0 ∷
+abbrev image-3159 : List ℕ
+image-3159 =
+    1 ∷ 0 ∷ 0 ∷ 0 ∷ 0 ∷ 0 ∷ 0 ∷ 0 ∷ 1 ∷ 0 ∷ 0 ∷ 128 ∷ 0 ∷ 0 ∷ 2 ∷ 0 ∷ 0 ∷ 0 ∷ 1 ∷ 0 ∷ 0 ∷ 0 ∷ 0 ∷ 0 ∷
+    2 ∷ 0 ∷ 1 ∷ 4 ∷ 6 ∷ 0 ∷ 0 ∷ 0 ∷ 0 ∷ 0 ∷
+    6 ∷ 0 ∷ 0 ∷ 0 ∷ 0 ∷ []
+
+abbrev image-3163 : List ℕ
+image-3163 =
+    1 ∷ 0 ∷ 0 ∷ 0 ∷ 0 ∷ 0 ∷ 0 ∷ 0 ∷ 1 ∷ 0 ∷ 0 ∷ 128 ∷ 0 ∷ 0 ∷ 2 ∷ 0 ∷ 0 ∷ 0 ∷ 1 ∷ 0 ∷ 0 ∷ 0 ∷ 0 ∷ 0 ∷
+    2 ∷ 0 ∷ 1 ∷ 4 ∷ 0 ∷ 0 ∷ 0 ∷ 0 ∷ 0 ∷ 0 ∷ []
+
+abbrev image-3168 : List ℕ
+image-3168 =
+    1 ∷ 0 ∷ 0 ∷ 0 ∷ 0 ∷ 0 ∷ 0 ∷ 0 ∷ 1 ∷ 0 ∷ 0 ∷ 128 ∷ 0 ∷ 0 ∷ 2 ∷ 0 ∷ 0 ∷ 0 ∷ 1 ∷ 0 ∷ 0 ∷ 0 ∷ 0 ∷ 0 ∷
+    2 ∷ 0 ∷ 1 ∷ 3 ∷ 0 ∷ 0 ∷ 0 ∷ 0 ∷ 0 ∷ 0 ∷
+    3 ∷ 0 ∷ 0 ∷ 0 ∷ 0 ∷ 0 ∷
+    4 ∷ 1 ∷ 0 ∷ 1 ∷ 0 ∷ 0 ∷ 0 ∷ 0 ∷ 0 ∷ 0 ∷ 0 ∷ 0 ∷ 0 ∷ []
+
+abbrev image-3170 : List ℕ
+image-3170 =
+    1 ∷ 0 ∷ 0 ∷ 0 ∷ 0 ∷ 0 ∷ 0 ∷ 0 ∷ 1 ∷ 0 ∷ 0 ∷ 128 ∷ 0 ∷ 0 ∷ 2 ∷ 0 ∷ 0 ∷ 0 ∷ 1 ∷ 0 ∷ 0 ∷ 0 ∷ 0 ∷ 0 ∷
+    2 ∷ 0 ∷ 1 ∷ 3 ∷ 0 ∷ 0 ∷ 0 ∷ 0 ∷ 0 ∷ 0 ∷
+    3 ∷ 0 ∷ 0 ∷ 0 ∷ 0 ∷ 1 ∷
+    4 ∷ 1 ∷ 0 ∷ 1 ∷ 0 ∷ 0 ∷ 0 ∷ 0 ∷ 0 ∷ 0 ∷ 0 ∷ 0 ∷ 0 ∷ []
+
+abbrev image-3173 : List ℕ
+image-3173 =
+    1 ∷ 0 ∷ 0 ∷ 0 ∷ 0 ∷ 0 ∷ 0 ∷ 0 ∷ 1 ∷ 0 ∷ 0 ∷ 128 ∷ 0 ∷ 0 ∷ 2 ∷ 0 ∷ 0 ∷ 0 ∷ 1 ∷ 0 ∷ 0 ∷ 0 ∷ 0 ∷ 0 ∷
+    2 ∷ 0 ∷ 2 ∷ 3 ∷ 0 ∷ 0 ∷ 0 ∷ 0 ∷ 0 ∷ 0 ∷
+    3 ∷ 0 ∷ 0 ∷ 0 ∷ 0 ∷ 1 ∷
+    4 ∷ 1 ∷ 0 ∷ 1 ∷ 0 ∷ 0 ∷ 0 ∷ 0 ∷ 0 ∷ 0 ∷ 0 ∷ 0 ∷ 0 ∷ []
+
+-- calls 3156 to 3177
+calls-3156 :
+    outcomes none
+    (read-line 1000000 image-3156
+    ∷ call-line 1000000 (question (ofPicker block-size))
+    ∷ call-line 1000000 (dec-refcount 0 (words 4352 []))
+    ∷ call-line 1000000 (question (ofBlock block-state 0 0))
+    ∷ call-line 1000000 (pick-pieces (asking 244 13 3 0 (some 18446744073709551615) 1 (255 ∷ []) (0 ∷ 0 ∷ 0 ∷ 0 ∷ 0 ∷ 0 ∷ 0 ∷ 0 ∷ 0 ∷ 0 ∷ 0 ∷ 0 ∷ 0 ∷ 0 ∷ 0 ∷ 0 ∷ 0 ∷ 0 ∷ 0 ∷ 0 ∷ [])) 4351 (words 4352 []))
+    ∷ call-line 1000000 (set-piece-priority 0 0 (words 4352 []))
+    ∷ call-line 1000000 (question (listOfPiece blocks-for-piece 0 1000000))
+    ∷ call-line 1000000 (mark-as-canceled 0 0 (some 1) (words 4352 []))
+    ∷ call-line 1000000 (question (ofPicker reverse-cursor?))
+    ∷ call-line 1000000 (mark-as-downloading 0 0 none 0 (words 4352 []))
+    ∷ call-line 1000000 (mark-as-finished 0 0 (some 1) (words 4352 []))
+    ∷ call-line 1000000 (piece-passed 0)
+    ∷ call-line 1000000 (question (listOfPicker get-download-queue 1000000))
+    ∷ call-line 1000000 (question (listOfPicker get-availability-vec 1000000))
+    ∷ call-line 1000000 (inc-refcount 0 (words 4352 []))
+    ∷ call-line 1000000 (question (listOfPiece blocks-for-piece 0 1000000))
+    ∷ call-line 1000000 (mark-as-downloading 0 1 (some 18446744073709551615) 2 (words 4352 []))
+    ∷ call-line 1000000 (pick-pieces (asking 78 13 3 3 (some 1) 1 (84 ∷ []) (0 ∷ 0 ∷ [])) 4351 (words 4352 (3903439985 ∷ [])))
+    ∷ call-line 15 (question (ofBlock is-downloaded 0 0))
+    ∷ [])
+    ≡ outcome stands image-3156
+    ∷ outcome (answered (replied (numbers ((some 16384) ∷ [])))) image-3156
+    ∷ outcome (answered (done 0)) image-3159
+    ∷ outcome (answered (replied nothing)) image-3159
+    ∷ outcome (answered (picked ((pieceBlock 0 0) ∷ []) 10280 (0 ∷ 20 ∷ 0 ∷ 1 ∷ 0 ∷ 0 ∷ 0 ∷ []) 0)) image-3159
+    ∷ outcome (answered (said true 0)) image-3163
+    ∷ outcome (answered (replied nothing)) image-3163
+    ∷ outcome (answered (done 0)) image-3163
+    ∷ outcome (answered (replied (numbers ((some 0) ∷ [])))) image-3163
+    ∷ outcome (answered (said true 0)) image-3168
+    ∷ outcome (answered (refused NotWriting)) image-3168
+    ∷ outcome (answered (done 0)) image-3170
+    ∷ outcome (answered (replied (numbers ((some 0) ∷ (some 0) ∷ (some 1) ∷ (some 0) ∷ (some 0) ∷ (some 1) ∷ (some 0) ∷ [])))) image-3170
+    ∷ outcome (answered (replied (numbers ((some 3) ∷ [])))) image-3170
+    ∷ outcome (answered (done 0)) image-3173
+    ∷ outcome (answered (replied (numbers ((some 1) ∷ (some 1) ∷ none ∷ [])))) image-3173
+    ∷ outcome (answered (refused OutOfRange)) image-3173
+    ∷ outcome (answered (picked [] 10240 (0 ∷ 2 ∷ 0 ∷ 0 ∷ 1 ∷ 0 ∷ 0 ∷ []) 1)) image-3173
+    ∷ outcome (answered (refused ShortMemory)) image-3173
+    ∷ []
+unfolding replaying
+calls-3156 = refl
+
+abbrev image-3242 : List ℕ
+image-3242 =
+    1 ∷ 0 ∷ 0 ∷ 0 ∷ 0 ∷ 0 ∷ 0 ∷ 213 ∷ 58 ∷ 0 ∷ 0 ∷ 64 ∷ 0 ∷ 0 ∷ 0 ∷ 0 ∷ 0 ∷ 0 ∷ 0 ∷ 0 ∷ 0 ∷ 0 ∷ 4 ∷ 1 ∷
+    2 ∷ 0 ∷ 0 ∷ 4 ∷ 4 ∷ 0 ∷ 0 ∷ 0 ∷ 0 ∷ 0 ∷
+    2 ∷ 0 ∷ 0 ∷ 4 ∷ 4 ∷ 0 ∷ 0 ∷ 0 ∷ 0 ∷ 0 ∷
+    2 ∷ 0 ∷ 0 ∷ 4 ∷ 4 ∷ 0 ∷ 0 ∷ 0 ∷ 0 ∷ 0 ∷
+    2 ∷ 0 ∷ 0 ∷ 4 ∷ 4 ∷ 0 ∷ 0 ∷ 0 ∷ 0 ∷ 0 ∷ []
+
+-- calls 3242 to 3244
+calls-3242 :
+    outcomes none
+    (new-line 1000000 54586 16384
+    ∷ call-line 1000000 (mark-as-canceled 2 0 (some 1) (words 4352 []))
+    ∷ call-line 16 (question (list-place 1099511627776))
+    ∷ [])
+    ≡ outcome stands image-3242
+    ∷ outcome (answered (done 0)) image-3242
+    ∷ outcome (answered (refused ShortMemory)) image-3242
+    ∷ []
+unfolding replaying
+calls-3242 = refl
+
+abbrev image-3366 : List ℕ
+image-3366 =
+    1 ∷ 0 ∷ 0 ∷ 0 ∷ 0 ∷ 0 ∷ 0 ∷ 128 ∷ 1 ∷ 0 ∷ 0 ∷ 128 ∷ 0 ∷ 0 ∷ 0 ∷ 0 ∷ 0 ∷ 0 ∷ 0 ∷ 0 ∷ 0 ∷ 0 ∷ 2 ∷ 1 ∷
+    2 ∷ 0 ∷ 0 ∷ 4 ∷ 4 ∷ 0 ∷ 0 ∷ 0 ∷ 0 ∷ 0 ∷
+    2 ∷ 0 ∷ 0 ∷ 4 ∷ 4 ∷ 0 ∷ 0 ∷ 0 ∷ 0 ∷ 0 ∷ []
+
+abbrev image-3371 : List ℕ
+image-3371 =
+    1 ∷ 0 ∷ 0 ∷ 0 ∷ 0 ∷ 0 ∷ 0 ∷ 128 ∷ 1 ∷ 0 ∷ 0 ∷ 128 ∷ 0 ∷ 0 ∷ 0 ∷ 0 ∷ 0 ∷ 0 ∷ 0 ∷ 0 ∷ 0 ∷ 0 ∷ 2 ∷ 1 ∷
+    2 ∷ 0 ∷ 0 ∷ 4 ∷ 4 ∷ 0 ∷ 0 ∷ 0 ∷ 0 ∷ 0 ∷
+    2 ∷ 0 ∷ 1 ∷ 4 ∷ 4 ∷ 0 ∷ 0 ∷ 0 ∷ 0 ∷ 0 ∷ []
+
+-- calls 3366 to 3373
+calls-3366 :
+    outcomes none
+    (new-line 1000000 32769 32768
+    ∷ call-line 1000000 (abort-download 1 0 (some 2) (words 4352 []))
+    ∷ call-line 1000000 (piece-passed 0)
+    ∷ call-line 1000000 (mark-as-downloading 1 0 (some 0) 128 (words 0 []))
+    ∷ call-line 1000000 (question (ofPiece peer-count 2147483648))
+    ∷ call-line 1000000 (inc-refcount 1 (words 4352 []))
+    ∷ call-line 1000000 (pick-pieces (asking 62624 40 2 3 (some 1) 2 (255 ∷ []) []) 4351 (words 4352 (5 ∷ [])))
+    ∷ call-line 1000000 (question (partial-at 1099511627776))
+    ∷ [])
+    ≡ outcome stands image-3366
+    ∷ outcome (answered (done 0)) image-3366
+    ∷ outcome (answered (done 0)) image-3366
+    ∷ outcome (answered (refused FewDraws)) image-3366
+    ∷ outcome (answered (refused OutOfRange)) image-3366
+    ∷ outcome (answered (done 0)) image-3371
+    ∷ outcome (answered (picked ((pieceBlock 1 0) ∷ (pieceBlock 0 0) ∷ (pieceBlock 0 1) ∷ []) 11264 (0 ∷ 0 ∷ 0 ∷ 0 ∷ 0 ∷ 1 ∷ 0 ∷ []) 1)) image-3371
+    ∷ outcome (answered (replied nothing)) image-3371
+    ∷ []
+unfolding replaying
+calls-3366 = refl
+
+abbrev image-3396 : List ℕ
+image-3396 =
+    1 ∷ 0 ∷ 0 ∷ 0 ∷ 0 ∷ 0 ∷ 2 ∷ 5 ∷ 185 ∷ 0 ∷ 0 ∷ 128 ∷ 0 ∷ 0 ∷ 1 ∷ 0 ∷ 0 ∷ 0 ∷ 5 ∷ 0 ∷ 0 ∷ 0 ∷ 0 ∷ 1 ∷
+    2 ∷ 0 ∷ 1 ∷ 4 ∷ 7 ∷ 0 ∷ 0 ∷ 0 ∷ 0 ∷ 1 ∷
+    2 ∷ 0 ∷ 1 ∷ 3 ∷ 4 ∷ 0 ∷ 0 ∷ 0 ∷ 0 ∷ 0 ∷
+    2 ∷ 0 ∷ 1 ∷ 1 ∷ 1 ∷ 0 ∷ 0 ∷ 0 ∷ 0 ∷ 0 ∷
+    2 ∷ 0 ∷ 3 ∷ 1 ∷ 7 ∷ 0 ∷ 0 ∷ 0 ∷ 0 ∷ 0 ∷
+    2 ∷ 0 ∷ 2 ∷ 2 ∷ 7 ∷ 0 ∷ 0 ∷ 0 ∷ 0 ∷ 0 ∷
+    3 ∷ 0 ∷ 0 ∷ 0 ∷ 1 ∷ 0 ∷
+    4 ∷ 0 ∷ 0 ∷ 1 ∷ 1 ∷ 0 ∷ 0 ∷ 0 ∷ 0 ∷ 0 ∷ 0 ∷ 0 ∷ 3 ∷
+    4 ∷ 0 ∷ 0 ∷ 0 ∷ 1 ∷ 0 ∷ 0 ∷ 0 ∷ 0 ∷ 0 ∷ 0 ∷ 0 ∷ 1 ∷
+    3 ∷ 0 ∷ 0 ∷ 0 ∷ 2 ∷ 6 ∷
+    4 ∷ 1 ∷ 0 ∷ 1 ∷ 1 ∷ 0 ∷ 0 ∷ 0 ∷ 0 ∷ 0 ∷ 0 ∷ 0 ∷ 1 ∷
+    4 ∷ 1 ∷ 0 ∷ 1 ∷ 1 ∷ 255 ∷ 255 ∷ 255 ∷ 255 ∷ 255 ∷ 255 ∷ 255 ∷ 255 ∷
     3 ∷ 0 ∷ 0 ∷ 0 ∷ 3 ∷ 0 ∷
-    4 ∷ 0 ∷ 0 ∷ 0 ∷ 1 ∷ 255 ∷ 255 ∷ 255 ∷ 255 ∷ 255 ∷ 255 ∷ 255 ∷ 255 ∷
+    4 ∷ 1 ∷ 0 ∷ 0 ∷ 1 ∷ 0 ∷ 0 ∷ 0 ∷ 0 ∷ 0 ∷ 0 ∷ 0 ∷ 2 ∷
+    4 ∷ 1 ∷ 0 ∷ 0 ∷ 1 ∷ 0 ∷ 0 ∷ 0 ∷ 0 ∷ 0 ∷ 0 ∷ 0 ∷ 2 ∷
+    3 ∷ 0 ∷ 0 ∷ 0 ∷ 4 ∷ 0 ∷
+    4 ∷ 2 ∷ 0 ∷ 0 ∷ 1 ∷ 0 ∷ 0 ∷ 0 ∷ 0 ∷ 0 ∷ 0 ∷ 0 ∷ 1 ∷
     5 ∷ 0 ∷ 0 ∷ 0 ∷ 0 ∷ []
 
-abbrev image-3456 : List ℕ
-image-3456 =
-    1 ∷ 0 ∷ 0 ∷ 0 ∷ 0 ∷ 0 ∷ 1 ∷ 128 ∷ 1 ∷ 0 ∷ 0 ∷ 128 ∷ 0 ∷ 0 ∷ 1 ∷ 0 ∷ 0 ∷ 0 ∷ 1 ∷ 0 ∷ 0 ∷ 0 ∷ 0 ∷ 0 ∷
-    2 ∷ 0 ∷ 4 ∷ 4 ∷ 0 ∷ 0 ∷ 0 ∷ 0 ∷ 0 ∷ 0 ∷
-    2 ∷ 0 ∷ 1 ∷ 4 ∷ 4 ∷ 0 ∷ 0 ∷ 0 ∷ 0 ∷ 1 ∷
-    2 ∷ 0 ∷ 2 ∷ 4 ∷ 4 ∷ 0 ∷ 0 ∷ 0 ∷ 64 ∷ 1 ∷
-    2 ∷ 0 ∷ 0 ∷ 3 ∷ 0 ∷ 0 ∷ 0 ∷ 0 ∷ 0 ∷ 0 ∷
+abbrev image-3397 : List ℕ
+image-3397 =
+    1 ∷ 0 ∷ 0 ∷ 0 ∷ 0 ∷ 0 ∷ 2 ∷ 5 ∷ 185 ∷ 0 ∷ 0 ∷ 128 ∷ 0 ∷ 0 ∷ 1 ∷ 0 ∷ 0 ∷ 0 ∷ 5 ∷ 0 ∷ 0 ∷ 0 ∷ 0 ∷ 0 ∷
+    2 ∷ 0 ∷ 1 ∷ 4 ∷ 7 ∷ 0 ∷ 0 ∷ 0 ∷ 0 ∷ 1 ∷
+    2 ∷ 0 ∷ 1 ∷ 3 ∷ 4 ∷ 0 ∷ 0 ∷ 0 ∷ 0 ∷ 0 ∷
+    2 ∷ 0 ∷ 1 ∷ 1 ∷ 1 ∷ 0 ∷ 0 ∷ 0 ∷ 0 ∷ 0 ∷
+    2 ∷ 0 ∷ 3 ∷ 1 ∷ 7 ∷ 0 ∷ 0 ∷ 0 ∷ 0 ∷ 0 ∷
+    2 ∷ 0 ∷ 2 ∷ 2 ∷ 7 ∷ 0 ∷ 0 ∷ 0 ∷ 0 ∷ 0 ∷
+    3 ∷ 0 ∷ 0 ∷ 0 ∷ 1 ∷ 0 ∷
+    4 ∷ 0 ∷ 0 ∷ 1 ∷ 1 ∷ 0 ∷ 0 ∷ 0 ∷ 0 ∷ 0 ∷ 0 ∷ 0 ∷ 3 ∷
+    4 ∷ 0 ∷ 0 ∷ 0 ∷ 1 ∷ 0 ∷ 0 ∷ 0 ∷ 0 ∷ 0 ∷ 0 ∷ 0 ∷ 1 ∷
+    3 ∷ 0 ∷ 0 ∷ 0 ∷ 2 ∷ 6 ∷
+    4 ∷ 1 ∷ 0 ∷ 1 ∷ 1 ∷ 0 ∷ 0 ∷ 0 ∷ 0 ∷ 0 ∷ 0 ∷ 0 ∷ 1 ∷
+    4 ∷ 1 ∷ 0 ∷ 1 ∷ 1 ∷ 255 ∷ 255 ∷ 255 ∷ 255 ∷ 255 ∷ 255 ∷ 255 ∷ 255 ∷
     3 ∷ 0 ∷ 0 ∷ 0 ∷ 3 ∷ 0 ∷
-    4 ∷ 0 ∷ 0 ∷ 0 ∷ 1 ∷ 255 ∷ 255 ∷ 255 ∷ 255 ∷ 255 ∷ 255 ∷ 255 ∷ 255 ∷
+    4 ∷ 1 ∷ 0 ∷ 0 ∷ 1 ∷ 0 ∷ 0 ∷ 0 ∷ 0 ∷ 0 ∷ 0 ∷ 0 ∷ 2 ∷
+    4 ∷ 1 ∷ 0 ∷ 0 ∷ 1 ∷ 0 ∷ 0 ∷ 0 ∷ 0 ∷ 0 ∷ 0 ∷ 0 ∷ 2 ∷
+    3 ∷ 0 ∷ 0 ∷ 0 ∷ 4 ∷ 0 ∷
+    4 ∷ 2 ∷ 0 ∷ 0 ∷ 1 ∷ 0 ∷ 0 ∷ 0 ∷ 0 ∷ 0 ∷ 0 ∷ 0 ∷ 1 ∷
     5 ∷ 0 ∷ 0 ∷ 0 ∷ 0 ∷
-    6 ∷ 0 ∷ 0 ∷ 0 ∷ 1 ∷
-    6 ∷ 0 ∷ 0 ∷ 0 ∷ 2 ∷ []
-
-abbrev image-3457 : List ℕ
-image-3457 =
-    1 ∷ 0 ∷ 0 ∷ 0 ∷ 0 ∷ 0 ∷ 1 ∷ 128 ∷ 1 ∷ 0 ∷ 0 ∷ 128 ∷ 0 ∷ 0 ∷ 1 ∷ 0 ∷ 0 ∷ 0 ∷ 1 ∷ 0 ∷ 0 ∷ 0 ∷ 0 ∷ 0 ∷
-    2 ∷ 0 ∷ 4 ∷ 4 ∷ 0 ∷ 0 ∷ 0 ∷ 0 ∷ 0 ∷ 0 ∷
-    2 ∷ 0 ∷ 1 ∷ 4 ∷ 4 ∷ 0 ∷ 0 ∷ 0 ∷ 0 ∷ 1 ∷
-    2 ∷ 0 ∷ 2 ∷ 4 ∷ 4 ∷ 0 ∷ 0 ∷ 0 ∷ 64 ∷ 1 ∷
-    2 ∷ 0 ∷ 0 ∷ 3 ∷ 0 ∷ 0 ∷ 0 ∷ 0 ∷ 0 ∷ 0 ∷
-    3 ∷ 0 ∷ 0 ∷ 0 ∷ 3 ∷ 0 ∷
-    4 ∷ 1 ∷ 0 ∷ 1 ∷ 0 ∷ 0 ∷ 0 ∷ 0 ∷ 0 ∷ 0 ∷ 0 ∷ 0 ∷ 0 ∷
-    5 ∷ 0 ∷ 0 ∷ 0 ∷ 0 ∷
-    6 ∷ 0 ∷ 0 ∷ 0 ∷ 1 ∷
-    6 ∷ 0 ∷ 0 ∷ 0 ∷ 2 ∷ []
-
-abbrev image-3458 : List ℕ
-image-3458 =
-    1 ∷ 0 ∷ 0 ∷ 0 ∷ 0 ∷ 0 ∷ 1 ∷ 128 ∷ 1 ∷ 0 ∷ 0 ∷ 128 ∷ 0 ∷ 0 ∷ 1 ∷ 0 ∷ 0 ∷ 0 ∷ 1 ∷ 0 ∷ 0 ∷ 0 ∷ 0 ∷ 0 ∷
-    2 ∷ 0 ∷ 4 ∷ 4 ∷ 0 ∷ 0 ∷ 0 ∷ 0 ∷ 0 ∷ 0 ∷
-    2 ∷ 0 ∷ 1 ∷ 4 ∷ 4 ∷ 0 ∷ 0 ∷ 0 ∷ 0 ∷ 1 ∷
-    2 ∷ 0 ∷ 2 ∷ 2 ∷ 4 ∷ 0 ∷ 0 ∷ 0 ∷ 64 ∷ 1 ∷
-    2 ∷ 0 ∷ 0 ∷ 3 ∷ 0 ∷ 0 ∷ 0 ∷ 0 ∷ 0 ∷ 0 ∷
-    3 ∷ 0 ∷ 0 ∷ 0 ∷ 2 ∷ 0 ∷
-    4 ∷ 3 ∷ 0 ∷ 0 ∷ 0 ∷ 0 ∷ 0 ∷ 0 ∷ 0 ∷ 0 ∷ 0 ∷ 0 ∷ 0 ∷
-    4 ∷ 3 ∷ 0 ∷ 0 ∷ 0 ∷ 0 ∷ 0 ∷ 0 ∷ 0 ∷ 0 ∷ 0 ∷ 0 ∷ 0 ∷
-    3 ∷ 0 ∷ 0 ∷ 0 ∷ 3 ∷ 0 ∷
-    4 ∷ 1 ∷ 0 ∷ 1 ∷ 0 ∷ 0 ∷ 0 ∷ 0 ∷ 0 ∷ 0 ∷ 0 ∷ 0 ∷ 0 ∷
-    5 ∷ 0 ∷ 0 ∷ 0 ∷ 0 ∷
+    6 ∷ 0 ∷ 0 ∷ 0 ∷ 0 ∷
     6 ∷ 0 ∷ 0 ∷ 0 ∷ 1 ∷ []
 
-abbrev image-3465 : List ℕ
-image-3465 =
-    1 ∷ 0 ∷ 0 ∷ 0 ∷ 0 ∷ 0 ∷ 1 ∷ 128 ∷ 1 ∷ 0 ∷ 0 ∷ 128 ∷ 0 ∷ 0 ∷ 1 ∷ 0 ∷ 0 ∷ 0 ∷ 1 ∷ 0 ∷ 0 ∷ 0 ∷ 0 ∷ 0 ∷
-    2 ∷ 0 ∷ 4 ∷ 4 ∷ 0 ∷ 0 ∷ 0 ∷ 0 ∷ 0 ∷ 0 ∷
-    2 ∷ 0 ∷ 1 ∷ 4 ∷ 4 ∷ 0 ∷ 0 ∷ 0 ∷ 0 ∷ 1 ∷
-    2 ∷ 0 ∷ 2 ∷ 2 ∷ 4 ∷ 0 ∷ 0 ∷ 0 ∷ 64 ∷ 1 ∷
-    2 ∷ 0 ∷ 0 ∷ 4 ∷ 0 ∷ 0 ∷ 0 ∷ 0 ∷ 0 ∷ 0 ∷
-    3 ∷ 0 ∷ 0 ∷ 0 ∷ 2 ∷ 0 ∷
-    4 ∷ 3 ∷ 0 ∷ 0 ∷ 0 ∷ 0 ∷ 0 ∷ 0 ∷ 0 ∷ 0 ∷ 0 ∷ 0 ∷ 0 ∷
-    4 ∷ 3 ∷ 0 ∷ 0 ∷ 0 ∷ 0 ∷ 0 ∷ 0 ∷ 0 ∷ 0 ∷ 0 ∷ 0 ∷ 0 ∷
+abbrev image-3398 : List ℕ
+image-3398 =
+    1 ∷ 0 ∷ 0 ∷ 0 ∷ 0 ∷ 0 ∷ 2 ∷ 5 ∷ 185 ∷ 0 ∷ 0 ∷ 128 ∷ 0 ∷ 0 ∷ 1 ∷ 0 ∷ 0 ∷ 0 ∷ 5 ∷ 0 ∷ 0 ∷ 0 ∷ 0 ∷ 0 ∷
+    2 ∷ 0 ∷ 1 ∷ 4 ∷ 7 ∷ 0 ∷ 0 ∷ 0 ∷ 0 ∷ 1 ∷
+    2 ∷ 0 ∷ 1 ∷ 3 ∷ 4 ∷ 0 ∷ 0 ∷ 0 ∷ 0 ∷ 0 ∷
+    2 ∷ 0 ∷ 1 ∷ 1 ∷ 1 ∷ 0 ∷ 0 ∷ 0 ∷ 0 ∷ 0 ∷
+    2 ∷ 0 ∷ 3 ∷ 1 ∷ 7 ∷ 0 ∷ 0 ∷ 0 ∷ 0 ∷ 0 ∷
+    2 ∷ 0 ∷ 2 ∷ 2 ∷ 7 ∷ 0 ∷ 0 ∷ 0 ∷ 0 ∷ 0 ∷
+    3 ∷ 0 ∷ 0 ∷ 0 ∷ 1 ∷ 0 ∷
+    4 ∷ 0 ∷ 0 ∷ 1 ∷ 1 ∷ 0 ∷ 0 ∷ 0 ∷ 0 ∷ 0 ∷ 0 ∷ 0 ∷ 3 ∷
+    4 ∷ 0 ∷ 0 ∷ 0 ∷ 1 ∷ 0 ∷ 0 ∷ 0 ∷ 0 ∷ 0 ∷ 0 ∷ 0 ∷ 1 ∷
+    3 ∷ 0 ∷ 0 ∷ 0 ∷ 2 ∷ 6 ∷
+    4 ∷ 1 ∷ 0 ∷ 1 ∷ 1 ∷ 0 ∷ 0 ∷ 0 ∷ 0 ∷ 0 ∷ 0 ∷ 0 ∷ 1 ∷
+    4 ∷ 2 ∷ 0 ∷ 0 ∷ 1 ∷ 0 ∷ 0 ∷ 0 ∷ 0 ∷ 0 ∷ 0 ∷ 0 ∷ 1 ∷
+    3 ∷ 0 ∷ 0 ∷ 0 ∷ 3 ∷ 0 ∷
+    4 ∷ 1 ∷ 0 ∷ 0 ∷ 1 ∷ 0 ∷ 0 ∷ 0 ∷ 0 ∷ 0 ∷ 0 ∷ 0 ∷ 2 ∷
+    4 ∷ 1 ∷ 0 ∷ 0 ∷ 1 ∷ 0 ∷ 0 ∷ 0 ∷ 0 ∷ 0 ∷ 0 ∷ 0 ∷ 2 ∷
+    3 ∷ 0 ∷ 0 ∷ 0 ∷ 4 ∷ 0 ∷
+    4 ∷ 2 ∷ 0 ∷ 0 ∷ 1 ∷ 0 ∷ 0 ∷ 0 ∷ 0 ∷ 0 ∷ 0 ∷ 0 ∷ 1 ∷
     5 ∷ 0 ∷ 0 ∷ 0 ∷ 0 ∷
+    6 ∷ 0 ∷ 0 ∷ 0 ∷ 0 ∷
     6 ∷ 0 ∷ 0 ∷ 0 ∷ 1 ∷ []
 
--- calls 3452 to 3466
-calls-3452 :
+-- calls 3396 to 3399
+calls-3396 :
     outcomes none
-    (read-line 1000000 image-3452
-    ∷ call-line 1000000 (dec-refcount 3 (words 4352 []))
-    ∷ call-line 1000000 (pick-pieces (asking 44 300 2 10 (some 18446744073709551615) 4 (8 ∷ []) (1 ∷ [])) 4351 (words 4352 (1946761597 ∷ [])))
-    ∷ call-line 1000000 (lock-piece 2147483648)
-    ∷ call-line 1000000 (pick-pieces (asking 250 1 0 5 none 4 (255 ∷ []) []) 4351 (words 4352 []))
-    ∷ call-line 1000000 (mark-as-downloading 3 0 none 2 (words 4352 []))
-    ∷ call-line 1000000 (mark-as-finished 2 0 none (words 4352 []))
-    ∷ call-line 1000000 (pick-pieces (asking 206 3 0 1000 (some 3) 4 (51 ∷ []) []) 4351 (words 5000 (1151299728 ∷ [])))
-    ∷ call-line 1000000 (question (ofBlock block-peer 3 0))
-    ∷ call-line 84 (mark-as-finished 3 0 (some 1) (words 5000 []))
-    ∷ call-line 1000000 (mark-as-downloading 2 0 (some 1) 2 (words 4352 []))
-    ∷ image-line 1000000 1000000
-    ∷ call-line 1000000 (pick-pieces (asking 198 2047 2047 0 (some 0) 4 (124 ∷ []) []) 4351 (words 4352 (4211839219 ∷ [])))
-    ∷ call-line 1000000 (abort-download 3 0 (some 0) (words 4352 []))
-    ∷ call-line 15 (question (ofBlock block-peer 2 0))
+    (read-line 1000000 image-3396
+    ∷ call-line 1000000 (pick-pieces (asking 152 5 10 1 (some 18446744073709551615) 5 (4 ∷ []) []) 4351 (words 4352 []))
+    ∷ call-line 1000000 (mark-as-writing 2 1 (some 1) (words 4352 []))
+    ∷ call-line 1000000 (question (ofBlock block-state 4 0))
     ∷ [])
-    ≡ outcome stands image-3452
-    ∷ outcome (answered (done 0)) image-3453
-    ∷ outcome (answered (picked [] 10240 (0 ∷ 1 ∷ 0 ∷ 0 ∷ 4 ∷ 0 ∷ 0 ∷ []) 1)) image-3453
-    ∷ outcome (answered (refused 5)) image-3453
-    ∷ outcome (answered (picked ((pieceBlock 2 0) ∷ []) 16 (0 ∷ 0 ∷ 1 ∷ 0 ∷ 0 ∷ 0 ∷ 0 ∷ []) 0)) image-3456
-    ∷ outcome (answered (said true 0)) image-3457
-    ∷ outcome (answered (done 0)) image-3458
-    ∷ outcome (answered (picked [] 9216 (0 ∷ 0 ∷ 0 ∷ 0 ∷ 3 ∷ 0 ∷ 0 ∷ []) 1)) image-3458
-    ∷ outcome (answered (told (numbers (none ∷ [])))) image-3458
-    ∷ outcome (answered (refused 9)) image-3458
-    ∷ outcome (answered (said false 0)) image-3458
-    ∷ outcome (bytesTaken (1 ∷ 0 ∷ 0 ∷ 0 ∷ 0 ∷ 0 ∷ 1 ∷ 128 ∷ 1 ∷ 0 ∷ 0 ∷ 128 ∷ 0 ∷ 0 ∷ 1 ∷ 0 ∷ 0 ∷ 0 ∷ 1 ∷ 0 ∷ 0 ∷ 0 ∷ 0 ∷ 0 ∷ 2 ∷ 0 ∷ 4 ∷ 4 ∷ 0 ∷ 0 ∷ 0 ∷ 0 ∷ 0 ∷ 0 ∷ 2 ∷ 0 ∷ 1 ∷ 4 ∷ 4 ∷ 0 ∷ 0 ∷ 0 ∷ 0 ∷ 1 ∷ 2 ∷ 0 ∷ 2 ∷ 2 ∷ 4 ∷ 0 ∷ 0 ∷ 0 ∷ 64 ∷ 1 ∷ 2 ∷ 0 ∷ 0 ∷ 3 ∷ 0 ∷ 0 ∷ 0 ∷ 0 ∷ 0 ∷ 0 ∷ 3 ∷ 0 ∷ 0 ∷ 0 ∷ 2 ∷ 0 ∷ 4 ∷ 3 ∷ 0 ∷ 0 ∷ 0 ∷ 0 ∷ 0 ∷ 0 ∷ 0 ∷ 0 ∷ 0 ∷ 0 ∷ 0 ∷ 4 ∷ 3 ∷ 0 ∷ 0 ∷ 0 ∷ 0 ∷ 0 ∷ 0 ∷ 0 ∷ 0 ∷ 0 ∷ 0 ∷ 0 ∷ 3 ∷ 0 ∷ 0 ∷ 0 ∷ 3 ∷ 0 ∷ 4 ∷ 1 ∷ 0 ∷ 1 ∷ 0 ∷ 0 ∷ 0 ∷ 0 ∷ 0 ∷ 0 ∷ 0 ∷ 0 ∷ 0 ∷ 5 ∷ 0 ∷ 0 ∷ 0 ∷ 0 ∷ 6 ∷ 0 ∷ 0 ∷ 0 ∷ 1 ∷ [])) image-3458
-    ∷ outcome (answered (picked ((pieceBlock 1 0) ∷ (pieceBlock 1 1) ∷ []) 11264 (0 ∷ 0 ∷ 0 ∷ 0 ∷ 2 ∷ 2 ∷ 0 ∷ []) 1)) image-3458
-    ∷ outcome (answered (done 0)) image-3465
-    ∷ outcome (answered (refused 2)) image-3465
+    ≡ outcome stands image-3396
+    ∷ outcome (answered (picked [] 10240 (0 ∷ 0 ∷ 0 ∷ 2 ∷ 0 ∷ 0 ∷ 0 ∷ []) 0)) image-3397
+    ∷ outcome (answered (said true 0)) image-3398
+    ∷ outcome (answered (replied (numbers ((some 2) ∷ [])))) image-3398
     ∷ []
 unfolding replaying
-calls-3452 = refl
+calls-3396 = refl
 
--- call 3602
-calls-3602 :
-    outcomes none
-    (new-line 1000000 0 5
-    ∷ [])
-    ≡ outcome (refusedAt 1 none) []
-    ∷ []
-unfolding replaying
-calls-3602 = refl
-
-abbrev image-3634 : List ℕ
-image-3634 =
-    1 ∷ 0 ∷ 0 ∷ 0 ∷ 0 ∷ 0 ∷ 1 ∷ 0 ∷ 1 ∷ 0 ∷ 1 ∷ 0 ∷ 0 ∷ 0 ∷ 2 ∷ 0 ∷ 0 ∷ 0 ∷ 1 ∷ 0 ∷ 0 ∷ 0 ∷ 0 ∷ 0 ∷
-    2 ∷ 0 ∷ 1 ∷ 4 ∷ 6 ∷ 0 ∷ 0 ∷ 0 ∷ 0 ∷ 0 ∷
-    2 ∷ 0 ∷ 0 ∷ 4 ∷ 7 ∷ 0 ∷ 0 ∷ 0 ∷ 0 ∷ 0 ∷
+abbrev image-3426 : List ℕ
+image-3426 =
+    1 ∷ 0 ∷ 0 ∷ 0 ∷ 0 ∷ 0 ∷ 1 ∷ 237 ∷ 19 ∷ 0 ∷ 0 ∷ 128 ∷ 0 ∷ 0 ∷ 0 ∷ 0 ∷ 0 ∷ 0 ∷ 3 ∷ 0 ∷ 0 ∷ 0 ∷ 0 ∷ 0 ∷
+    2 ∷ 3 ∷ 231 ∷ 4 ∷ 4 ∷ 0 ∷ 0 ∷ 0 ∷ 0 ∷ 0 ∷
+    2 ∷ 3 ∷ 231 ∷ 4 ∷ 7 ∷ 0 ∷ 0 ∷ 0 ∷ 64 ∷ 1 ∷
+    2 ∷ 3 ∷ 231 ∷ 4 ∷ 4 ∷ 0 ∷ 0 ∷ 0 ∷ 0 ∷ 0 ∷
+    2 ∷ 0 ∷ 1 ∷ 4 ∷ 4 ∷ 1 ∷ 0 ∷ 0 ∷ 0 ∷ 0 ∷
+    5 ∷ 0 ∷ 0 ∷ 0 ∷ 0 ∷
     6 ∷ 0 ∷ 0 ∷ 0 ∷ 1 ∷
-    6 ∷ 0 ∷ 0 ∷ 0 ∷ 0 ∷ []
+    6 ∷ 0 ∷ 0 ∷ 0 ∷ 0 ∷
+    6 ∷ 0 ∷ 0 ∷ 0 ∷ 2 ∷ []
+
+-- calls 3426 to 3429
+calls-3426 :
+    outcomes none
+    (read-line 1000000 image-3426
+    ∷ call-line 1000000 (question (listOfPicker get-availability-vec 1000000))
+    ∷ call-line 1000000 (question (ofBlock num-peers-block 0 3))
+    ∷ [])
+    ≡ outcome stands image-3426
+    ∷ outcome (answered (replied (numbers ((some 999) ∷ (some 999) ∷ (some 999) ∷ (some 1) ∷ [])))) image-3426
+    ∷ outcome (answered (refused OutOfRange)) image-3426
+    ∷ []
+unfolding replaying
+calls-3426 = refl
+
+abbrev image-3546 : List ℕ
+image-3546 =
+    1 ∷ 0 ∷ 0 ∷ 0 ∷ 0 ∷ 0 ∷ 0 ∷ 0 ∷ 1 ∷ 0 ∷ 0 ∷ 0 ∷ 3 ∷ 0 ∷ 1 ∷ 0 ∷ 0 ∷ 0 ∷ 1 ∷ 0 ∷ 0 ∷ 0 ∷ 0 ∷ 1 ∷
+    2 ∷ 0 ∷ 1 ∷ 4 ∷ 7 ∷ 0 ∷ 0 ∷ 0 ∷ 0 ∷ 0 ∷ []
+
+-- calls 3546 to 3551
+calls-3546 :
+    outcomes none
+    (read-line 1000000 image-3546
+    ∷ call-line 1000000 (dec-refcount 2147483648 (words 5000 []))
+    ∷ call-line 1000000 (pick-pieces (asking 228 8 0 1001 (some 0) 1 (142 ∷ []) []) 4351 (words 4352 []))
+    ∷ call-line 15 (abort-download 0 0 (some 0) (words 5000 []))
+    ∷ call-line 1000000 (question (listOfPiece blocks-for-piece 0 1000000))
+    ∷ call-line 1000000 (mark-as-finished 0 4294967296 (some 2) (words 4352 []))
+    ∷ [])
+    ≡ outcome stands image-3546
+    ∷ outcome (answered (refused OutOfRange)) image-3546
+    ∷ outcome (answered (refused PickArguments)) image-3546
+    ∷ outcome (answered (refused ShortMemory)) image-3546
+    ∷ outcome (answered (replied nothing)) image-3546
+    ∷ outcome (answered (refused OutOfRange)) image-3546
+    ∷ []
+unfolding replaying
+calls-3546 = refl
+
+abbrev image-3576 : List ℕ
+image-3576 =
+    1 ∷ 0 ∷ 0 ∷ 0 ∷ 0 ∷ 0 ∷ 0 ∷ 88 ∷ 153 ∷ 0 ∷ 0 ∷ 64 ∷ 0 ∷ 0 ∷ 0 ∷ 0 ∷ 0 ∷ 0 ∷ 0 ∷ 0 ∷ 0 ∷ 0 ∷ 2 ∷ 1 ∷
+    2 ∷ 0 ∷ 0 ∷ 4 ∷ 4 ∷ 0 ∷ 0 ∷ 0 ∷ 0 ∷ 0 ∷
+    2 ∷ 0 ∷ 0 ∷ 4 ∷ 4 ∷ 0 ∷ 0 ∷ 0 ∷ 0 ∷ 0 ∷ []
+
+abbrev image-3577 : List ℕ
+image-3577 =
+    1 ∷ 0 ∷ 0 ∷ 0 ∷ 0 ∷ 0 ∷ 0 ∷ 88 ∷ 153 ∷ 0 ∷ 0 ∷ 64 ∷ 0 ∷ 0 ∷ 0 ∷ 0 ∷ 0 ∷ 0 ∷ 0 ∷ 0 ∷ 0 ∷ 0 ∷ 2 ∷ 1 ∷
+    2 ∷ 0 ∷ 0 ∷ 2 ∷ 4 ∷ 0 ∷ 0 ∷ 0 ∷ 0 ∷ 0 ∷
+    2 ∷ 0 ∷ 0 ∷ 4 ∷ 4 ∷ 0 ∷ 0 ∷ 0 ∷ 0 ∷ 0 ∷
+    3 ∷ 0 ∷ 0 ∷ 0 ∷ 0 ∷ 0 ∷
+    4 ∷ 2 ∷ 0 ∷ 0 ∷ 1 ∷ 255 ∷ 255 ∷ 255 ∷ 255 ∷ 255 ∷ 255 ∷ 255 ∷ 255 ∷ []
+
+abbrev image-3582 : List ℕ
+image-3582 =
+    1 ∷ 0 ∷ 0 ∷ 0 ∷ 0 ∷ 0 ∷ 0 ∷ 88 ∷ 153 ∷ 0 ∷ 0 ∷ 64 ∷ 0 ∷ 0 ∷ 0 ∷ 0 ∷ 0 ∷ 0 ∷ 0 ∷ 0 ∷ 0 ∷ 0 ∷ 2 ∷ 1 ∷
+    2 ∷ 0 ∷ 0 ∷ 4 ∷ 4 ∷ 0 ∷ 0 ∷ 0 ∷ 0 ∷ 0 ∷
+    2 ∷ 0 ∷ 0 ∷ 4 ∷ 4 ∷ 0 ∷ 0 ∷ 0 ∷ 0 ∷ 0 ∷ []
+
+-- calls 3576 to 3582
+calls-3576 :
+    outcomes none
+    (new-line 1000000 22681 16384
+    ∷ call-line 1000000 (mark-as-writing 0 0 (some 18446744073709551615) (words 4352 []))
+    ∷ call-line 1000000 (mark-as-writing 0 0 (some 18446744073709551615) (words 5000 []))
+    ∷ call-line 1000000 dec-refcount-all
+    ∷ call-line 1000000 (dec-refcount 0 (words 4352 []))
+    ∷ call-line 1000000 (question (listOfPiece blocks-for-piece 0 1000000))
+    ∷ call-line 1000000 (mark-as-canceled 0 0 (some 0) (words 4352 []))
+    ∷ [])
+    ≡ outcome stands image-3576
+    ∷ outcome (answered (said true 0)) image-3577
+    ∷ outcome (answered (said false 0)) image-3577
+    ∷ outcome (answered (refused NoPeerToTake)) image-3577
+    ∷ outcome (answered (refused NoPeerToTake)) image-3577
+    ∷ outcome (answered (replied (numbers ((some 2) ∷ (some 0) ∷ (some 18446744073709551615) ∷ [])))) image-3577
+    ∷ outcome (answered (done 0)) image-3582
+    ∷ []
+unfolding replaying
+calls-3576 = refl
 
 abbrev image-3636 : List ℕ
 image-3636 =
-    1 ∷ 0 ∷ 0 ∷ 0 ∷ 0 ∷ 0 ∷ 1 ∷ 0 ∷ 1 ∷ 0 ∷ 1 ∷ 0 ∷ 0 ∷ 0 ∷ 2 ∷ 0 ∷ 0 ∷ 0 ∷ 1 ∷ 0 ∷ 0 ∷ 0 ∷ 0 ∷ 0 ∷
-    2 ∷ 0 ∷ 2 ∷ 4 ∷ 6 ∷ 0 ∷ 0 ∷ 0 ∷ 0 ∷ 0 ∷
-    2 ∷ 0 ∷ 0 ∷ 4 ∷ 7 ∷ 0 ∷ 0 ∷ 0 ∷ 0 ∷ 0 ∷
-    6 ∷ 0 ∷ 0 ∷ 0 ∷ 1 ∷
+    1 ∷ 0 ∷ 0 ∷ 0 ∷ 0 ∷ 0 ∷ 0 ∷ 209 ∷ 115 ∷ 0 ∷ 0 ∷ 64 ∷ 0 ∷ 0 ∷ 0 ∷ 0 ∷ 0 ∷ 0 ∷ 4 ∷ 0 ∷ 0 ∷ 0 ∷ 0 ∷ 0 ∷
+    2 ∷ 3 ∷ 232 ∷ 4 ∷ 4 ∷ 0 ∷ 0 ∷ 0 ∷ 0 ∷ 0 ∷
+    2 ∷ 0 ∷ 2 ∷ 4 ∷ 0 ∷ 1 ∷ 0 ∷ 0 ∷ 0 ∷ 0 ∷
+    2 ∷ 0 ∷ 1 ∷ 4 ∷ 6 ∷ 0 ∷ 0 ∷ 0 ∷ 0 ∷ 0 ∷
+    2 ∷ 0 ∷ 0 ∷ 4 ∷ 4 ∷ 0 ∷ 0 ∷ 0 ∷ 0 ∷ 0 ∷
+    5 ∷ 0 ∷ 0 ∷ 0 ∷ 0 ∷
+    6 ∷ 0 ∷ 0 ∷ 0 ∷ 2 ∷
     6 ∷ 0 ∷ 0 ∷ 0 ∷ 0 ∷ []
 
--- calls 3634 to 3637
-calls-3634 :
+-- calls 3636 to 3637
+calls-3636 :
     outcomes none
-    (read-line 1000000 image-3634
-    ∷ call-line 1000000 (abort-download 0 2 (some 3) (words 5000 []))
-    ∷ call-line 1000000 (inc-refcount 0 (words 5000 []))
-    ∷ call-line 1000000 (question (ofBlock block-state 1 0))
+    (read-line 1000000 image-3636
+    ∷ call-line 1000000 (pick-pieces (asking 48588 3 2 1000 (some 3) 4 (8 ∷ []) (1 ∷ [])) 4351 (words 4352 (1 ∷ [])))
     ∷ [])
-    ≡ outcome stands image-3634
-    ∷ outcome (answered (done 0)) image-3634
-    ∷ outcome (answered (done 0)) image-3636
-    ∷ outcome (answered (told nothing)) image-3636
+    ≡ outcome stands image-3636
+    ∷ outcome (answered (picked [] 10240 (0 ∷ 1 ∷ 0 ∷ 0 ∷ 4 ∷ 0 ∷ 0 ∷ []) 1)) image-3636
     ∷ []
 unfolding replaying
-calls-3634 = refl
+calls-3636 = refl
 
-abbrev image-3649 : List ℕ
-image-3649 =
-    1 ∷ 0 ∷ 0 ∷ 0 ∷ 0 ∷ 0 ∷ 0 ∷ 0 ∷ 1 ∷ 0 ∷ 0 ∷ 0 ∷ 3 ∷ 0 ∷ 0 ∷ 0 ∷ 0 ∷ 0 ∷ 1 ∷ 0 ∷ 0 ∷ 0 ∷ 1 ∷ 0 ∷
-    2 ∷ 0 ∷ 0 ∷ 4 ∷ 4 ∷ 0 ∷ 0 ∷ 0 ∷ 0 ∷ 1 ∷ []
-
-abbrev image-3650 : List ℕ
-image-3650 =
-    1 ∷ 0 ∷ 0 ∷ 0 ∷ 0 ∷ 0 ∷ 0 ∷ 0 ∷ 1 ∷ 0 ∷ 0 ∷ 0 ∷ 3 ∷ 0 ∷ 0 ∷ 0 ∷ 0 ∷ 0 ∷ 1 ∷ 0 ∷ 0 ∷ 0 ∷ 1 ∷ 0 ∷
-    2 ∷ 0 ∷ 0 ∷ 1 ∷ 4 ∷ 0 ∷ 0 ∷ 0 ∷ 0 ∷ 1 ∷
+abbrev image-3846 : List ℕ
+image-3846 =
+    1 ∷ 0 ∷ 0 ∷ 0 ∷ 0 ∷ 0 ∷ 0 ∷ 167 ∷ 161 ∷ 0 ∷ 0 ∷ 128 ∷ 0 ∷ 0 ∷ 0 ∷ 0 ∷ 0 ∷ 0 ∷ 1 ∷ 0 ∷ 0 ∷ 0 ∷ 1 ∷ 0 ∷
+    2 ∷ 0 ∷ 1 ∷ 6 ∷ 6 ∷ 0 ∷ 0 ∷ 0 ∷ 0 ∷ 0 ∷
+    2 ∷ 3 ∷ 232 ∷ 4 ∷ 4 ∷ 0 ∷ 0 ∷ 0 ∷ 0 ∷ 0 ∷
     3 ∷ 0 ∷ 0 ∷ 0 ∷ 0 ∷ 0 ∷
-    4 ∷ 1 ∷ 0 ∷ 1 ∷ 1 ∷ 255 ∷ 255 ∷ 255 ∷ 255 ∷ 255 ∷ 255 ∷ 255 ∷ 255 ∷ []
+    4 ∷ 2 ∷ 0 ∷ 0 ∷ 1 ∷ 0 ∷ 0 ∷ 0 ∷ 0 ∷ 0 ∷ 0 ∷ 0 ∷ 2 ∷
+    4 ∷ 1 ∷ 0 ∷ 2 ∷ 1 ∷ 0 ∷ 0 ∷ 0 ∷ 0 ∷ 0 ∷ 0 ∷ 0 ∷ 1 ∷
+    6 ∷ 0 ∷ 0 ∷ 0 ∷ 0 ∷
+    6 ∷ 0 ∷ 0 ∷ 0 ∷ 1 ∷ []
 
-abbrev image-3653 : List ℕ
-image-3653 =
-    1 ∷ 0 ∷ 0 ∷ 0 ∷ 0 ∷ 0 ∷ 0 ∷ 0 ∷ 1 ∷ 0 ∷ 0 ∷ 0 ∷ 3 ∷ 0 ∷ 0 ∷ 0 ∷ 0 ∷ 0 ∷ 1 ∷ 0 ∷ 0 ∷ 0 ∷ 1 ∷ 0 ∷
-    2 ∷ 0 ∷ 0 ∷ 4 ∷ 4 ∷ 0 ∷ 0 ∷ 0 ∷ 0 ∷ 1 ∷ []
-
-abbrev image-3654 : List ℕ
-image-3654 =
-    1 ∷ 0 ∷ 0 ∷ 0 ∷ 0 ∷ 0 ∷ 0 ∷ 0 ∷ 1 ∷ 0 ∷ 0 ∷ 0 ∷ 3 ∷ 0 ∷ 0 ∷ 0 ∷ 0 ∷ 0 ∷ 1 ∷ 0 ∷ 0 ∷ 0 ∷ 1 ∷ 0 ∷
-    2 ∷ 0 ∷ 0 ∷ 2 ∷ 4 ∷ 0 ∷ 0 ∷ 0 ∷ 0 ∷ 1 ∷
+abbrev image-3851 : List ℕ
+image-3851 =
+    1 ∷ 0 ∷ 0 ∷ 0 ∷ 0 ∷ 0 ∷ 0 ∷ 167 ∷ 161 ∷ 0 ∷ 0 ∷ 128 ∷ 0 ∷ 0 ∷ 0 ∷ 0 ∷ 0 ∷ 0 ∷ 1 ∷ 0 ∷ 0 ∷ 0 ∷ 1 ∷ 0 ∷
+    2 ∷ 0 ∷ 1 ∷ 6 ∷ 6 ∷ 0 ∷ 0 ∷ 0 ∷ 0 ∷ 0 ∷
+    2 ∷ 3 ∷ 232 ∷ 4 ∷ 4 ∷ 0 ∷ 0 ∷ 0 ∷ 0 ∷ 0 ∷
     3 ∷ 0 ∷ 0 ∷ 0 ∷ 0 ∷ 0 ∷
-    4 ∷ 2 ∷ 0 ∷ 0 ∷ 0 ∷ 0 ∷ 0 ∷ 0 ∷ 0 ∷ 0 ∷ 0 ∷ 0 ∷ 0 ∷ []
+    4 ∷ 2 ∷ 0 ∷ 0 ∷ 1 ∷ 0 ∷ 0 ∷ 0 ∷ 0 ∷ 0 ∷ 0 ∷ 0 ∷ 2 ∷
+    4 ∷ 1 ∷ 0 ∷ 1 ∷ 1 ∷ 0 ∷ 0 ∷ 0 ∷ 0 ∷ 0 ∷ 0 ∷ 0 ∷ 1 ∷
+    6 ∷ 0 ∷ 0 ∷ 0 ∷ 0 ∷
+    6 ∷ 0 ∷ 0 ∷ 0 ∷ 1 ∷ []
 
-abbrev image-3658 : List ℕ
-image-3658 =
-    1 ∷ 0 ∷ 0 ∷ 0 ∷ 0 ∷ 0 ∷ 0 ∷ 0 ∷ 1 ∷ 0 ∷ 0 ∷ 0 ∷ 3 ∷ 0 ∷ 0 ∷ 0 ∷ 0 ∷ 0 ∷ 1 ∷ 0 ∷ 0 ∷ 0 ∷ 1 ∷ 0 ∷
-    2 ∷ 0 ∷ 0 ∷ 2 ∷ 4 ∷ 0 ∷ 0 ∷ 0 ∷ 0 ∷ 1 ∷
-    3 ∷ 0 ∷ 0 ∷ 0 ∷ 0 ∷ 1 ∷
-    4 ∷ 2 ∷ 0 ∷ 0 ∷ 0 ∷ 0 ∷ 0 ∷ 0 ∷ 0 ∷ 0 ∷ 0 ∷ 0 ∷ 0 ∷ []
+-- calls 3846 to 3857
+calls-3846 :
+    outcomes none
+    (read-line 1000000 image-3846
+    ∷ call-line 1000000 (pick-pieces (asking 86 1 0 0 (some 3) 1 (255 ∷ []) []) 4351 (words 5000 []))
+    ∷ call-line 1000000 (question (ofPiece peer-count 1))
+    ∷ call-line 1000000 (abort-download 0 0 (some 3) (words 4352 []))
+    ∷ call-line 1000000 (abort-download 0 1 (some 0) (words 4352 []))
+    ∷ call-line 1000000 (inc-refcount 1 (words 4352 []))
+    ∷ call-line 1000000 (question (ofPicker get-download-queue-sizes))
+    ∷ call-line 1000000 (mark-as-finished 0 1 (some 0) (words 4352 []))
+    ∷ new-line 1000000 5 0
+    ∷ call-line 1000000 (question (ofBlock block-num-peers 1 0))
+    ∷ [])
+    ≡ outcome stands image-3846
+    ∷ outcome (answered (refused PickArguments)) image-3846
+    ∷ outcome (answered (replied (numbers ((some 1000) ∷ [])))) image-3846
+    ∷ outcome (answered (done 0)) image-3846
+    ∷ outcome (answered (done 0)) image-3851
+    ∷ outcome (answered (refused TooManyPeers)) image-3851
+    ∷ outcome (answered (replied (numbers ((some 0) ∷ (some 1) ∷ (some 0) ∷ (some 0) ∷ [])))) image-3851
+    ∷ outcome (answered (refused NotWriting)) image-3851
+    ∷ outcome (notDone Geometry) image-3851
+    ∷ outcome (answered (replied nothing)) image-3851
+    ∷ []
+unfolding replaying
+calls-3846 = refl
 
-abbrev image-3659 : List ℕ
-image-3659 =
-    1 ∷ 0 ∷ 0 ∷ 0 ∷ 0 ∷ 0 ∷ 0 ∷ 0 ∷ 1 ∷ 0 ∷ 0 ∷ 0 ∷ 3 ∷ 0 ∷ 0 ∷ 0 ∷ 0 ∷ 0 ∷ 1 ∷ 0 ∷ 0 ∷ 0 ∷ 1 ∷ 0 ∷
-    2 ∷ 0 ∷ 0 ∷ 2 ∷ 4 ∷ 0 ∷ 0 ∷ 0 ∷ 0 ∷ 1 ∷
+abbrev image-3877 : List ℕ
+image-3877 =
+    1 ∷ 0 ∷ 0 ∷ 0 ∷ 0 ∷ 0 ∷ 0 ∷ 128 ∷ 0 ∷ 0 ∷ 0 ∷ 64 ∷ 0 ∷ 0 ∷ 2 ∷ 0 ∷ 0 ∷ 0 ∷ 1 ∷ 0 ∷ 0 ∷ 0 ∷ 1 ∷ 1 ∷
+    2 ∷ 0 ∷ 2 ∷ 4 ∷ 7 ∷ 0 ∷ 0 ∷ 0 ∷ 0 ∷ 0 ∷
+    2 ∷ 0 ∷ 3 ∷ 4 ∷ 1 ∷ 0 ∷ 0 ∷ 0 ∷ 64 ∷ 0 ∷ []
+
+abbrev image-3878 : List ℕ
+image-3878 =
+    1 ∷ 0 ∷ 0 ∷ 0 ∷ 0 ∷ 0 ∷ 0 ∷ 128 ∷ 0 ∷ 0 ∷ 0 ∷ 64 ∷ 0 ∷ 0 ∷ 2 ∷ 0 ∷ 0 ∷ 0 ∷ 1 ∷ 0 ∷ 0 ∷ 0 ∷ 1 ∷ 1 ∷
+    2 ∷ 0 ∷ 1 ∷ 4 ∷ 7 ∷ 0 ∷ 0 ∷ 0 ∷ 0 ∷ 0 ∷
+    2 ∷ 0 ∷ 3 ∷ 4 ∷ 1 ∷ 0 ∷ 0 ∷ 0 ∷ 64 ∷ 0 ∷ []
+
+-- calls 3877 to 3879
+calls-3877 :
+    outcomes none
+    (read-line 1000000 image-3877
+    ∷ call-line 1000000 (dec-refcount 0 (words 4352 []))
+    ∷ call-line 1000000 (abort-download 0 1 (some 18446744073709551615) (words 4352 []))
+    ∷ [])
+    ≡ outcome stands image-3877
+    ∷ outcome (answered (done 0)) image-3878
+    ∷ outcome (answered (refused OutOfRange)) image-3878
+    ∷ []
+unfolding replaying
+calls-3877 = refl
+
+abbrev image-3906 : List ℕ
+image-3906 =
+    1 ∷ 0 ∷ 0 ∷ 0 ∷ 0 ∷ 0 ∷ 1 ∷ 44 ∷ 76 ∷ 0 ∷ 0 ∷ 128 ∷ 0 ∷ 0 ∷ 0 ∷ 0 ∷ 0 ∷ 0 ∷ 0 ∷ 0 ∷ 0 ∷ 0 ∷ 3 ∷ 1 ∷
+    2 ∷ 0 ∷ 0 ∷ 4 ∷ 4 ∷ 0 ∷ 0 ∷ 0 ∷ 0 ∷ 0 ∷
+    2 ∷ 0 ∷ 0 ∷ 4 ∷ 4 ∷ 0 ∷ 0 ∷ 0 ∷ 0 ∷ 0 ∷
+    2 ∷ 0 ∷ 0 ∷ 4 ∷ 4 ∷ 0 ∷ 0 ∷ 0 ∷ 0 ∷ 0 ∷ []
+
+abbrev image-3909 : List ℕ
+image-3909 =
+    1 ∷ 0 ∷ 0 ∷ 0 ∷ 0 ∷ 0 ∷ 1 ∷ 44 ∷ 76 ∷ 0 ∷ 0 ∷ 128 ∷ 0 ∷ 0 ∷ 0 ∷ 0 ∷ 0 ∷ 0 ∷ 0 ∷ 0 ∷ 0 ∷ 0 ∷ 3 ∷ 1 ∷
+    2 ∷ 0 ∷ 0 ∷ 4 ∷ 4 ∷ 0 ∷ 0 ∷ 0 ∷ 0 ∷ 0 ∷
+    2 ∷ 0 ∷ 0 ∷ 4 ∷ 4 ∷ 0 ∷ 0 ∷ 0 ∷ 0 ∷ 0 ∷
+    2 ∷ 0 ∷ 1 ∷ 4 ∷ 4 ∷ 0 ∷ 0 ∷ 0 ∷ 0 ∷ 0 ∷ []
+
+abbrev image-3911 : List ℕ
+image-3911 =
+    1 ∷ 0 ∷ 0 ∷ 0 ∷ 0 ∷ 0 ∷ 1 ∷ 44 ∷ 76 ∷ 0 ∷ 0 ∷ 128 ∷ 0 ∷ 0 ∷ 0 ∷ 0 ∷ 0 ∷ 0 ∷ 0 ∷ 0 ∷ 0 ∷ 0 ∷ 3 ∷ 1 ∷
+    2 ∷ 0 ∷ 1 ∷ 4 ∷ 4 ∷ 0 ∷ 0 ∷ 0 ∷ 0 ∷ 0 ∷
+    2 ∷ 0 ∷ 0 ∷ 4 ∷ 4 ∷ 0 ∷ 0 ∷ 0 ∷ 0 ∷ 0 ∷
+    2 ∷ 0 ∷ 1 ∷ 4 ∷ 4 ∷ 0 ∷ 0 ∷ 0 ∷ 0 ∷ 0 ∷ []
+
+abbrev image-3915 : List ℕ
+image-3915 =
+    1 ∷ 0 ∷ 0 ∷ 0 ∷ 0 ∷ 0 ∷ 1 ∷ 44 ∷ 76 ∷ 0 ∷ 0 ∷ 128 ∷ 0 ∷ 0 ∷ 0 ∷ 0 ∷ 0 ∷ 0 ∷ 0 ∷ 0 ∷ 0 ∷ 0 ∷ 3 ∷ 1 ∷
+    2 ∷ 0 ∷ 1 ∷ 4 ∷ 4 ∷ 0 ∷ 0 ∷ 0 ∷ 0 ∷ 0 ∷
+    2 ∷ 0 ∷ 0 ∷ 4 ∷ 4 ∷ 0 ∷ 0 ∷ 0 ∷ 0 ∷ 0 ∷
+    2 ∷ 0 ∷ 1 ∷ 2 ∷ 4 ∷ 0 ∷ 0 ∷ 0 ∷ 0 ∷ 0 ∷
+    3 ∷ 0 ∷ 0 ∷ 0 ∷ 2 ∷ 0 ∷
+    4 ∷ 3 ∷ 0 ∷ 0 ∷ 1 ∷ 0 ∷ 0 ∷ 0 ∷ 0 ∷ 0 ∷ 0 ∷ 0 ∷ 0 ∷ []
+
+abbrev image-3925 : List ℕ
+image-3925 =
+    1 ∷ 0 ∷ 0 ∷ 0 ∷ 0 ∷ 0 ∷ 1 ∷ 44 ∷ 76 ∷ 0 ∷ 0 ∷ 128 ∷ 0 ∷ 0 ∷ 0 ∷ 0 ∷ 0 ∷ 0 ∷ 0 ∷ 0 ∷ 0 ∷ 0 ∷ 3 ∷ 1 ∷
+    2 ∷ 0 ∷ 1 ∷ 4 ∷ 4 ∷ 0 ∷ 0 ∷ 0 ∷ 0 ∷ 0 ∷
+    2 ∷ 0 ∷ 0 ∷ 4 ∷ 4 ∷ 0 ∷ 0 ∷ 0 ∷ 0 ∷ 0 ∷
+    2 ∷ 0 ∷ 0 ∷ 2 ∷ 4 ∷ 0 ∷ 0 ∷ 0 ∷ 0 ∷ 0 ∷
+    3 ∷ 0 ∷ 0 ∷ 0 ∷ 2 ∷ 0 ∷
+    4 ∷ 3 ∷ 0 ∷ 0 ∷ 1 ∷ 0 ∷ 0 ∷ 0 ∷ 0 ∷ 0 ∷ 0 ∷ 0 ∷ 0 ∷ []
+
+abbrev image-3926 : List ℕ
+image-3926 =
+    1 ∷ 0 ∷ 0 ∷ 0 ∷ 0 ∷ 0 ∷ 1 ∷ 44 ∷ 76 ∷ 0 ∷ 0 ∷ 128 ∷ 0 ∷ 0 ∷ 0 ∷ 0 ∷ 0 ∷ 0 ∷ 0 ∷ 0 ∷ 0 ∷ 0 ∷ 3 ∷ 0 ∷
+    2 ∷ 0 ∷ 1 ∷ 4 ∷ 4 ∷ 0 ∷ 0 ∷ 0 ∷ 0 ∷ 0 ∷
+    2 ∷ 0 ∷ 0 ∷ 4 ∷ 4 ∷ 0 ∷ 0 ∷ 0 ∷ 0 ∷ 0 ∷
+    2 ∷ 0 ∷ 0 ∷ 2 ∷ 4 ∷ 0 ∷ 0 ∷ 0 ∷ 0 ∷ 0 ∷
+    3 ∷ 0 ∷ 0 ∷ 0 ∷ 2 ∷ 0 ∷
+    4 ∷ 3 ∷ 0 ∷ 0 ∷ 1 ∷ 0 ∷ 0 ∷ 0 ∷ 0 ∷ 0 ∷ 0 ∷ 0 ∷ 0 ∷
+    6 ∷ 0 ∷ 0 ∷ 0 ∷ 0 ∷ []
+
+abbrev image-3927 : List ℕ
+image-3927 =
+    1 ∷ 0 ∷ 0 ∷ 0 ∷ 0 ∷ 0 ∷ 1 ∷ 44 ∷ 76 ∷ 0 ∷ 0 ∷ 128 ∷ 0 ∷ 0 ∷ 0 ∷ 0 ∷ 0 ∷ 0 ∷ 0 ∷ 0 ∷ 0 ∷ 0 ∷ 3 ∷ 0 ∷
+    2 ∷ 0 ∷ 2 ∷ 4 ∷ 4 ∷ 0 ∷ 0 ∷ 0 ∷ 0 ∷ 0 ∷
+    2 ∷ 0 ∷ 0 ∷ 4 ∷ 4 ∷ 0 ∷ 0 ∷ 0 ∷ 0 ∷ 0 ∷
+    2 ∷ 0 ∷ 0 ∷ 2 ∷ 4 ∷ 0 ∷ 0 ∷ 0 ∷ 0 ∷ 0 ∷
+    3 ∷ 0 ∷ 0 ∷ 0 ∷ 2 ∷ 0 ∷
+    4 ∷ 3 ∷ 0 ∷ 0 ∷ 1 ∷ 0 ∷ 0 ∷ 0 ∷ 0 ∷ 0 ∷ 0 ∷ 0 ∷ 0 ∷
+    6 ∷ 0 ∷ 0 ∷ 0 ∷ 0 ∷ []
+
+-- calls 3906 to 3930
+calls-3906 :
+    outcomes none
+    (new-line 1000000 76876 32768
+    ∷ call-line 1000000 dec-refcount-all
+    ∷ call-line 1000000 (inc-refcount 2 (words 4352 []))
+    ∷ call-line 1000000 (pick-pieces (asking 54861 5 2048 2 (some 2) 3 (255 ∷ []) (1 ∷ 2 ∷ [])) 4351 (words 4352 []))
+    ∷ call-line 1000000 (inc-refcount 0 (words 4352 []))
+    ∷ call-line 1000000 (question (listOfPicker piece-priorities 1))
+    ∷ call-line 1000000 (abort-download 0 0 (some 3) (words 4352 []))
+    ∷ call-line 1000000 (set-piece-priority 1 4 (words 4352 []))
+    ∷ call-line 1000000 (mark-as-finished 2 0 (some 0) (words 4352 []))
+    ∷ call-line 1000000 (pick-pieces (asking 231 1 0 300 (some 3) 3 (255 ∷ []) (0 ∷ 0 ∷ 1 ∷ 0 ∷ 2 ∷ [])) 4351 (words 4352 []))
+    ∷ call-line 1000000 (pick-pieces (asking 36202 5 2047 1000 (some 1) 3 (210 ∷ []) []) 4351 (words 4352 (2911700864 ∷ [])))
+    ∷ call-line 1000000 (mark-as-downloading 2 0 (some 1) 130 (words 4352 []))
+    ∷ call-line 1000000 (piece-passed 1)
+    ∷ call-line 1000000 (mark-as-writing 2 1 (some 3) (words 4352 []))
+    ∷ call-line 1000000 (mark-as-downloading 2 0 (some 18446744073709551615) 2 (words 4352 []))
+    ∷ call-line 1000000 (mark-as-downloading 2 0 (some 3) 22736 (words 4352 []))
+    ∷ call-line 1000000 (question (ofPiece piece-info 2))
+    ∷ call-line 1000000 (dec-refcount 2 (words 4352 []))
+    ∷ call-line 1000000 (pick-pieces (asking 73 1 2047 3 (some 1) 3 (127 ∷ []) []) 4351 (words 4352 []))
+    ∷ call-line 1000000 (inc-refcount 0 (words 5000 []))
+    ∷ call-line 1000000 (mark-as-canceled 0 0 none (words 5000 []))
+    ∷ call-line 1000000 (question (listOfPiece get-downloaders 0 1000000))
+    ∷ call-line 1000000 (question (ofPiece pad-bytes-in-piece 9223372036854775807))
+    ∷ [])
+    ≡ outcome stands image-3906
+    ∷ outcome (answered (refused NoPeerToTake)) image-3906
+    ∷ outcome (answered (done 0)) image-3909
+    ∷ outcome (answered (picked ((pieceBlock 0 0) ∷ (pieceBlock 0 1) ∷ (pieceBlock 1 0) ∷ (pieceBlock 1 1) ∷ (pieceBlock 2 0) ∷ []) 2080 (0 ∷ 1 ∷ 0 ∷ 0 ∷ 0 ∷ 0 ∷ 0 ∷ []) 0)) image-3909
+    ∷ outcome (answered (done 0)) image-3911
+    ∷ outcome (answered (refused ShortMemory)) image-3911
+    ∷ outcome (answered (done 0)) image-3911
+    ∷ outcome (answered (said false 0)) image-3911
+    ∷ outcome (answered (done 0)) image-3915
+    ∷ outcome (answered (picked ((pieceBlock 0 0) ∷ []) 32 (0 ∷ 1 ∷ 0 ∷ 0 ∷ 0 ∷ 0 ∷ 0 ∷ []) 0)) image-3915
+    ∷ outcome (answered (picked ((pieceBlock 0 0) ∷ (pieceBlock 0 1) ∷ (pieceBlock 1 0) ∷ (pieceBlock 1 1) ∷ []) 11264 (0 ∷ 0 ∷ 0 ∷ 0 ∷ 1 ∷ 4 ∷ 0 ∷ []) 1)) image-3915
+    ∷ outcome (answered (said false 0)) image-3915
+    ∷ outcome (answered (done 0)) image-3915
+    ∷ outcome (answered (refused OutOfRange)) image-3915
+    ∷ outcome (answered (said false 0)) image-3915
+    ∷ outcome (answered (said false 0)) image-3915
+    ∷ outcome (answered (replied (numbers ((some 2) ∷ (some 1) ∷ (some 0) ∷ (some 0) ∷ (some 0) ∷ (some 0) ∷ (some 0) ∷ [])))) image-3915
+    ∷ outcome (answered (done 0)) image-3925
+    ∷ outcome (answered (picked [] 10244 (0 ∷ 0 ∷ 0 ∷ 1 ∷ 0 ∷ 0 ∷ 0 ∷ []) 0)) image-3926
+    ∷ outcome (answered (done 0)) image-3927
+    ∷ outcome (answered (done 0)) image-3927
+    ∷ outcome (answered (replied (numbers (none ∷ none ∷ [])))) image-3927
+    ∷ outcome (answered (refused OutOfRange)) image-3927
+    ∷ []
+unfolding replaying
+calls-3906 = refl
+
+abbrev image-4026 : List ℕ
+image-4026 =
+    1 ∷ 0 ∷ 0 ∷ 0 ∷ 0 ∷ 0 ∷ 0 ∷ 64 ∷ 0 ∷ 0 ∷ 0 ∷ 64 ∷ 0 ∷ 0 ∷ 0 ∷ 0 ∷ 0 ∷ 0 ∷ 0 ∷ 0 ∷ 0 ∷ 0 ∷ 1 ∷ 1 ∷
+    2 ∷ 0 ∷ 0 ∷ 4 ∷ 4 ∷ 0 ∷ 0 ∷ 0 ∷ 0 ∷ 0 ∷ []
+
+abbrev image-4029 : List ℕ
+image-4029 =
+    1 ∷ 0 ∷ 0 ∷ 0 ∷ 0 ∷ 0 ∷ 0 ∷ 64 ∷ 0 ∷ 0 ∷ 0 ∷ 64 ∷ 0 ∷ 0 ∷ 0 ∷ 0 ∷ 0 ∷ 0 ∷ 0 ∷ 0 ∷ 0 ∷ 0 ∷ 1 ∷ 1 ∷
+    2 ∷ 0 ∷ 0 ∷ 2 ∷ 4 ∷ 0 ∷ 0 ∷ 0 ∷ 0 ∷ 0 ∷
+    3 ∷ 0 ∷ 0 ∷ 0 ∷ 0 ∷ 0 ∷
+    4 ∷ 2 ∷ 0 ∷ 0 ∷ 1 ∷ 255 ∷ 255 ∷ 255 ∷ 255 ∷ 255 ∷ 255 ∷ 255 ∷ 255 ∷ []
+
+abbrev image-4033 : List ℕ
+image-4033 =
+    1 ∷ 0 ∷ 0 ∷ 0 ∷ 0 ∷ 0 ∷ 0 ∷ 64 ∷ 0 ∷ 0 ∷ 0 ∷ 64 ∷ 0 ∷ 0 ∷ 0 ∷ 0 ∷ 0 ∷ 0 ∷ 0 ∷ 0 ∷ 0 ∷ 0 ∷ 1 ∷ 0 ∷
+    2 ∷ 0 ∷ 0 ∷ 2 ∷ 4 ∷ 0 ∷ 0 ∷ 0 ∷ 0 ∷ 0 ∷
+    3 ∷ 0 ∷ 0 ∷ 0 ∷ 0 ∷ 0 ∷
+    4 ∷ 2 ∷ 0 ∷ 0 ∷ 1 ∷ 255 ∷ 255 ∷ 255 ∷ 255 ∷ 255 ∷ 255 ∷ 255 ∷ 255 ∷ []
+
+-- calls 4026 to 4034
+calls-4026 :
+    outcomes none
+    (new-line 1000000 16384 16384
+    ∷ call-line 15 (pick-pieces (asking 36 1 5 3 (some 1) 1 (255 ∷ []) []) 4351 (words 4352 []))
+    ∷ call-line 1000000 (pick-pieces (asking 4578 40 1 1000 (some 2) 1 (249 ∷ []) []) 4351 (words 4352 (1297661925 ∷ [])))
+    ∷ call-line 1000000 (mark-as-writing 0 0 (some 18446744073709551615) (words 4352 []))
+    ∷ call-line 1000000 (dec-refcount 0 (words 4352 []))
+    ∷ call-line 1000000 (abort-download 0 0 (some 3) (words 4352 []))
+    ∷ call-line 1000000 (mark-as-downloading 0 0 (some 1) 128 (words 4352 []))
+    ∷ call-line 1000000 (pick-pieces (asking 528 8 0 0 (some 3) 1 (255 ∷ []) []) 4351 (words 5000 []))
+    ∷ call-line 16 (question (ofBlock block-num-peers 0 0))
+    ∷ [])
+    ≡ outcome stands image-4026
+    ∷ outcome (answered (refused ShortMemory)) image-4026
+    ∷ outcome (answered (picked ((pieceBlock 0 0) ∷ []) 11264 (0 ∷ 0 ∷ 0 ∷ 0 ∷ 0 ∷ 0 ∷ 0 ∷ []) 1)) image-4026
+    ∷ outcome (answered (said true 0)) image-4029
+    ∷ outcome (answered (refused NoPeerToTake)) image-4029
+    ∷ outcome (answered (done 0)) image-4029
+    ∷ outcome (answered (said false 0)) image-4029
+    ∷ outcome (answered (picked [] 8320 (0 ∷ 0 ∷ 0 ∷ 0 ∷ 0 ∷ 0 ∷ 0 ∷ []) 0)) image-4033
+    ∷ outcome (answered (refused ShortMemory)) image-4033
+    ∷ []
+unfolding replaying
+calls-4026 = refl
+
+abbrev image-4056 : List ℕ
+image-4056 =
+    1 ∷ 0 ∷ 0 ∷ 0 ∷ 0 ∷ 0 ∷ 4 ∷ 0 ∷ 1 ∷ 0 ∷ 1 ∷ 0 ∷ 0 ∷ 0 ∷ 0 ∷ 0 ∷ 0 ∷ 0 ∷ 5 ∷ 0 ∷ 0 ∷ 0 ∷ 1 ∷ 1 ∷
+    2 ∷ 3 ∷ 231 ∷ 4 ∷ 1 ∷ 0 ∷ 0 ∷ 0 ∷ 0 ∷ 0 ∷
+    2 ∷ 0 ∷ 1 ∷ 2 ∷ 4 ∷ 0 ∷ 0 ∷ 0 ∷ 0 ∷ 0 ∷
+    2 ∷ 0 ∷ 1 ∷ 4 ∷ 4 ∷ 0 ∷ 0 ∷ 0 ∷ 0 ∷ 0 ∷
+    2 ∷ 0 ∷ 3 ∷ 2 ∷ 7 ∷ 0 ∷ 0 ∷ 0 ∷ 0 ∷ 1 ∷
+    2 ∷ 0 ∷ 1 ∷ 2 ∷ 7 ∷ 0 ∷ 0 ∷ 0 ∷ 0 ∷ 0 ∷
+    3 ∷ 0 ∷ 0 ∷ 0 ∷ 1 ∷ 0 ∷
+    4 ∷ 3 ∷ 0 ∷ 2 ∷ 0 ∷ 0 ∷ 0 ∷ 0 ∷ 0 ∷ 0 ∷ 0 ∷ 0 ∷ 0 ∷
+    4 ∷ 3 ∷ 0 ∷ 2 ∷ 1 ∷ 0 ∷ 0 ∷ 0 ∷ 0 ∷ 0 ∷ 0 ∷ 0 ∷ 0 ∷
+    4 ∷ 3 ∷ 0 ∷ 1 ∷ 1 ∷ 255 ∷ 255 ∷ 255 ∷ 255 ∷ 255 ∷ 255 ∷ 255 ∷ 255 ∷
+    4 ∷ 3 ∷ 0 ∷ 0 ∷ 1 ∷ 0 ∷ 0 ∷ 0 ∷ 0 ∷ 0 ∷ 0 ∷ 0 ∷ 0 ∷
+    3 ∷ 0 ∷ 0 ∷ 0 ∷ 3 ∷ 2 ∷
+    4 ∷ 3 ∷ 0 ∷ 0 ∷ 1 ∷ 0 ∷ 0 ∷ 0 ∷ 0 ∷ 0 ∷ 0 ∷ 0 ∷ 2 ∷
+    4 ∷ 2 ∷ 0 ∷ 0 ∷ 1 ∷ 0 ∷ 0 ∷ 0 ∷ 0 ∷ 0 ∷ 0 ∷ 0 ∷ 2 ∷
+    4 ∷ 3 ∷ 0 ∷ 1 ∷ 0 ∷ 0 ∷ 0 ∷ 0 ∷ 0 ∷ 0 ∷ 0 ∷ 0 ∷ 0 ∷
+    4 ∷ 2 ∷ 0 ∷ 1 ∷ 1 ∷ 0 ∷ 0 ∷ 0 ∷ 0 ∷ 0 ∷ 0 ∷ 0 ∷ 1 ∷
+    3 ∷ 0 ∷ 0 ∷ 0 ∷ 4 ∷ 4 ∷
+    4 ∷ 3 ∷ 0 ∷ 0 ∷ 0 ∷ 0 ∷ 0 ∷ 0 ∷ 0 ∷ 0 ∷ 0 ∷ 0 ∷ 0 ∷
+    5 ∷ 0 ∷ 0 ∷ 0 ∷ 0 ∷ []
+
+-- calls 4056 to 4058
+calls-4056 :
+    outcomes none
+    (read-line 1000000 image-4056
+    ∷ call-line 1000000 (question (ofPiece piece-size 1))
+    ∷ call-line 1000000 (pick-pieces (asking 168 8 8 3 (some 18446744073709551615) 5 (156 ∷ []) []) 270 (words 5000 []))
+    ∷ [])
+    ≡ outcome stands image-4056
+    ∷ outcome (answered (replied (numbers ((some 65536) ∷ [])))) image-4056
+    ∷ outcome (answered (refused ShortOutput)) image-4056
+    ∷ []
+unfolding replaying
+calls-4056 = refl
+
+abbrev image-4062 : List ℕ
+image-4062 =
+    1 ∷ 0 ∷ 0 ∷ 0 ∷ 0 ∷ 0 ∷ 2 ∷ 0 ∷ 1 ∷ 0 ∷ 0 ∷ 128 ∷ 0 ∷ 0 ∷ 2 ∷ 0 ∷ 0 ∷ 0 ∷ 5 ∷ 0 ∷ 0 ∷ 0 ∷ 1 ∷ 0 ∷
+    2 ∷ 0 ∷ 1 ∷ 0 ∷ 4 ∷ 0 ∷ 0 ∷ 0 ∷ 0 ∷ 0 ∷
+    2 ∷ 0 ∷ 3 ∷ 4 ∷ 4 ∷ 0 ∷ 0 ∷ 0 ∷ 64 ∷ 1 ∷
+    2 ∷ 0 ∷ 3 ∷ 2 ∷ 1 ∷ 0 ∷ 0 ∷ 0 ∷ 0 ∷ 0 ∷
+    2 ∷ 0 ∷ 1 ∷ 4 ∷ 4 ∷ 0 ∷ 0 ∷ 0 ∷ 0 ∷ 0 ∷
+    2 ∷ 0 ∷ 0 ∷ 4 ∷ 7 ∷ 0 ∷ 0 ∷ 0 ∷ 0 ∷ 0 ∷
+    3 ∷ 0 ∷ 0 ∷ 0 ∷ 0 ∷ 5 ∷
+    4 ∷ 0 ∷ 0 ∷ 1 ∷ 1 ∷ 0 ∷ 0 ∷ 0 ∷ 0 ∷ 0 ∷ 0 ∷ 0 ∷ 2 ∷
+    4 ∷ 0 ∷ 0 ∷ 0 ∷ 1 ∷ 0 ∷ 0 ∷ 0 ∷ 0 ∷ 0 ∷ 0 ∷ 0 ∷ 2 ∷
+    3 ∷ 0 ∷ 0 ∷ 0 ∷ 2 ∷ 0 ∷
+    4 ∷ 0 ∷ 0 ∷ 0 ∷ 1 ∷ 255 ∷ 255 ∷ 255 ∷ 255 ∷ 255 ∷ 255 ∷ 255 ∷ 255 ∷
+    4 ∷ 0 ∷ 0 ∷ 1 ∷ 1 ∷ 255 ∷ 255 ∷ 255 ∷ 255 ∷ 255 ∷ 255 ∷ 255 ∷ 255 ∷
+    6 ∷ 0 ∷ 0 ∷ 0 ∷ 4 ∷
+    6 ∷ 0 ∷ 0 ∷ 0 ∷ 0 ∷
+    6 ∷ 0 ∷ 0 ∷ 0 ∷ 3 ∷
+    6 ∷ 0 ∷ 0 ∷ 0 ∷ 1 ∷ []
+
+-- calls 4062 to 4063
+calls-4062 :
+    outcomes none
+    (read-line 1000000 image-4062
+    ∷ call-line 1000000 (mark-as-writing 9223372036854775807 0 none (words 4352 []))
+    ∷ [])
+    ≡ outcome stands image-4062
+    ∷ outcome (answered (refused OutOfRange)) image-4062
+    ∷ []
+unfolding replaying
+calls-4062 = refl
+
+abbrev image-4116 : List ℕ
+image-4116 =
+    1 ∷ 0 ∷ 0 ∷ 0 ∷ 0 ∷ 0 ∷ 0 ∷ 228 ∷ 238 ∷ 0 ∷ 0 ∷ 128 ∷ 0 ∷ 0 ∷ 1 ∷ 0 ∷ 0 ∷ 0 ∷ 2 ∷ 0 ∷ 0 ∷ 0 ∷ 1 ∷ 1 ∷
+    2 ∷ 0 ∷ 3 ∷ 4 ∷ 4 ∷ 1 ∷ 0 ∷ 0 ∷ 0 ∷ 1 ∷
+    2 ∷ 0 ∷ 0 ∷ 4 ∷ 6 ∷ 0 ∷ 0 ∷ 0 ∷ 0 ∷ 0 ∷
+    5 ∷ 0 ∷ 0 ∷ 0 ∷ 0 ∷ []
+
+abbrev image-4117 : List ℕ
+image-4117 =
+    1 ∷ 0 ∷ 0 ∷ 0 ∷ 0 ∷ 0 ∷ 0 ∷ 228 ∷ 238 ∷ 0 ∷ 0 ∷ 128 ∷ 0 ∷ 0 ∷ 1 ∷ 0 ∷ 0 ∷ 0 ∷ 2 ∷ 0 ∷ 0 ∷ 0 ∷ 1 ∷ 1 ∷
+    2 ∷ 0 ∷ 4 ∷ 4 ∷ 4 ∷ 1 ∷ 0 ∷ 0 ∷ 0 ∷ 1 ∷
+    2 ∷ 0 ∷ 0 ∷ 4 ∷ 6 ∷ 0 ∷ 0 ∷ 0 ∷ 0 ∷ 0 ∷
+    5 ∷ 0 ∷ 0 ∷ 0 ∷ 0 ∷ []
+
+abbrev image-4118 : List ℕ
+image-4118 =
+    1 ∷ 0 ∷ 0 ∷ 0 ∷ 0 ∷ 0 ∷ 0 ∷ 228 ∷ 238 ∷ 0 ∷ 0 ∷ 128 ∷ 0 ∷ 0 ∷ 1 ∷ 0 ∷ 0 ∷ 0 ∷ 2 ∷ 0 ∷ 0 ∷ 0 ∷ 1 ∷ 1 ∷
+    2 ∷ 0 ∷ 4 ∷ 4 ∷ 4 ∷ 1 ∷ 0 ∷ 0 ∷ 0 ∷ 1 ∷
+    2 ∷ 0 ∷ 0 ∷ 4 ∷ 0 ∷ 0 ∷ 0 ∷ 0 ∷ 0 ∷ 0 ∷
+    5 ∷ 0 ∷ 0 ∷ 0 ∷ 0 ∷ []
+
+-- calls 4116 to 4119
+calls-4116 :
+    outcomes none
+    (read-line 1000000 image-4116
+    ∷ call-line 1000000 (inc-refcount 0 (words 4352 []))
+    ∷ call-line 1000000 (set-piece-priority 1 0 (words 5000 []))
+    ∷ call-line 1000000 (question (ofBlock is-downloaded 1 1))
+    ∷ [])
+    ≡ outcome stands image-4116
+    ∷ outcome (answered (done 0)) image-4117
+    ∷ outcome (answered (said true 0)) image-4118
+    ∷ outcome (answered (replied (numbers ((some 0) ∷ [])))) image-4118
+    ∷ []
+unfolding replaying
+calls-4116 = refl
+
+abbrev image-4176 : List ℕ
+image-4176 =
+    1 ∷ 0 ∷ 0 ∷ 0 ∷ 0 ∷ 0 ∷ 0 ∷ 0 ∷ 1 ∷ 0 ∷ 0 ∷ 0 ∷ 3 ∷ 1 ∷ 190 ∷ 0 ∷ 0 ∷ 0 ∷ 0 ∷ 0 ∷ 0 ∷ 0 ∷ 1 ∷ 0 ∷
+    2 ∷ 0 ∷ 1 ∷ 1 ∷ 7 ∷ 0 ∷ 0 ∷ 0 ∷ 0 ∷ 1 ∷
+    3 ∷ 0 ∷ 0 ∷ 0 ∷ 0 ∷ 0 ∷
+    4 ∷ 1 ∷ 0 ∷ 1 ∷ 1 ∷ 255 ∷ 255 ∷ 255 ∷ 255 ∷ 255 ∷ 255 ∷ 255 ∷ 255 ∷
+    5 ∷ 0 ∷ 0 ∷ 0 ∷ 0 ∷ []
+
+abbrev image-4177 : List ℕ
+image-4177 =
+    1 ∷ 0 ∷ 0 ∷ 0 ∷ 0 ∷ 0 ∷ 0 ∷ 0 ∷ 1 ∷ 0 ∷ 0 ∷ 0 ∷ 3 ∷ 1 ∷ 190 ∷ 0 ∷ 0 ∷ 0 ∷ 0 ∷ 0 ∷ 0 ∷ 0 ∷ 1 ∷ 0 ∷
+    2 ∷ 0 ∷ 1 ∷ 2 ∷ 7 ∷ 0 ∷ 0 ∷ 0 ∷ 0 ∷ 1 ∷
+    3 ∷ 0 ∷ 0 ∷ 0 ∷ 0 ∷ 0 ∷
+    4 ∷ 2 ∷ 0 ∷ 0 ∷ 1 ∷ 0 ∷ 0 ∷ 0 ∷ 0 ∷ 0 ∷ 0 ∷ 0 ∷ 1 ∷
+    5 ∷ 0 ∷ 0 ∷ 0 ∷ 0 ∷ []
+
+abbrev image-4178 : List ℕ
+image-4178 =
+    1 ∷ 0 ∷ 0 ∷ 0 ∷ 0 ∷ 0 ∷ 0 ∷ 0 ∷ 1 ∷ 0 ∷ 0 ∷ 0 ∷ 3 ∷ 1 ∷ 190 ∷ 0 ∷ 0 ∷ 0 ∷ 0 ∷ 0 ∷ 0 ∷ 0 ∷ 1 ∷ 0 ∷
+    2 ∷ 0 ∷ 1 ∷ 2 ∷ 7 ∷ 0 ∷ 0 ∷ 0 ∷ 0 ∷ 1 ∷
+    3 ∷ 0 ∷ 0 ∷ 0 ∷ 0 ∷ 0 ∷
+    4 ∷ 2 ∷ 0 ∷ 0 ∷ 1 ∷ 0 ∷ 0 ∷ 0 ∷ 0 ∷ 0 ∷ 0 ∷ 0 ∷ 2 ∷
+    5 ∷ 0 ∷ 0 ∷ 0 ∷ 0 ∷ []
+
+-- calls 4176 to 4179
+calls-4176 :
+    outcomes none
+    (read-line 1000000 image-4176
+    ∷ call-line 1000000 (mark-as-writing 0 0 (some 1) (words 4352 []))
+    ∷ call-line 1000000 (mark-as-writing 0 0 (some 2) (words 4352 []))
+    ∷ call-line 1000000 (question (ofBlock is-finished-block 0 0))
+    ∷ [])
+    ≡ outcome stands image-4176
+    ∷ outcome (answered (said true 0)) image-4177
+    ∷ outcome (answered (said false 0)) image-4178
+    ∷ outcome (answered (replied (numbers ((some 0) ∷ [])))) image-4178
+    ∷ []
+unfolding replaying
+calls-4176 = refl
+
+abbrev image-4266 : List ℕ
+image-4266 =
+    1 ∷ 0 ∷ 0 ∷ 0 ∷ 0 ∷ 0 ∷ 3 ∷ 0 ∷ 0 ∷ 0 ∷ 1 ∷ 0 ∷ 0 ∷ 0 ∷ 0 ∷ 0 ∷ 0 ∷ 0 ∷ 1 ∷ 0 ∷ 0 ∷ 0 ∷ 2 ∷ 1 ∷
+    2 ∷ 3 ∷ 231 ∷ 6 ∷ 4 ∷ 0 ∷ 0 ∷ 0 ∷ 0 ∷ 0 ∷
+    2 ∷ 0 ∷ 1 ∷ 0 ∷ 4 ∷ 0 ∷ 0 ∷ 0 ∷ 64 ∷ 1 ∷
+    2 ∷ 0 ∷ 2 ∷ 0 ∷ 4 ∷ 0 ∷ 0 ∷ 0 ∷ 0 ∷ 0 ∷
     3 ∷ 0 ∷ 0 ∷ 0 ∷ 0 ∷ 1 ∷
+    4 ∷ 1 ∷ 0 ∷ 1 ∷ 0 ∷ 0 ∷ 0 ∷ 0 ∷ 0 ∷ 0 ∷ 0 ∷ 0 ∷ 0 ∷
+    4 ∷ 1 ∷ 0 ∷ 1 ∷ 0 ∷ 0 ∷ 0 ∷ 0 ∷ 0 ∷ 0 ∷ 0 ∷ 0 ∷ 0 ∷
+    4 ∷ 1 ∷ 0 ∷ 1 ∷ 0 ∷ 0 ∷ 0 ∷ 0 ∷ 0 ∷ 0 ∷ 0 ∷ 0 ∷ 0 ∷
+    4 ∷ 1 ∷ 0 ∷ 1 ∷ 0 ∷ 0 ∷ 0 ∷ 0 ∷ 0 ∷ 0 ∷ 0 ∷ 0 ∷ 0 ∷
+    3 ∷ 0 ∷ 0 ∷ 0 ∷ 1 ∷ 1 ∷
+    4 ∷ 1 ∷ 3 ∷ 232 ∷ 1 ∷ 0 ∷ 0 ∷ 0 ∷ 0 ∷ 0 ∷ 0 ∷ 0 ∷ 3 ∷
+    4 ∷ 0 ∷ 0 ∷ 0 ∷ 1 ∷ 0 ∷ 0 ∷ 0 ∷ 0 ∷ 0 ∷ 0 ∷ 0 ∷ 0 ∷
+    4 ∷ 1 ∷ 0 ∷ 1 ∷ 1 ∷ 0 ∷ 0 ∷ 0 ∷ 0 ∷ 0 ∷ 0 ∷ 0 ∷ 3 ∷
+    4 ∷ 2 ∷ 3 ∷ 232 ∷ 1 ∷ 0 ∷ 0 ∷ 0 ∷ 0 ∷ 0 ∷ 0 ∷ 0 ∷ 1 ∷
+    3 ∷ 0 ∷ 0 ∷ 0 ∷ 2 ∷ 0 ∷
+    4 ∷ 3 ∷ 0 ∷ 0 ∷ 1 ∷ 0 ∷ 0 ∷ 0 ∷ 0 ∷ 0 ∷ 0 ∷ 0 ∷ 0 ∷
+    4 ∷ 0 ∷ 0 ∷ 2 ∷ 1 ∷ 0 ∷ 0 ∷ 0 ∷ 0 ∷ 0 ∷ 0 ∷ 0 ∷ 2 ∷
+    4 ∷ 2 ∷ 0 ∷ 0 ∷ 1 ∷ 0 ∷ 0 ∷ 0 ∷ 0 ∷ 0 ∷ 0 ∷ 0 ∷ 1 ∷
+    4 ∷ 3 ∷ 0 ∷ 2 ∷ 1 ∷ 0 ∷ 0 ∷ 0 ∷ 0 ∷ 0 ∷ 0 ∷ 0 ∷ 1 ∷
+    5 ∷ 0 ∷ 0 ∷ 0 ∷ 0 ∷ []
+
+abbrev image-4268 : List ℕ
+image-4268 =
+    1 ∷ 0 ∷ 0 ∷ 0 ∷ 0 ∷ 0 ∷ 3 ∷ 0 ∷ 0 ∷ 0 ∷ 1 ∷ 0 ∷ 0 ∷ 0 ∷ 0 ∷ 0 ∷ 0 ∷ 0 ∷ 1 ∷ 0 ∷ 0 ∷ 0 ∷ 2 ∷ 1 ∷
+    2 ∷ 3 ∷ 231 ∷ 6 ∷ 4 ∷ 0 ∷ 0 ∷ 0 ∷ 0 ∷ 0 ∷
+    2 ∷ 0 ∷ 0 ∷ 0 ∷ 4 ∷ 0 ∷ 0 ∷ 0 ∷ 64 ∷ 1 ∷
+    2 ∷ 0 ∷ 2 ∷ 0 ∷ 4 ∷ 0 ∷ 0 ∷ 0 ∷ 0 ∷ 0 ∷
+    3 ∷ 0 ∷ 0 ∷ 0 ∷ 0 ∷ 1 ∷
+    4 ∷ 1 ∷ 0 ∷ 1 ∷ 0 ∷ 0 ∷ 0 ∷ 0 ∷ 0 ∷ 0 ∷ 0 ∷ 0 ∷ 0 ∷
+    4 ∷ 1 ∷ 0 ∷ 1 ∷ 0 ∷ 0 ∷ 0 ∷ 0 ∷ 0 ∷ 0 ∷ 0 ∷ 0 ∷ 0 ∷
+    4 ∷ 1 ∷ 0 ∷ 1 ∷ 0 ∷ 0 ∷ 0 ∷ 0 ∷ 0 ∷ 0 ∷ 0 ∷ 0 ∷ 0 ∷
+    4 ∷ 1 ∷ 0 ∷ 1 ∷ 0 ∷ 0 ∷ 0 ∷ 0 ∷ 0 ∷ 0 ∷ 0 ∷ 0 ∷ 0 ∷
+    3 ∷ 0 ∷ 0 ∷ 0 ∷ 1 ∷ 1 ∷
+    4 ∷ 1 ∷ 3 ∷ 232 ∷ 1 ∷ 0 ∷ 0 ∷ 0 ∷ 0 ∷ 0 ∷ 0 ∷ 0 ∷ 3 ∷
+    4 ∷ 0 ∷ 0 ∷ 0 ∷ 1 ∷ 0 ∷ 0 ∷ 0 ∷ 0 ∷ 0 ∷ 0 ∷ 0 ∷ 0 ∷
+    4 ∷ 1 ∷ 0 ∷ 1 ∷ 1 ∷ 0 ∷ 0 ∷ 0 ∷ 0 ∷ 0 ∷ 0 ∷ 0 ∷ 3 ∷
+    4 ∷ 2 ∷ 3 ∷ 232 ∷ 1 ∷ 0 ∷ 0 ∷ 0 ∷ 0 ∷ 0 ∷ 0 ∷ 0 ∷ 1 ∷
+    3 ∷ 0 ∷ 0 ∷ 0 ∷ 2 ∷ 0 ∷
+    4 ∷ 3 ∷ 0 ∷ 0 ∷ 1 ∷ 0 ∷ 0 ∷ 0 ∷ 0 ∷ 0 ∷ 0 ∷ 0 ∷ 0 ∷
+    4 ∷ 0 ∷ 0 ∷ 2 ∷ 1 ∷ 0 ∷ 0 ∷ 0 ∷ 0 ∷ 0 ∷ 0 ∷ 0 ∷ 2 ∷
+    4 ∷ 2 ∷ 0 ∷ 0 ∷ 1 ∷ 0 ∷ 0 ∷ 0 ∷ 0 ∷ 0 ∷ 0 ∷ 0 ∷ 1 ∷
+    4 ∷ 3 ∷ 0 ∷ 2 ∷ 1 ∷ 0 ∷ 0 ∷ 0 ∷ 0 ∷ 0 ∷ 0 ∷ 0 ∷ 1 ∷
+    5 ∷ 0 ∷ 0 ∷ 0 ∷ 0 ∷ []
+
+abbrev image-4271 : List ℕ
+image-4271 =
+    1 ∷ 0 ∷ 0 ∷ 0 ∷ 0 ∷ 0 ∷ 3 ∷ 0 ∷ 0 ∷ 0 ∷ 1 ∷ 0 ∷ 0 ∷ 0 ∷ 0 ∷ 0 ∷ 0 ∷ 0 ∷ 1 ∷ 0 ∷ 0 ∷ 0 ∷ 2 ∷ 1 ∷
+    2 ∷ 3 ∷ 231 ∷ 6 ∷ 6 ∷ 0 ∷ 0 ∷ 0 ∷ 0 ∷ 0 ∷
+    2 ∷ 0 ∷ 0 ∷ 0 ∷ 4 ∷ 0 ∷ 0 ∷ 0 ∷ 64 ∷ 1 ∷
+    2 ∷ 0 ∷ 2 ∷ 0 ∷ 4 ∷ 0 ∷ 0 ∷ 0 ∷ 0 ∷ 0 ∷
+    3 ∷ 0 ∷ 0 ∷ 0 ∷ 0 ∷ 1 ∷
+    4 ∷ 1 ∷ 0 ∷ 1 ∷ 0 ∷ 0 ∷ 0 ∷ 0 ∷ 0 ∷ 0 ∷ 0 ∷ 0 ∷ 0 ∷
+    4 ∷ 1 ∷ 0 ∷ 1 ∷ 0 ∷ 0 ∷ 0 ∷ 0 ∷ 0 ∷ 0 ∷ 0 ∷ 0 ∷ 0 ∷
+    4 ∷ 1 ∷ 0 ∷ 1 ∷ 0 ∷ 0 ∷ 0 ∷ 0 ∷ 0 ∷ 0 ∷ 0 ∷ 0 ∷ 0 ∷
+    4 ∷ 1 ∷ 0 ∷ 1 ∷ 0 ∷ 0 ∷ 0 ∷ 0 ∷ 0 ∷ 0 ∷ 0 ∷ 0 ∷ 0 ∷
+    3 ∷ 0 ∷ 0 ∷ 0 ∷ 1 ∷ 1 ∷
+    4 ∷ 1 ∷ 3 ∷ 232 ∷ 1 ∷ 0 ∷ 0 ∷ 0 ∷ 0 ∷ 0 ∷ 0 ∷ 0 ∷ 3 ∷
+    4 ∷ 0 ∷ 0 ∷ 0 ∷ 1 ∷ 0 ∷ 0 ∷ 0 ∷ 0 ∷ 0 ∷ 0 ∷ 0 ∷ 0 ∷
+    4 ∷ 1 ∷ 0 ∷ 1 ∷ 1 ∷ 0 ∷ 0 ∷ 0 ∷ 0 ∷ 0 ∷ 0 ∷ 0 ∷ 3 ∷
+    4 ∷ 2 ∷ 3 ∷ 232 ∷ 1 ∷ 0 ∷ 0 ∷ 0 ∷ 0 ∷ 0 ∷ 0 ∷ 0 ∷ 1 ∷
+    3 ∷ 0 ∷ 0 ∷ 0 ∷ 2 ∷ 0 ∷
+    4 ∷ 3 ∷ 0 ∷ 0 ∷ 1 ∷ 0 ∷ 0 ∷ 0 ∷ 0 ∷ 0 ∷ 0 ∷ 0 ∷ 0 ∷
+    4 ∷ 0 ∷ 0 ∷ 2 ∷ 1 ∷ 0 ∷ 0 ∷ 0 ∷ 0 ∷ 0 ∷ 0 ∷ 0 ∷ 2 ∷
+    4 ∷ 2 ∷ 0 ∷ 0 ∷ 1 ∷ 0 ∷ 0 ∷ 0 ∷ 0 ∷ 0 ∷ 0 ∷ 0 ∷ 1 ∷
+    4 ∷ 3 ∷ 0 ∷ 2 ∷ 1 ∷ 0 ∷ 0 ∷ 0 ∷ 0 ∷ 0 ∷ 0 ∷ 0 ∷ 1 ∷
+    5 ∷ 0 ∷ 0 ∷ 0 ∷ 0 ∷ []
+
+abbrev image-4279 : List ℕ
+image-4279 =
+    1 ∷ 0 ∷ 0 ∷ 0 ∷ 0 ∷ 0 ∷ 3 ∷ 0 ∷ 0 ∷ 0 ∷ 1 ∷ 0 ∷ 0 ∷ 0 ∷ 0 ∷ 0 ∷ 0 ∷ 0 ∷ 1 ∷ 0 ∷ 0 ∷ 0 ∷ 2 ∷ 0 ∷
+    2 ∷ 3 ∷ 231 ∷ 6 ∷ 6 ∷ 0 ∷ 0 ∷ 0 ∷ 0 ∷ 0 ∷
+    2 ∷ 0 ∷ 0 ∷ 0 ∷ 4 ∷ 0 ∷ 0 ∷ 0 ∷ 64 ∷ 1 ∷
+    2 ∷ 0 ∷ 2 ∷ 0 ∷ 4 ∷ 0 ∷ 0 ∷ 0 ∷ 0 ∷ 0 ∷
+    3 ∷ 0 ∷ 0 ∷ 0 ∷ 0 ∷ 1 ∷
+    4 ∷ 1 ∷ 0 ∷ 1 ∷ 0 ∷ 0 ∷ 0 ∷ 0 ∷ 0 ∷ 0 ∷ 0 ∷ 0 ∷ 0 ∷
+    4 ∷ 1 ∷ 0 ∷ 1 ∷ 0 ∷ 0 ∷ 0 ∷ 0 ∷ 0 ∷ 0 ∷ 0 ∷ 0 ∷ 0 ∷
+    4 ∷ 1 ∷ 0 ∷ 1 ∷ 0 ∷ 0 ∷ 0 ∷ 0 ∷ 0 ∷ 0 ∷ 0 ∷ 0 ∷ 0 ∷
+    4 ∷ 1 ∷ 0 ∷ 1 ∷ 0 ∷ 0 ∷ 0 ∷ 0 ∷ 0 ∷ 0 ∷ 0 ∷ 0 ∷ 0 ∷
+    3 ∷ 0 ∷ 0 ∷ 0 ∷ 1 ∷ 1 ∷
+    4 ∷ 1 ∷ 3 ∷ 232 ∷ 1 ∷ 0 ∷ 0 ∷ 0 ∷ 0 ∷ 0 ∷ 0 ∷ 0 ∷ 3 ∷
+    4 ∷ 0 ∷ 0 ∷ 0 ∷ 1 ∷ 0 ∷ 0 ∷ 0 ∷ 0 ∷ 0 ∷ 0 ∷ 0 ∷ 0 ∷
+    4 ∷ 1 ∷ 0 ∷ 1 ∷ 1 ∷ 0 ∷ 0 ∷ 0 ∷ 0 ∷ 0 ∷ 0 ∷ 0 ∷ 3 ∷
+    4 ∷ 2 ∷ 3 ∷ 232 ∷ 1 ∷ 0 ∷ 0 ∷ 0 ∷ 0 ∷ 0 ∷ 0 ∷ 0 ∷ 1 ∷
+    3 ∷ 0 ∷ 0 ∷ 0 ∷ 2 ∷ 0 ∷
+    4 ∷ 3 ∷ 0 ∷ 0 ∷ 1 ∷ 0 ∷ 0 ∷ 0 ∷ 0 ∷ 0 ∷ 0 ∷ 0 ∷ 0 ∷
+    4 ∷ 0 ∷ 0 ∷ 2 ∷ 1 ∷ 0 ∷ 0 ∷ 0 ∷ 0 ∷ 0 ∷ 0 ∷ 0 ∷ 2 ∷
+    4 ∷ 2 ∷ 0 ∷ 0 ∷ 1 ∷ 0 ∷ 0 ∷ 0 ∷ 0 ∷ 0 ∷ 0 ∷ 0 ∷ 1 ∷
+    4 ∷ 3 ∷ 0 ∷ 2 ∷ 1 ∷ 0 ∷ 0 ∷ 0 ∷ 0 ∷ 0 ∷ 0 ∷ 0 ∷ 1 ∷
+    5 ∷ 0 ∷ 0 ∷ 0 ∷ 0 ∷
+    6 ∷ 0 ∷ 0 ∷ 0 ∷ 2 ∷
+    6 ∷ 0 ∷ 0 ∷ 0 ∷ 0 ∷ []
+
+-- calls 4266 to 4281
+calls-4266 :
+    outcomes none
+    (read-line 1000000 image-4266
+    ∷ call-line 1000000 (abort-download 2147483648 0 (some 2) (words 4352 []))
+    ∷ call-line 1000000 (dec-refcount 1 (words 4352 []))
+    ∷ call-line 1000000 (pick-pieces (asking 120 1099511627776 0 5 none 3 (255 ∷ []) (2 ∷ 1 ∷ [])) 1099511628031 (words 4352 []))
+    ∷ call-line 1000000 (question (ofBlock is-finished-block 2 1))
+    ∷ call-line 1000000 (set-piece-priority 0 6 (words 4352 []))
+    ∷ call-line 1000000 (question (ofBlock is-finished-block 1 1))
+    ∷ call-line 1000000 (dec-refcount 0 (words 4351 []))
+    ∷ call-line 1000000 (question (ofPiece piece-priority 0))
+    ∷ call-line 1000000 (set-piece-priority 1 4 (words 4352 []))
+    ∷ call-line 1000000 (pick-pieces (asking 226 1 5 10 (some 2) 3 (255 ∷ []) (0 ∷ 0 ∷ 0 ∷ [])) 4351 (words 4352 (4294967295 ∷ [])))
+    ∷ call-line 1000000 (question (listOfPiece get-downloaders 4294967296 1000000))
+    ∷ call-line 1000000 (mark-as-finished 1 0 (some 0) (words 4352 []))
+    ∷ call-line 1000000 (pick-pieces (asking 52 2 8 10 (some 2) 3 (211 ∷ []) (2 ∷ 1 ∷ [])) 4351 (words 5000 []))
+    ∷ call-line 1000000 (pick-pieces (asking 204 8 20 1000 (some 3) 3 (255 ∷ []) (1 ∷ 1 ∷ 1 ∷ 0 ∷ 1 ∷ 0 ∷ 0 ∷ 3 ∷ 0 ∷ 1 ∷ 2 ∷ 0 ∷ 0 ∷ 1 ∷ 1 ∷ 0 ∷ 2 ∷ 1 ∷ 2 ∷ 1 ∷ [])) 4351 (words 0 []))
+    ∷ call-line 1000000 (question (ofPiece locked? 3))
+    ∷ [])
+    ≡ outcome stands image-4266
+    ∷ outcome (answered (refused OutOfRange)) image-4266
+    ∷ outcome (answered (done 0)) image-4268
+    ∷ outcome (answered (refused PickArguments)) image-4268
+    ∷ outcome (answered (replied (numbers ((some 0) ∷ [])))) image-4268
+    ∷ outcome (answered (said false 0)) image-4271
+    ∷ outcome (answered (replied (numbers ((some 0) ∷ [])))) image-4271
+    ∷ outcome (answered (refused FewDraws)) image-4271
+    ∷ outcome (answered (replied (numbers ((some 6) ∷ [])))) image-4271
+    ∷ outcome (answered (said false 0)) image-4271
+    ∷ outcome (answered (picked ((pieceBlock 2 1) ∷ []) 3104 (0 ∷ 3 ∷ 0 ∷ 0 ∷ 1 ∷ 0 ∷ 0 ∷ []) 1)) image-4271
+    ∷ outcome (answered (refused OutOfRange)) image-4271
+    ∷ outcome (answered (refused NotWriting)) image-4271
+    ∷ outcome (answered (picked [] 10408 (0 ∷ 2 ∷ 0 ∷ 2 ∷ 0 ∷ 0 ∷ 0 ∷ []) 0)) image-4279
+    ∷ outcome (answered (refused FewDraws)) image-4279
+    ∷ outcome (answered (refused OutOfRange)) image-4279
+    ∷ []
+unfolding replaying
+calls-4266 = refl
+
+abbrev image-4307 : List ℕ
+image-4307 =
+    1 ∷ 0 ∷ 0 ∷ 0 ∷ 0 ∷ 0 ∷ 3 ∷ 0 ∷ 1 ∷ 0 ∷ 1 ∷ 0 ∷ 0 ∷ 0 ∷ 0 ∷ 0 ∷ 0 ∷ 0 ∷ 4 ∷ 0 ∷ 0 ∷ 0 ∷ 1 ∷ 1 ∷
+    2 ∷ 0 ∷ 1 ∷ 1 ∷ 7 ∷ 0 ∷ 0 ∷ 0 ∷ 0 ∷ 0 ∷
+    2 ∷ 0 ∷ 2 ∷ 5 ∷ 4 ∷ 0 ∷ 0 ∷ 0 ∷ 0 ∷ 0 ∷
+    2 ∷ 0 ∷ 0 ∷ 6 ∷ 7 ∷ 0 ∷ 0 ∷ 1 ∷ 0 ∷ 0 ∷
+    2 ∷ 0 ∷ 2 ∷ 4 ∷ 0 ∷ 0 ∷ 0 ∷ 0 ∷ 0 ∷ 1 ∷
+    3 ∷ 0 ∷ 0 ∷ 0 ∷ 0 ∷ 0 ∷
+    4 ∷ 1 ∷ 0 ∷ 2 ∷ 1 ∷ 0 ∷ 0 ∷ 0 ∷ 0 ∷ 0 ∷ 0 ∷ 0 ∷ 0 ∷
+    4 ∷ 1 ∷ 0 ∷ 2 ∷ 1 ∷ 0 ∷ 0 ∷ 0 ∷ 0 ∷ 0 ∷ 0 ∷ 0 ∷ 0 ∷
+    4 ∷ 1 ∷ 0 ∷ 2 ∷ 1 ∷ 0 ∷ 0 ∷ 0 ∷ 0 ∷ 0 ∷ 0 ∷ 0 ∷ 0 ∷
+    4 ∷ 1 ∷ 0 ∷ 2 ∷ 1 ∷ 0 ∷ 0 ∷ 0 ∷ 0 ∷ 0 ∷ 0 ∷ 0 ∷ 0 ∷
+    3 ∷ 0 ∷ 0 ∷ 0 ∷ 1 ∷ 4 ∷
+    4 ∷ 0 ∷ 0 ∷ 0 ∷ 1 ∷ 0 ∷ 0 ∷ 0 ∷ 0 ∷ 0 ∷ 0 ∷ 0 ∷ 2 ∷
+    4 ∷ 2 ∷ 0 ∷ 0 ∷ 1 ∷ 0 ∷ 0 ∷ 0 ∷ 0 ∷ 0 ∷ 0 ∷ 0 ∷ 3 ∷
+    4 ∷ 0 ∷ 0 ∷ 0 ∷ 1 ∷ 255 ∷ 255 ∷ 255 ∷ 255 ∷ 255 ∷ 255 ∷ 255 ∷ 255 ∷
+    4 ∷ 0 ∷ 0 ∷ 0 ∷ 1 ∷ 255 ∷ 255 ∷ 255 ∷ 255 ∷ 255 ∷ 255 ∷ 255 ∷ 255 ∷
+    3 ∷ 0 ∷ 0 ∷ 0 ∷ 2 ∷ 2 ∷
+    4 ∷ 1 ∷ 0 ∷ 2 ∷ 1 ∷ 255 ∷ 255 ∷ 255 ∷ 255 ∷ 255 ∷ 255 ∷ 255 ∷ 255 ∷
+    4 ∷ 3 ∷ 0 ∷ 0 ∷ 1 ∷ 0 ∷ 0 ∷ 0 ∷ 0 ∷ 0 ∷ 0 ∷ 0 ∷ 3 ∷
+    4 ∷ 1 ∷ 0 ∷ 0 ∷ 1 ∷ 0 ∷ 0 ∷ 0 ∷ 0 ∷ 0 ∷ 0 ∷ 0 ∷ 3 ∷
     4 ∷ 2 ∷ 0 ∷ 0 ∷ 1 ∷ 0 ∷ 0 ∷ 0 ∷ 0 ∷ 0 ∷ 0 ∷ 0 ∷ 1 ∷ []
 
--- calls 3649 to 3660
-calls-3649 :
+abbrev image-4311 : List ℕ
+image-4311 =
+    1 ∷ 0 ∷ 0 ∷ 0 ∷ 0 ∷ 0 ∷ 3 ∷ 0 ∷ 1 ∷ 0 ∷ 1 ∷ 0 ∷ 0 ∷ 0 ∷ 1 ∷ 0 ∷ 0 ∷ 0 ∷ 4 ∷ 0 ∷ 0 ∷ 0 ∷ 1 ∷ 1 ∷
+    2 ∷ 0 ∷ 1 ∷ 1 ∷ 7 ∷ 0 ∷ 0 ∷ 0 ∷ 0 ∷ 0 ∷
+    2 ∷ 0 ∷ 2 ∷ 5 ∷ 4 ∷ 0 ∷ 0 ∷ 0 ∷ 0 ∷ 0 ∷
+    2 ∷ 0 ∷ 0 ∷ 6 ∷ 7 ∷ 0 ∷ 0 ∷ 1 ∷ 0 ∷ 0 ∷
+    2 ∷ 0 ∷ 2 ∷ 4 ∷ 0 ∷ 0 ∷ 0 ∷ 0 ∷ 0 ∷ 1 ∷
+    3 ∷ 0 ∷ 0 ∷ 0 ∷ 0 ∷ 0 ∷
+    4 ∷ 1 ∷ 0 ∷ 2 ∷ 1 ∷ 0 ∷ 0 ∷ 0 ∷ 0 ∷ 0 ∷ 0 ∷ 0 ∷ 0 ∷
+    4 ∷ 1 ∷ 0 ∷ 2 ∷ 1 ∷ 0 ∷ 0 ∷ 0 ∷ 0 ∷ 0 ∷ 0 ∷ 0 ∷ 0 ∷
+    4 ∷ 1 ∷ 0 ∷ 2 ∷ 1 ∷ 0 ∷ 0 ∷ 0 ∷ 0 ∷ 0 ∷ 0 ∷ 0 ∷ 0 ∷
+    4 ∷ 1 ∷ 0 ∷ 2 ∷ 1 ∷ 0 ∷ 0 ∷ 0 ∷ 0 ∷ 0 ∷ 0 ∷ 0 ∷ 0 ∷
+    3 ∷ 0 ∷ 0 ∷ 0 ∷ 1 ∷ 4 ∷
+    4 ∷ 0 ∷ 0 ∷ 0 ∷ 1 ∷ 0 ∷ 0 ∷ 0 ∷ 0 ∷ 0 ∷ 0 ∷ 0 ∷ 2 ∷
+    4 ∷ 2 ∷ 0 ∷ 0 ∷ 1 ∷ 0 ∷ 0 ∷ 0 ∷ 0 ∷ 0 ∷ 0 ∷ 0 ∷ 3 ∷
+    4 ∷ 0 ∷ 0 ∷ 0 ∷ 1 ∷ 255 ∷ 255 ∷ 255 ∷ 255 ∷ 255 ∷ 255 ∷ 255 ∷ 255 ∷
+    4 ∷ 0 ∷ 0 ∷ 0 ∷ 1 ∷ 255 ∷ 255 ∷ 255 ∷ 255 ∷ 255 ∷ 255 ∷ 255 ∷ 255 ∷
+    3 ∷ 0 ∷ 0 ∷ 0 ∷ 2 ∷ 2 ∷
+    4 ∷ 1 ∷ 0 ∷ 2 ∷ 1 ∷ 255 ∷ 255 ∷ 255 ∷ 255 ∷ 255 ∷ 255 ∷ 255 ∷ 255 ∷
+    4 ∷ 3 ∷ 0 ∷ 0 ∷ 1 ∷ 0 ∷ 0 ∷ 0 ∷ 0 ∷ 0 ∷ 0 ∷ 0 ∷ 3 ∷
+    4 ∷ 1 ∷ 0 ∷ 0 ∷ 1 ∷ 0 ∷ 0 ∷ 0 ∷ 0 ∷ 0 ∷ 0 ∷ 0 ∷ 3 ∷
+    4 ∷ 2 ∷ 0 ∷ 0 ∷ 1 ∷ 0 ∷ 0 ∷ 0 ∷ 0 ∷ 0 ∷ 0 ∷ 0 ∷ 1 ∷ []
+
+abbrev image-4312 : List ℕ
+image-4312 =
+    1 ∷ 0 ∷ 0 ∷ 0 ∷ 0 ∷ 0 ∷ 3 ∷ 0 ∷ 1 ∷ 0 ∷ 1 ∷ 0 ∷ 0 ∷ 0 ∷ 1 ∷ 0 ∷ 0 ∷ 0 ∷ 4 ∷ 0 ∷ 0 ∷ 0 ∷ 1 ∷ 1 ∷
+    2 ∷ 0 ∷ 1 ∷ 1 ∷ 7 ∷ 0 ∷ 0 ∷ 0 ∷ 0 ∷ 0 ∷
+    2 ∷ 0 ∷ 2 ∷ 5 ∷ 4 ∷ 0 ∷ 0 ∷ 0 ∷ 0 ∷ 0 ∷
+    2 ∷ 0 ∷ 0 ∷ 6 ∷ 7 ∷ 0 ∷ 0 ∷ 1 ∷ 0 ∷ 0 ∷
+    2 ∷ 0 ∷ 2 ∷ 4 ∷ 0 ∷ 0 ∷ 0 ∷ 0 ∷ 0 ∷ 1 ∷
+    3 ∷ 0 ∷ 0 ∷ 0 ∷ 0 ∷ 0 ∷
+    4 ∷ 1 ∷ 0 ∷ 2 ∷ 1 ∷ 0 ∷ 0 ∷ 0 ∷ 0 ∷ 0 ∷ 0 ∷ 0 ∷ 0 ∷
+    4 ∷ 2 ∷ 0 ∷ 0 ∷ 1 ∷ 0 ∷ 0 ∷ 0 ∷ 0 ∷ 0 ∷ 0 ∷ 0 ∷ 1 ∷
+    4 ∷ 1 ∷ 0 ∷ 2 ∷ 1 ∷ 0 ∷ 0 ∷ 0 ∷ 0 ∷ 0 ∷ 0 ∷ 0 ∷ 0 ∷
+    4 ∷ 1 ∷ 0 ∷ 2 ∷ 1 ∷ 0 ∷ 0 ∷ 0 ∷ 0 ∷ 0 ∷ 0 ∷ 0 ∷ 0 ∷
+    3 ∷ 0 ∷ 0 ∷ 0 ∷ 1 ∷ 4 ∷
+    4 ∷ 0 ∷ 0 ∷ 0 ∷ 1 ∷ 0 ∷ 0 ∷ 0 ∷ 0 ∷ 0 ∷ 0 ∷ 0 ∷ 2 ∷
+    4 ∷ 2 ∷ 0 ∷ 0 ∷ 1 ∷ 0 ∷ 0 ∷ 0 ∷ 0 ∷ 0 ∷ 0 ∷ 0 ∷ 3 ∷
+    4 ∷ 0 ∷ 0 ∷ 0 ∷ 1 ∷ 255 ∷ 255 ∷ 255 ∷ 255 ∷ 255 ∷ 255 ∷ 255 ∷ 255 ∷
+    4 ∷ 0 ∷ 0 ∷ 0 ∷ 1 ∷ 255 ∷ 255 ∷ 255 ∷ 255 ∷ 255 ∷ 255 ∷ 255 ∷ 255 ∷
+    3 ∷ 0 ∷ 0 ∷ 0 ∷ 2 ∷ 2 ∷
+    4 ∷ 1 ∷ 0 ∷ 2 ∷ 1 ∷ 255 ∷ 255 ∷ 255 ∷ 255 ∷ 255 ∷ 255 ∷ 255 ∷ 255 ∷
+    4 ∷ 3 ∷ 0 ∷ 0 ∷ 1 ∷ 0 ∷ 0 ∷ 0 ∷ 0 ∷ 0 ∷ 0 ∷ 0 ∷ 3 ∷
+    4 ∷ 1 ∷ 0 ∷ 0 ∷ 1 ∷ 0 ∷ 0 ∷ 0 ∷ 0 ∷ 0 ∷ 0 ∷ 0 ∷ 3 ∷
+    4 ∷ 2 ∷ 0 ∷ 0 ∷ 1 ∷ 0 ∷ 0 ∷ 0 ∷ 0 ∷ 0 ∷ 0 ∷ 0 ∷ 1 ∷ []
+
+abbrev image-4313 : List ℕ
+image-4313 =
+    1 ∷ 0 ∷ 0 ∷ 0 ∷ 0 ∷ 0 ∷ 3 ∷ 0 ∷ 1 ∷ 0 ∷ 1 ∷ 0 ∷ 0 ∷ 0 ∷ 1 ∷ 0 ∷ 0 ∷ 0 ∷ 4 ∷ 0 ∷ 0 ∷ 0 ∷ 1 ∷ 1 ∷
+    2 ∷ 0 ∷ 1 ∷ 1 ∷ 7 ∷ 0 ∷ 0 ∷ 0 ∷ 0 ∷ 0 ∷
+    2 ∷ 0 ∷ 2 ∷ 5 ∷ 4 ∷ 0 ∷ 0 ∷ 0 ∷ 0 ∷ 0 ∷
+    2 ∷ 0 ∷ 0 ∷ 6 ∷ 7 ∷ 0 ∷ 0 ∷ 1 ∷ 0 ∷ 0 ∷
+    2 ∷ 0 ∷ 2 ∷ 4 ∷ 0 ∷ 0 ∷ 0 ∷ 0 ∷ 0 ∷ 1 ∷
+    3 ∷ 0 ∷ 0 ∷ 0 ∷ 0 ∷ 0 ∷
+    4 ∷ 1 ∷ 0 ∷ 2 ∷ 1 ∷ 0 ∷ 0 ∷ 0 ∷ 0 ∷ 0 ∷ 0 ∷ 0 ∷ 0 ∷
+    4 ∷ 2 ∷ 0 ∷ 0 ∷ 1 ∷ 0 ∷ 0 ∷ 0 ∷ 0 ∷ 0 ∷ 0 ∷ 0 ∷ 1 ∷
+    4 ∷ 1 ∷ 0 ∷ 2 ∷ 1 ∷ 0 ∷ 0 ∷ 0 ∷ 0 ∷ 0 ∷ 0 ∷ 0 ∷ 0 ∷
+    4 ∷ 1 ∷ 0 ∷ 2 ∷ 1 ∷ 0 ∷ 0 ∷ 0 ∷ 0 ∷ 0 ∷ 0 ∷ 0 ∷ 0 ∷
+    3 ∷ 0 ∷ 0 ∷ 0 ∷ 1 ∷ 5 ∷
+    4 ∷ 0 ∷ 0 ∷ 0 ∷ 1 ∷ 0 ∷ 0 ∷ 0 ∷ 0 ∷ 0 ∷ 0 ∷ 0 ∷ 2 ∷
+    4 ∷ 2 ∷ 0 ∷ 0 ∷ 1 ∷ 0 ∷ 0 ∷ 0 ∷ 0 ∷ 0 ∷ 0 ∷ 0 ∷ 3 ∷
+    4 ∷ 0 ∷ 0 ∷ 0 ∷ 1 ∷ 255 ∷ 255 ∷ 255 ∷ 255 ∷ 255 ∷ 255 ∷ 255 ∷ 255 ∷
+    4 ∷ 0 ∷ 0 ∷ 0 ∷ 1 ∷ 255 ∷ 255 ∷ 255 ∷ 255 ∷ 255 ∷ 255 ∷ 255 ∷ 255 ∷
+    3 ∷ 0 ∷ 0 ∷ 0 ∷ 2 ∷ 2 ∷
+    4 ∷ 1 ∷ 0 ∷ 2 ∷ 1 ∷ 255 ∷ 255 ∷ 255 ∷ 255 ∷ 255 ∷ 255 ∷ 255 ∷ 255 ∷
+    4 ∷ 3 ∷ 0 ∷ 0 ∷ 1 ∷ 0 ∷ 0 ∷ 0 ∷ 0 ∷ 0 ∷ 0 ∷ 0 ∷ 3 ∷
+    4 ∷ 1 ∷ 0 ∷ 0 ∷ 1 ∷ 0 ∷ 0 ∷ 0 ∷ 0 ∷ 0 ∷ 0 ∷ 0 ∷ 3 ∷
+    4 ∷ 2 ∷ 0 ∷ 0 ∷ 1 ∷ 0 ∷ 0 ∷ 0 ∷ 0 ∷ 0 ∷ 0 ∷ 0 ∷ 1 ∷ []
+
+abbrev image-4314 : List ℕ
+image-4314 =
+    1 ∷ 0 ∷ 0 ∷ 0 ∷ 0 ∷ 0 ∷ 3 ∷ 0 ∷ 1 ∷ 0 ∷ 1 ∷ 0 ∷ 0 ∷ 0 ∷ 2 ∷ 0 ∷ 0 ∷ 0 ∷ 4 ∷ 0 ∷ 0 ∷ 0 ∷ 1 ∷ 1 ∷
+    2 ∷ 0 ∷ 1 ∷ 1 ∷ 7 ∷ 0 ∷ 0 ∷ 0 ∷ 0 ∷ 0 ∷
+    2 ∷ 0 ∷ 2 ∷ 5 ∷ 4 ∷ 0 ∷ 0 ∷ 0 ∷ 0 ∷ 0 ∷
+    2 ∷ 0 ∷ 0 ∷ 6 ∷ 7 ∷ 0 ∷ 0 ∷ 1 ∷ 0 ∷ 0 ∷
+    2 ∷ 0 ∷ 2 ∷ 4 ∷ 0 ∷ 0 ∷ 0 ∷ 0 ∷ 0 ∷ 1 ∷
+    3 ∷ 0 ∷ 0 ∷ 0 ∷ 0 ∷ 0 ∷
+    4 ∷ 1 ∷ 0 ∷ 2 ∷ 1 ∷ 0 ∷ 0 ∷ 0 ∷ 0 ∷ 0 ∷ 0 ∷ 0 ∷ 0 ∷
+    4 ∷ 2 ∷ 0 ∷ 0 ∷ 1 ∷ 0 ∷ 0 ∷ 0 ∷ 0 ∷ 0 ∷ 0 ∷ 0 ∷ 1 ∷
+    4 ∷ 1 ∷ 0 ∷ 2 ∷ 1 ∷ 0 ∷ 0 ∷ 0 ∷ 0 ∷ 0 ∷ 0 ∷ 0 ∷ 0 ∷
+    4 ∷ 1 ∷ 0 ∷ 2 ∷ 1 ∷ 0 ∷ 0 ∷ 0 ∷ 0 ∷ 0 ∷ 0 ∷ 0 ∷ 0 ∷
+    3 ∷ 0 ∷ 0 ∷ 0 ∷ 1 ∷ 5 ∷
+    4 ∷ 0 ∷ 0 ∷ 0 ∷ 1 ∷ 0 ∷ 0 ∷ 0 ∷ 0 ∷ 0 ∷ 0 ∷ 0 ∷ 2 ∷
+    4 ∷ 2 ∷ 0 ∷ 0 ∷ 1 ∷ 0 ∷ 0 ∷ 0 ∷ 0 ∷ 0 ∷ 0 ∷ 0 ∷ 3 ∷
+    4 ∷ 0 ∷ 0 ∷ 0 ∷ 1 ∷ 255 ∷ 255 ∷ 255 ∷ 255 ∷ 255 ∷ 255 ∷ 255 ∷ 255 ∷
+    4 ∷ 0 ∷ 0 ∷ 0 ∷ 1 ∷ 255 ∷ 255 ∷ 255 ∷ 255 ∷ 255 ∷ 255 ∷ 255 ∷ 255 ∷
+    3 ∷ 0 ∷ 0 ∷ 0 ∷ 2 ∷ 2 ∷
+    4 ∷ 1 ∷ 0 ∷ 2 ∷ 1 ∷ 255 ∷ 255 ∷ 255 ∷ 255 ∷ 255 ∷ 255 ∷ 255 ∷ 255 ∷
+    4 ∷ 3 ∷ 0 ∷ 0 ∷ 1 ∷ 0 ∷ 0 ∷ 0 ∷ 0 ∷ 0 ∷ 0 ∷ 0 ∷ 3 ∷
+    4 ∷ 1 ∷ 0 ∷ 0 ∷ 1 ∷ 0 ∷ 0 ∷ 0 ∷ 0 ∷ 0 ∷ 0 ∷ 0 ∷ 3 ∷
+    4 ∷ 2 ∷ 0 ∷ 0 ∷ 1 ∷ 0 ∷ 0 ∷ 0 ∷ 0 ∷ 0 ∷ 0 ∷ 0 ∷ 1 ∷ []
+
+-- calls 4307 to 4317
+calls-4307 :
     outcomes none
-    (read-line 1000000 image-3649
-    ∷ call-line 1000000 (mark-as-downloading 0 0 (some 18446744073709551615) 7272 (words 4352 []))
-    ∷ call-line 1000000 (question (partial-at 0))
-    ∷ call-line 1000000 (pick-pieces (asking 152 3 3 5 (some 3) 1 (255 ∷ []) []) 4351 (words 4352 (3589709685 ∷ 346487449 ∷ [])))
-    ∷ call-line 1000000 (abort-download 0 0 none (words 4352 []))
-    ∷ call-line 1000000 (mark-as-writing 0 0 none (words 4352 []))
-    ∷ call-line 1000000 (question (ofPicker dirty))
-    ∷ call-line 1000000 (question (ofPiece hashing? 0))
-    ∷ call-line 1000000 (piece-passed 0)
-    ∷ call-line 1000000 (mark-as-writing 0 0 (some 1) (words 5000 []))
-    ∷ call-line 1000000 (piece-passed 0)
+    (read-line 1000000 image-4307
+    ∷ call-line 1000000 (mark-as-downloading 5 0 none 128 (words 5000 []))
+    ∷ call-line 1000000 (inc-refcount 1 (words 4351 []))
+    ∷ call-line 1000000 (pick-pieces (asking 98 3 1 1 (some 18446744073709551615) 4 (255 ∷ []) []) 4351 (words 4352 (2115268340 ∷ [])))
+    ∷ call-line 1000000 inc-refcount-all
+    ∷ call-line 1000000 (mark-as-writing 0 1 (some 1) (words 4352 []))
+    ∷ call-line 1000000 (piece-passed 1)
+    ∷ call-line 1000000 inc-refcount-all
+    ∷ call-line 1000000 (pick-pieces (asking 106 3 0 5 (some 3) 4 (255 ∷ []) (1 ∷ 3 ∷ [])) 4351 (words 4352 []))
+    ∷ call-line 1000000 (mark-as-writing 1 3 (some 3) (words 0 []))
+    ∷ call-line 1000000 (question (ofBlock get-downloader 9223372036854775807 0))
     ∷ [])
-    ≡ outcome stands image-3649
-    ∷ outcome (answered (said true 0)) image-3650
-    ∷ outcome (answered (told (numbers ((some 0) ∷ [])))) image-3650
-    ∷ outcome (answered (picked ((pieceBlock 0 0) ∷ []) 43008 (0 ∷ 0 ∷ 0 ∷ 0 ∷ 0 ∷ 0 ∷ 1 ∷ []) 2)) image-3650
-    ∷ outcome (answered (done 0)) image-3653
-    ∷ outcome (answered (said true 0)) image-3654
-    ∷ outcome (answered (told (numbers ((some 0) ∷ [])))) image-3654
-    ∷ outcome (answered (told (numbers ((some 0) ∷ [])))) image-3654
-    ∷ outcome (answered (done 0)) image-3658
-    ∷ outcome (answered (said false 0)) image-3659
-    ∷ outcome (answered (done 0)) image-3659
+    ≡ outcome stands image-4307
+    ∷ outcome (answered (refused OutOfRange)) image-4307
+    ∷ outcome (answered (refused FewDraws)) image-4307
+    ∷ outcome (answered (picked ((pieceBlock 1 2) ∷ (pieceBlock 1 3) ∷ (pieceBlock 1 0) ∷ []) 3072 (0 ∷ 0 ∷ 0 ∷ 0 ∷ 0 ∷ 0 ∷ 0 ∷ []) 1)) image-4307
+    ∷ outcome (answered (done 0)) image-4311
+    ∷ outcome (answered (said true 0)) image-4312
+    ∷ outcome (answered (done 0)) image-4313
+    ∷ outcome (answered (done 0)) image-4314
+    ∷ outcome (answered (picked ((pieceBlock 1 0) ∷ (pieceBlock 1 2) ∷ (pieceBlock 1 3) ∷ []) 2 (1 ∷ 0 ∷ 0 ∷ 0 ∷ 0 ∷ 0 ∷ 0 ∷ []) 0)) image-4314
+    ∷ outcome (answered (refused FewDraws)) image-4314
+    ∷ outcome (answered (refused OutOfRange)) image-4314
     ∷ []
 unfolding replaying
-calls-3649 = refl
+calls-4307 = refl
 
-abbrev image-3724 : List ℕ
-image-3724 =
-    1 ∷ 0 ∷ 0 ∷ 0 ∷ 0 ∷ 0 ∷ 0 ∷ 0 ∷ 1 ∷ 0 ∷ 0 ∷ 0 ∷ 3 ∷ 0 ∷ 1 ∷ 0 ∷ 0 ∷ 0 ∷ 1 ∷ 0 ∷ 0 ∷ 0 ∷ 0 ∷ 1 ∷
-    2 ∷ 3 ∷ 230 ∷ 6 ∷ 7 ∷ 0 ∷ 0 ∷ 0 ∷ 0 ∷ 0 ∷
-    3 ∷ 0 ∷ 0 ∷ 0 ∷ 0 ∷ 0 ∷
-    4 ∷ 0 ∷ 0 ∷ 0 ∷ 0 ∷ 0 ∷ 0 ∷ 0 ∷ 0 ∷ 0 ∷ 0 ∷ 0 ∷ 0 ∷ []
+abbrev image-4386 : List ℕ
+image-4386 =
+    1 ∷ 0 ∷ 0 ∷ 0 ∷ 0 ∷ 0 ∷ 0 ∷ 0 ∷ 9 ∷ 0 ∷ 0 ∷ 0 ∷ 3 ∷ 0 ∷ 0 ∷ 0 ∷ 0 ∷ 0 ∷ 2 ∷ 0 ∷ 0 ∷ 0 ∷ 2 ∷ 1 ∷
+    2 ∷ 0 ∷ 0 ∷ 4 ∷ 4 ∷ 0 ∷ 0 ∷ 0 ∷ 0 ∷ 3 ∷
+    2 ∷ 0 ∷ 1 ∷ 4 ∷ 7 ∷ 1 ∷ 0 ∷ 0 ∷ 0 ∷ 3 ∷
+    2 ∷ 0 ∷ 5 ∷ 4 ∷ 7 ∷ 0 ∷ 0 ∷ 0 ∷ 0 ∷ 3 ∷
+    5 ∷ 0 ∷ 0 ∷ 0 ∷ 0 ∷ []
 
-abbrev image-3725 : List ℕ
-image-3725 =
-    1 ∷ 0 ∷ 0 ∷ 0 ∷ 0 ∷ 0 ∷ 0 ∷ 0 ∷ 1 ∷ 0 ∷ 0 ∷ 0 ∷ 3 ∷ 0 ∷ 1 ∷ 0 ∷ 0 ∷ 0 ∷ 1 ∷ 0 ∷ 0 ∷ 0 ∷ 0 ∷ 0 ∷
-    2 ∷ 3 ∷ 230 ∷ 6 ∷ 7 ∷ 0 ∷ 0 ∷ 0 ∷ 0 ∷ 0 ∷
-    3 ∷ 0 ∷ 0 ∷ 0 ∷ 0 ∷ 0 ∷
-    4 ∷ 0 ∷ 0 ∷ 0 ∷ 0 ∷ 0 ∷ 0 ∷ 0 ∷ 0 ∷ 0 ∷ 0 ∷ 0 ∷ 0 ∷
-    6 ∷ 0 ∷ 0 ∷ 0 ∷ 0 ∷ []
-
--- calls 3724 to 3725
-calls-3724 :
+-- calls 4386 to 4391
+calls-4386 :
     outcomes none
-    (read-line 1000000 image-3724
-    ∷ call-line 1000000 (pick-pieces (asking 82 5 1 3 (some 3) 1 (255 ∷ []) []) 4351 (words 4352 (1 ∷ [])))
+    (read-line 1000000 image-4386
+    ∷ call-line 1000000 (question (ofBlock is-requested 0 0))
+    ∷ call-line 1000000 (question (ofBlock block-state 4 1))
+    ∷ call-line 1000000 (pick-pieces (asking 190 0 2 5 none 2 (255 ∷ []) (0 ∷ [])) 4351 (words 4352 []))
+    ∷ call-line 1000000 (piece-passed 2)
+    ∷ call-line 1000000 (question (listOfPiece get-downloaders 2 1000000))
     ∷ [])
-    ≡ outcome stands image-3724
-    ∷ outcome (answered (picked [] 10320 (0 ∷ 0 ∷ 1 ∷ 0 ∷ 0 ∷ 0 ∷ 1 ∷ []) 1)) image-3725
+    ≡ outcome stands image-4386
+    ∷ outcome (answered (replied (numbers ((some 0) ∷ [])))) image-4386
+    ∷ outcome (answered (refused OutOfRange)) image-4386
+    ∷ outcome (answered (refused PickArguments)) image-4386
+    ∷ outcome (answered (done 0)) image-4386
+    ∷ outcome (answered (replied (numbers (none ∷ [])))) image-4386
     ∷ []
 unfolding replaying
-calls-3724 = refl
+calls-4386 = refl
 
-abbrev image-3964 : List ℕ
-image-3964 =
-    1 ∷ 0 ∷ 0 ∷ 0 ∷ 0 ∷ 0 ∷ 0 ∷ 0 ∷ 10 ∷ 0 ∷ 0 ∷ 0 ∷ 3 ∷ 0 ∷ 0 ∷ 0 ∷ 0 ∷ 0 ∷ 2 ∷ 0 ∷ 0 ∷ 0 ∷ 2 ∷ 1 ∷
-    2 ∷ 3 ∷ 232 ∷ 4 ∷ 7 ∷ 1 ∷ 0 ∷ 0 ∷ 0 ∷ 0 ∷
-    2 ∷ 0 ∷ 2 ∷ 2 ∷ 1 ∷ 0 ∷ 0 ∷ 0 ∷ 0 ∷ 3 ∷
-    2 ∷ 0 ∷ 3 ∷ 2 ∷ 4 ∷ 0 ∷ 0 ∷ 0 ∷ 0 ∷ 3 ∷
-    2 ∷ 0 ∷ 7 ∷ 4 ∷ 4 ∷ 0 ∷ 0 ∷ 0 ∷ 0 ∷ 0 ∷
+abbrev image-4806 : List ℕ
+image-4806 =
+    1 ∷ 0 ∷ 0 ∷ 0 ∷ 0 ∷ 0 ∷ 2 ∷ 0 ∷ 0 ∷ 0 ∷ 0 ∷ 128 ∷ 0 ∷ 0 ∷ 1 ∷ 0 ∷ 0 ∷ 0 ∷ 0 ∷ 0 ∷ 0 ∷ 0 ∷ 0 ∷ 1 ∷
+    2 ∷ 0 ∷ 1 ∷ 4 ∷ 4 ∷ 0 ∷ 0 ∷ 0 ∷ 0 ∷ 0 ∷
+    2 ∷ 0 ∷ 3 ∷ 0 ∷ 6 ∷ 0 ∷ 0 ∷ 0 ∷ 0 ∷ 0 ∷
+    2 ∷ 3 ∷ 230 ∷ 4 ∷ 4 ∷ 0 ∷ 0 ∷ 0 ∷ 0 ∷ 0 ∷
+    2 ∷ 0 ∷ 0 ∷ 1 ∷ 7 ∷ 0 ∷ 0 ∷ 0 ∷ 0 ∷ 0 ∷
     3 ∷ 0 ∷ 0 ∷ 0 ∷ 1 ∷ 0 ∷
-    4 ∷ 3 ∷ 0 ∷ 3 ∷ 1 ∷ 0 ∷ 0 ∷ 0 ∷ 0 ∷ 0 ∷ 0 ∷ 0 ∷ 3 ∷
-    3 ∷ 0 ∷ 0 ∷ 0 ∷ 2 ∷ 0 ∷
-    4 ∷ 3 ∷ 0 ∷ 0 ∷ 1 ∷ 255 ∷ 255 ∷ 255 ∷ 255 ∷ 255 ∷ 255 ∷ 255 ∷ 255 ∷ []
+    4 ∷ 0 ∷ 0 ∷ 0 ∷ 1 ∷ 0 ∷ 0 ∷ 0 ∷ 0 ∷ 0 ∷ 0 ∷ 0 ∷ 2 ∷
+    4 ∷ 1 ∷ 3 ∷ 231 ∷ 1 ∷ 0 ∷ 0 ∷ 0 ∷ 0 ∷ 0 ∷ 0 ∷ 0 ∷ 1 ∷
+    3 ∷ 0 ∷ 0 ∷ 0 ∷ 3 ∷ 0 ∷
+    4 ∷ 1 ∷ 0 ∷ 2 ∷ 1 ∷ 0 ∷ 0 ∷ 0 ∷ 0 ∷ 0 ∷ 0 ∷ 0 ∷ 2 ∷
+    4 ∷ 1 ∷ 0 ∷ 2 ∷ 1 ∷ 0 ∷ 0 ∷ 0 ∷ 0 ∷ 0 ∷ 0 ∷ 0 ∷ 2 ∷ []
 
--- calls 3964 to 3965
-calls-3964 :
+abbrev image-4808 : List ℕ
+image-4808 =
+    1 ∷ 0 ∷ 0 ∷ 0 ∷ 0 ∷ 0 ∷ 2 ∷ 0 ∷ 0 ∷ 0 ∷ 0 ∷ 128 ∷ 0 ∷ 0 ∷ 1 ∷ 0 ∷ 0 ∷ 0 ∷ 0 ∷ 0 ∷ 0 ∷ 0 ∷ 0 ∷ 1 ∷
+    2 ∷ 0 ∷ 1 ∷ 4 ∷ 4 ∷ 0 ∷ 0 ∷ 0 ∷ 0 ∷ 0 ∷
+    2 ∷ 0 ∷ 2 ∷ 0 ∷ 6 ∷ 0 ∷ 0 ∷ 0 ∷ 0 ∷ 0 ∷
+    2 ∷ 3 ∷ 230 ∷ 4 ∷ 4 ∷ 0 ∷ 0 ∷ 0 ∷ 0 ∷ 0 ∷
+    2 ∷ 0 ∷ 0 ∷ 1 ∷ 7 ∷ 0 ∷ 0 ∷ 0 ∷ 0 ∷ 0 ∷
+    3 ∷ 0 ∷ 0 ∷ 0 ∷ 1 ∷ 0 ∷
+    4 ∷ 0 ∷ 0 ∷ 0 ∷ 1 ∷ 0 ∷ 0 ∷ 0 ∷ 0 ∷ 0 ∷ 0 ∷ 0 ∷ 2 ∷
+    4 ∷ 1 ∷ 3 ∷ 231 ∷ 1 ∷ 0 ∷ 0 ∷ 0 ∷ 0 ∷ 0 ∷ 0 ∷ 0 ∷ 1 ∷
+    3 ∷ 0 ∷ 0 ∷ 0 ∷ 3 ∷ 0 ∷
+    4 ∷ 1 ∷ 0 ∷ 2 ∷ 1 ∷ 0 ∷ 0 ∷ 0 ∷ 0 ∷ 0 ∷ 0 ∷ 0 ∷ 2 ∷
+    4 ∷ 1 ∷ 0 ∷ 2 ∷ 1 ∷ 0 ∷ 0 ∷ 0 ∷ 0 ∷ 0 ∷ 0 ∷ 0 ∷ 2 ∷ []
+
+abbrev image-4809 : List ℕ
+image-4809 =
+    1 ∷ 0 ∷ 0 ∷ 0 ∷ 0 ∷ 0 ∷ 2 ∷ 0 ∷ 0 ∷ 0 ∷ 0 ∷ 128 ∷ 0 ∷ 0 ∷ 1 ∷ 0 ∷ 0 ∷ 0 ∷ 0 ∷ 0 ∷ 0 ∷ 0 ∷ 0 ∷ 1 ∷
+    2 ∷ 0 ∷ 1 ∷ 4 ∷ 4 ∷ 0 ∷ 0 ∷ 0 ∷ 0 ∷ 0 ∷
+    2 ∷ 0 ∷ 2 ∷ 0 ∷ 6 ∷ 0 ∷ 0 ∷ 0 ∷ 0 ∷ 0 ∷
+    2 ∷ 3 ∷ 230 ∷ 4 ∷ 4 ∷ 0 ∷ 0 ∷ 0 ∷ 0 ∷ 0 ∷
+    2 ∷ 0 ∷ 0 ∷ 3 ∷ 0 ∷ 0 ∷ 0 ∷ 0 ∷ 0 ∷ 0 ∷
+    3 ∷ 0 ∷ 0 ∷ 0 ∷ 1 ∷ 0 ∷
+    4 ∷ 0 ∷ 0 ∷ 0 ∷ 1 ∷ 0 ∷ 0 ∷ 0 ∷ 0 ∷ 0 ∷ 0 ∷ 0 ∷ 2 ∷
+    4 ∷ 1 ∷ 3 ∷ 231 ∷ 1 ∷ 0 ∷ 0 ∷ 0 ∷ 0 ∷ 0 ∷ 0 ∷ 0 ∷ 1 ∷
+    3 ∷ 0 ∷ 0 ∷ 0 ∷ 3 ∷ 0 ∷
+    4 ∷ 1 ∷ 0 ∷ 2 ∷ 1 ∷ 0 ∷ 0 ∷ 0 ∷ 0 ∷ 0 ∷ 0 ∷ 0 ∷ 2 ∷
+    4 ∷ 1 ∷ 0 ∷ 2 ∷ 1 ∷ 0 ∷ 0 ∷ 0 ∷ 0 ∷ 0 ∷ 0 ∷ 0 ∷ 2 ∷ []
+
+-- calls 4806 to 4810
+calls-4806 :
     outcomes none
-    (read-line 1000000 image-3964
-    ∷ call-line 1000000 (mark-as-writing 2147483648 0 none (words 4352 []))
+    (read-line 1000000 image-4806
+    ∷ call-line 1000000 (pick-pieces (asking 40964 8 2047 10 (some 3) 4 (255 ∷ []) (3 ∷ 0 ∷ 0 ∷ 3 ∷ 3 ∷ 3 ∷ 0 ∷ 1 ∷ 3 ∷ 2 ∷ 2 ∷ 1 ∷ 1 ∷ 2 ∷ 3 ∷ 0 ∷ 3 ∷ 2 ∷ 1 ∷ 1 ∷ [])) 4351 (words 4352 (193617407 ∷ [])))
+    ∷ call-line 1000000 (dec-refcount 1 (words 5000 []))
+    ∷ call-line 1000000 (set-piece-priority 3 0 (words 4352 []))
+    ∷ call-line 1000000 (question (ofPiece locked? 0))
     ∷ [])
-    ≡ outcome stands image-3964
-    ∷ outcome (answered (refused 5)) image-3964
+    ≡ outcome stands image-4806
+    ∷ outcome (answered (picked ((pieceBlock 0 0) ∷ (pieceBlock 0 1) ∷ (pieceBlock 2 0) ∷ (pieceBlock 2 1) ∷ []) 10272 (0 ∷ 20 ∷ 0 ∷ 0 ∷ 4 ∷ 0 ∷ 0 ∷ []) 1)) image-4806
+    ∷ outcome (answered (done 0)) image-4808
+    ∷ outcome (answered (said true 0)) image-4809
+    ∷ outcome (answered (replied nothing)) image-4809
     ∷ []
 unfolding replaying
-calls-3964 = refl
+calls-4806 = refl
 
-abbrev image-4025 : List ℕ
-image-4025 =
-    1 ∷ 0 ∷ 0 ∷ 0 ∷ 0 ∷ 0 ∷ 0 ∷ 0 ∷ 6 ∷ 0 ∷ 0 ∷ 0 ∷ 3 ∷ 0 ∷ 1 ∷ 0 ∷ 0 ∷ 0 ∷ 1 ∷ 0 ∷ 0 ∷ 0 ∷ 1 ∷ 0 ∷
-    2 ∷ 0 ∷ 3 ∷ 2 ∷ 7 ∷ 0 ∷ 0 ∷ 0 ∷ 0 ∷ 3 ∷
-    2 ∷ 0 ∷ 9 ∷ 1 ∷ 4 ∷ 0 ∷ 0 ∷ 0 ∷ 0 ∷ 0 ∷
-    3 ∷ 0 ∷ 0 ∷ 0 ∷ 0 ∷ 1 ∷
-    4 ∷ 3 ∷ 0 ∷ 0 ∷ 1 ∷ 0 ∷ 0 ∷ 0 ∷ 0 ∷ 0 ∷ 0 ∷ 0 ∷ 0 ∷
-    3 ∷ 0 ∷ 0 ∷ 0 ∷ 1 ∷ 4 ∷
-    4 ∷ 1 ∷ 0 ∷ 0 ∷ 1 ∷ 0 ∷ 0 ∷ 0 ∷ 0 ∷ 0 ∷ 0 ∷ 0 ∷ 2 ∷ []
+abbrev image-4866 : List ℕ
+image-4866 =
+    1 ∷ 0 ∷ 0 ∷ 0 ∷ 0 ∷ 0 ∷ 0 ∷ 128 ∷ 1 ∷ 0 ∷ 0 ∷ 128 ∷ 0 ∷ 0 ∷ 0 ∷ 0 ∷ 0 ∷ 0 ∷ 0 ∷ 0 ∷ 0 ∷ 0 ∷ 2 ∷ 1 ∷
+    2 ∷ 0 ∷ 0 ∷ 4 ∷ 4 ∷ 0 ∷ 0 ∷ 0 ∷ 0 ∷ 0 ∷
+    2 ∷ 0 ∷ 0 ∷ 4 ∷ 4 ∷ 0 ∷ 0 ∷ 0 ∷ 0 ∷ 0 ∷ []
 
-abbrev image-4027 : List ℕ
-image-4027 =
-    1 ∷ 0 ∷ 0 ∷ 0 ∷ 0 ∷ 0 ∷ 0 ∷ 0 ∷ 6 ∷ 0 ∷ 0 ∷ 0 ∷ 3 ∷ 0 ∷ 1 ∷ 0 ∷ 0 ∷ 0 ∷ 1 ∷ 0 ∷ 0 ∷ 0 ∷ 1 ∷ 0 ∷
-    2 ∷ 0 ∷ 3 ∷ 2 ∷ 7 ∷ 0 ∷ 0 ∷ 0 ∷ 0 ∷ 3 ∷
-    2 ∷ 0 ∷ 9 ∷ 1 ∷ 4 ∷ 0 ∷ 0 ∷ 0 ∷ 0 ∷ 0 ∷
-    3 ∷ 0 ∷ 0 ∷ 0 ∷ 0 ∷ 1 ∷
-    4 ∷ 3 ∷ 0 ∷ 0 ∷ 1 ∷ 0 ∷ 0 ∷ 0 ∷ 0 ∷ 0 ∷ 0 ∷ 0 ∷ 0 ∷
-    3 ∷ 0 ∷ 0 ∷ 0 ∷ 1 ∷ 4 ∷
-    4 ∷ 1 ∷ 0 ∷ 1 ∷ 1 ∷ 0 ∷ 0 ∷ 0 ∷ 0 ∷ 0 ∷ 0 ∷ 0 ∷ 1 ∷ []
-
-abbrev image-4031 : List ℕ
-image-4031 =
-    1 ∷ 0 ∷ 0 ∷ 0 ∷ 0 ∷ 0 ∷ 0 ∷ 0 ∷ 6 ∷ 0 ∷ 0 ∷ 0 ∷ 3 ∷ 0 ∷ 1 ∷ 0 ∷ 0 ∷ 0 ∷ 1 ∷ 0 ∷ 0 ∷ 0 ∷ 1 ∷ 0 ∷
-    2 ∷ 0 ∷ 3 ∷ 2 ∷ 7 ∷ 0 ∷ 0 ∷ 0 ∷ 0 ∷ 3 ∷
-    2 ∷ 0 ∷ 9 ∷ 2 ∷ 4 ∷ 0 ∷ 0 ∷ 0 ∷ 0 ∷ 0 ∷
-    3 ∷ 0 ∷ 0 ∷ 0 ∷ 0 ∷ 1 ∷
-    4 ∷ 3 ∷ 0 ∷ 0 ∷ 1 ∷ 0 ∷ 0 ∷ 0 ∷ 0 ∷ 0 ∷ 0 ∷ 0 ∷ 0 ∷
-    3 ∷ 0 ∷ 0 ∷ 0 ∷ 1 ∷ 4 ∷
-    4 ∷ 2 ∷ 0 ∷ 0 ∷ 1 ∷ 0 ∷ 0 ∷ 0 ∷ 0 ∷ 0 ∷ 0 ∷ 0 ∷ 0 ∷ []
-
-abbrev image-4032 : List ℕ
-image-4032 =
-    1 ∷ 0 ∷ 0 ∷ 0 ∷ 0 ∷ 0 ∷ 0 ∷ 0 ∷ 6 ∷ 0 ∷ 0 ∷ 0 ∷ 3 ∷ 0 ∷ 1 ∷ 0 ∷ 0 ∷ 0 ∷ 1 ∷ 0 ∷ 0 ∷ 0 ∷ 1 ∷ 0 ∷
-    2 ∷ 0 ∷ 3 ∷ 2 ∷ 7 ∷ 0 ∷ 0 ∷ 0 ∷ 0 ∷ 3 ∷
-    2 ∷ 0 ∷ 10 ∷ 2 ∷ 4 ∷ 0 ∷ 0 ∷ 0 ∷ 0 ∷ 0 ∷
-    3 ∷ 0 ∷ 0 ∷ 0 ∷ 0 ∷ 1 ∷
-    4 ∷ 3 ∷ 0 ∷ 0 ∷ 1 ∷ 0 ∷ 0 ∷ 0 ∷ 0 ∷ 0 ∷ 0 ∷ 0 ∷ 0 ∷
-    3 ∷ 0 ∷ 0 ∷ 0 ∷ 1 ∷ 4 ∷
-    4 ∷ 2 ∷ 0 ∷ 0 ∷ 1 ∷ 0 ∷ 0 ∷ 0 ∷ 0 ∷ 0 ∷ 0 ∷ 0 ∷ 0 ∷ []
-
--- calls 4025 to 4039
-calls-4025 :
+-- calls 4866 to 4867
+calls-4866 :
     outcomes none
-    (read-line 1000000 image-4025
-    ∷ call-line 1000000 (question (listOfPicker get-download-queue 1000000))
-    ∷ call-line 1000000 (mark-as-downloading 1 0 (some 1) 196 (words 4352 []))
-    ∷ call-line 1000000 (mark-as-finished 0 0 (some 2) (words 4351 []))
-    ∷ call-line 1000000 (pick-pieces (asking 148 300 0 1 (some 1) 2 (255 ∷ []) []) 4351 (words 4352 []))
-    ∷ call-line 1000000 (set-piece-priority 1 4 (words 5000 []))
-    ∷ call-line 1000000 (mark-as-writing 1 0 (some 0) (words 4352 []))
-    ∷ call-line 1000000 (inc-refcount 1 (words 4352 []))
-    ∷ call-line 1000000 (question (recent-extent 0))
-    ∷ call-line 1000000 (pick-pieces (asking 3108 2047 0 2 (some 2) 2 (255 ∷ []) []) 4351 (words 4352 (0 ∷ [])))
-    ∷ call-line 1000000 (question (ofPicker distributed-copies))
-    ∷ call-line 42 (abort-download 0 0 (some 3) (words 4352 []))
-    ∷ call-line 1000000 (pick-pieces (asking 240 2047 1 0 (some 3) 2 (255 ∷ []) (1 ∷ 1 ∷ [])) 4351 (words 5000 []))
-    ∷ call-line 0 dec-refcount-all
+    (new-line 1000000 32769 32768
+    ∷ call-line 1000000 (pick-pieces (asking 130 3 0 3 (some 3) 3 (255 ∷ []) []) 4351 (words 4351 []))
     ∷ [])
-    ≡ outcome stands image-4025
-    ∷ outcome (answered (told (numbers ((some 1) ∷ (some 0) ∷ (some 0) ∷ (some 0) ∷ (some 0) ∷ (some 1) ∷ (some 1) ∷ (some 0) ∷ (some 1) ∷ (some 1) ∷ (some 0) ∷ (some 0) ∷ (some 0) ∷ (some 0) ∷ [])))) image-4025
-    ∷ outcome (answered (said true 0)) image-4027
-    ∷ outcome (answered (refused 4)) image-4027
-    ∷ outcome (answered (picked [] 8192 (0 ∷ 0 ∷ 0 ∷ 0 ∷ 0 ∷ 0 ∷ 0 ∷ []) 0)) image-4027
-    ∷ outcome (answered (said false 0)) image-4027
-    ∷ outcome (answered (said true 0)) image-4031
-    ∷ outcome (answered (done 0)) image-4032
-    ∷ outcome (answered (told nothing)) image-4032
-    ∷ outcome (answered (picked [] 9216 (0 ∷ 0 ∷ 0 ∷ 0 ∷ 0 ∷ 0 ∷ 0 ∷ []) 1)) image-4032
-    ∷ outcome (answered (told (numbers ((some 4) ∷ (some 500) ∷ [])))) image-4032
-    ∷ outcome (answered (done 0)) image-4032
-    ∷ outcome (answered (picked [] 10272 (0 ∷ 2 ∷ 0 ∷ 0 ∷ 0 ∷ 0 ∷ 0 ∷ []) 0)) image-4032
-    ∷ outcome (answered (refused 2)) image-4032
+    ≡ outcome stands image-4866
+    ∷ outcome (answered (refused FewDraws)) image-4866
     ∷ []
 unfolding replaying
-calls-4025 = refl
+calls-4866 = refl
+
+abbrev image-4896 : List ℕ
+image-4896 =
+    1 ∷ 0 ∷ 0 ∷ 0 ∷ 0 ∷ 0 ∷ 1 ∷ 31 ∷ 3 ∷ 0 ∷ 0 ∷ 64 ∷ 0 ∷ 0 ∷ 0 ∷ 0 ∷ 0 ∷ 0 ∷ 0 ∷ 0 ∷ 0 ∷ 0 ∷ 5 ∷ 1 ∷
+    2 ∷ 0 ∷ 0 ∷ 4 ∷ 4 ∷ 0 ∷ 0 ∷ 0 ∷ 0 ∷ 0 ∷
+    2 ∷ 0 ∷ 0 ∷ 4 ∷ 4 ∷ 0 ∷ 0 ∷ 0 ∷ 0 ∷ 0 ∷
+    2 ∷ 0 ∷ 0 ∷ 4 ∷ 4 ∷ 0 ∷ 0 ∷ 0 ∷ 0 ∷ 0 ∷
+    2 ∷ 0 ∷ 0 ∷ 4 ∷ 4 ∷ 0 ∷ 0 ∷ 0 ∷ 0 ∷ 0 ∷
+    2 ∷ 0 ∷ 0 ∷ 4 ∷ 4 ∷ 0 ∷ 0 ∷ 0 ∷ 0 ∷ 0 ∷ []
+
+abbrev image-4901 : List ℕ
+image-4901 =
+    1 ∷ 0 ∷ 0 ∷ 0 ∷ 0 ∷ 0 ∷ 1 ∷ 31 ∷ 3 ∷ 0 ∷ 0 ∷ 64 ∷ 0 ∷ 0 ∷ 0 ∷ 0 ∷ 0 ∷ 0 ∷ 0 ∷ 0 ∷ 0 ∷ 0 ∷ 5 ∷ 1 ∷
+    2 ∷ 0 ∷ 0 ∷ 4 ∷ 4 ∷ 0 ∷ 0 ∷ 0 ∷ 0 ∷ 0 ∷
+    2 ∷ 0 ∷ 1 ∷ 4 ∷ 4 ∷ 0 ∷ 0 ∷ 0 ∷ 0 ∷ 0 ∷
+    2 ∷ 0 ∷ 0 ∷ 4 ∷ 4 ∷ 0 ∷ 0 ∷ 0 ∷ 0 ∷ 0 ∷
+    2 ∷ 0 ∷ 0 ∷ 4 ∷ 4 ∷ 0 ∷ 0 ∷ 0 ∷ 0 ∷ 0 ∷
+    2 ∷ 0 ∷ 0 ∷ 4 ∷ 4 ∷ 0 ∷ 0 ∷ 0 ∷ 0 ∷ 0 ∷ []
+
+abbrev image-4902 : List ℕ
+image-4902 =
+    1 ∷ 0 ∷ 0 ∷ 0 ∷ 0 ∷ 0 ∷ 1 ∷ 31 ∷ 3 ∷ 0 ∷ 0 ∷ 64 ∷ 0 ∷ 0 ∷ 0 ∷ 0 ∷ 0 ∷ 0 ∷ 0 ∷ 0 ∷ 0 ∷ 0 ∷ 5 ∷ 1 ∷
+    2 ∷ 0 ∷ 1 ∷ 4 ∷ 4 ∷ 0 ∷ 0 ∷ 0 ∷ 0 ∷ 0 ∷
+    2 ∷ 0 ∷ 1 ∷ 4 ∷ 4 ∷ 0 ∷ 0 ∷ 0 ∷ 0 ∷ 0 ∷
+    2 ∷ 0 ∷ 0 ∷ 4 ∷ 4 ∷ 0 ∷ 0 ∷ 0 ∷ 0 ∷ 0 ∷
+    2 ∷ 0 ∷ 0 ∷ 4 ∷ 4 ∷ 0 ∷ 0 ∷ 0 ∷ 0 ∷ 0 ∷
+    2 ∷ 0 ∷ 0 ∷ 4 ∷ 4 ∷ 0 ∷ 0 ∷ 0 ∷ 0 ∷ 0 ∷ []
+
+abbrev image-4903 : List ℕ
+image-4903 =
+    1 ∷ 0 ∷ 0 ∷ 0 ∷ 0 ∷ 0 ∷ 1 ∷ 31 ∷ 3 ∷ 0 ∷ 0 ∷ 64 ∷ 0 ∷ 0 ∷ 1 ∷ 0 ∷ 0 ∷ 0 ∷ 0 ∷ 0 ∷ 0 ∷ 0 ∷ 5 ∷ 1 ∷
+    2 ∷ 0 ∷ 1 ∷ 4 ∷ 4 ∷ 0 ∷ 0 ∷ 0 ∷ 0 ∷ 0 ∷
+    2 ∷ 0 ∷ 1 ∷ 4 ∷ 4 ∷ 0 ∷ 0 ∷ 0 ∷ 0 ∷ 0 ∷
+    2 ∷ 0 ∷ 0 ∷ 4 ∷ 4 ∷ 0 ∷ 0 ∷ 0 ∷ 0 ∷ 0 ∷
+    2 ∷ 0 ∷ 0 ∷ 4 ∷ 4 ∷ 0 ∷ 0 ∷ 0 ∷ 0 ∷ 0 ∷
+    2 ∷ 0 ∷ 0 ∷ 4 ∷ 4 ∷ 0 ∷ 0 ∷ 0 ∷ 0 ∷ 0 ∷ []
+
+-- calls 4896 to 4904
+calls-4896 :
+    outcomes none
+    (new-line 1000000 73475 16384
+    ∷ call-line 1000000 (piece-passed 2)
+    ∷ call-line 1000000 (pick-pieces (asking 194 2048 0 10 (some 1) 5 (245 ∷ []) (3 ∷ 4 ∷ [])) 4351 (words 4352 (1712160077 ∷ [])))
+    ∷ call-line 1000000 (abort-download 3 0 (some 18446744073709551615) (words 0 []))
+    ∷ call-line 1000000 (question (list-place 0))
+    ∷ call-line 1000000 (inc-refcount 1 (words 5000 []))
+    ∷ call-line 1000000 (inc-refcount 0 (words 4352 []))
+    ∷ call-line 1000000 inc-refcount-all
+    ∷ call-line 1000000 (set-piece-priority 3 7 (words 4351 []))
+    ∷ [])
+    ≡ outcome stands image-4896
+    ∷ outcome (answered (done 0)) image-4896
+    ∷ outcome (answered (picked ((pieceBlock 3 0) ∷ (pieceBlock 2 0) ∷ (pieceBlock 0 0) ∷ (pieceBlock 1 0) ∷ []) 9248 (0 ∷ 2 ∷ 0 ∷ 0 ∷ 2 ∷ 0 ∷ 0 ∷ []) 1)) image-4896
+    ∷ outcome (answered (refused FewDraws)) image-4896
+    ∷ outcome (answered (replied staleList)) image-4896
+    ∷ outcome (answered (done 0)) image-4901
+    ∷ outcome (answered (done 0)) image-4902
+    ∷ outcome (answered (done 0)) image-4903
+    ∷ outcome (answered (refused FewDraws)) image-4903
+    ∷ []
+unfolding replaying
+calls-4896 = refl

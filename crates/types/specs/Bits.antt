@@ -6,14 +6,14 @@ use mathlib.Core.Bool.{Bool, not}
 use mathlib.Core.List.{List, [], _∷_}
 
 -- some bit is set in both numbers
-abbrev pub meets : ℕ → ℕ → Bool
+abbrev pub meets : (a b : ℕ) → Bool
 meets a b = not (eqb (bitAnd a b) 0)
 
 -- the bits of both numbers
-abbrev pub union : ℕ → ℕ → ℕ
+abbrev pub union : (a b : ℕ) → ℕ
 union a b = bitOr a b
 
 -- n powers of two, from the one of k on
-abbrev pub powersFrom : ℕ → ℕ → List ℕ
+abbrev pub powersFrom : (k n : ℕ) → List ℕ
 powersFrom k zero = []
 powersFrom k (suc n) = 2 ^ k ∷ powersFrom (suc k) n

@@ -29,7 +29,8 @@ pub fn fits(mem: &[u64]) -> bool
     if !valid_geometry(mem[0], mem[1]) {
         return false;
     }
-    words_needed(num_pieces(mem[0], mem[1]), blocks_per_piece(mem[1])) <= mem.len() as u64
+    words_needed(num_pieces(mem[0], mem[1]), blocks_per_piece(mem[1]))
+        <= types::usize_to_u64(mem.len())
 }
 
 // Pieces, places, partials, extents and list, where the head is good. The keys are lent for the pieces' ranks.

@@ -44,6 +44,7 @@ fn call(picker: &mut PiecePicker, change: &Change) -> Answer {
         }
         Change::MarkAsWriting { piece, block, peer } => truth(picker.mark_as_writing(piece_block(piece, block), peer)),
         Change::MarkAsFinished { piece, block, peer } => done(picker.mark_as_finished(piece_block(piece, block), peer)),
+        Change::MarkAsCanceled { piece, block, peer } => done(picker.mark_as_canceled(piece_block(piece, block), peer)),
         Change::AbortDownload { piece, block, peer } => done(picker.abort_download(piece_block(piece, block), peer)),
         Change::LockPiece { piece } => done(picker.lock_piece(piece_index(piece))),
         Change::PiecePassed { piece } => done(picker.piece_passed(piece_index(piece))),
@@ -95,15 +96,17 @@ fn passes_twice(picker: &PiecePicker, change: &Change) -> bool {
 
 /// The call gives back the only block in use of a partial that has passed: the partial goes, and stays counted.
 fn gives_back_passed(picker: &PiecePicker, change: &Change) -> bool {
-    let Change::AbortDownload { piece, block, .. } = *change else {
+    let (Change::MarkAsCanceled { piece, block, .. } | Change::AbortDownload { piece, block, .. }) = *change else {
         return false;
     };
     let block = piece_block(piece, block);
-    let Some(partial) = picker.partial(block.piece_index) else {
+    let (Some(partial), Some(info)) = (picker.partial(block.piece_index), picker.block(block)) else {
         return false;
     };
+    let given_back = match change {
+        Change::MarkAsCanceled { .. } => info.state == BlockState::Writing,
+        _ => info.state == BlockState::Requested && info.num_peers <= 1,
+    };
     let in_use = partial.requested + partial.writing + partial.finished + u16::from(partial.hashing);
-    partial.passed_hash_check
-        && in_use == 1
-        && picker.block(block).is_some_and(|block| block.state == BlockState::Requested && block.num_peers <= 1)
+    partial.passed_hash_check && in_use == 1 && given_back
 }

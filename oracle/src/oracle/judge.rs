@@ -118,7 +118,9 @@ pub fn change(picker: &PiecePicker, change: &Change) -> Judgement {
             refuse_if(picker.block(block).is_some_and(|block| block.state == BlockState::Requested), 9)?;
             one_more_partial(picker, block.piece_index)
         }
-        Change::AbortDownload { piece, block, .. } => block_in_range(picker, piece, block).map(|_| ()),
+        Change::MarkAsCanceled { piece, block, .. } | Change::AbortDownload { piece, block, .. } => {
+            block_in_range(picker, piece, block).map(|_| ())
+        }
         Change::LockPiece { piece } | Change::PiecePassed { piece } => piece_in_range(picker, piece).map(|_| ()),
     }
 }

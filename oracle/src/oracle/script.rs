@@ -13,6 +13,9 @@ pub const DRAWS: u64 = 4352;
 /// Free output places where a script says nothing.
 const FREE: u64 = 4351;
 
+/// As much of a word as a message quotes.
+const QUOTED: usize = 80;
+
 pub struct Call {
     pub line: usize,
     pub what: What,
@@ -42,6 +45,7 @@ pub enum Change {
     MarkAsDownloading { piece: i64, block: i64, peer: Option<u64>, options: u16 },
     MarkAsWriting { piece: i64, block: i64, peer: Option<u64> },
     MarkAsFinished { piece: i64, block: i64, peer: Option<u64> },
+    MarkAsCanceled { piece: i64, block: i64, peer: Option<u64> },
     AbortDownload { piece: i64, block: i64, peer: Option<u64> },
     LockPiece { piece: i64 },
     PiecePassed { piece: i64 },
@@ -131,7 +135,7 @@ fn parse_call(text: &str, questions: &HashMap<&str, &'static Question>) -> Resul
         _ => match (parse_change(name, &mut arguments)?, questions.get(name)) {
             (Some(change), _) => What::Change(change),
             (None, Some(question)) => parse_question(question, &mut arguments)?,
-            (None, None) => return Err(format!("no such call: {name:?}")),
+            (None, None) => return Err(format!("no such call: {}", quoted(name))),
         },
     };
     let lent = parse_options(words, &what)?;
@@ -156,6 +160,10 @@ fn parse_change(name: &str, arguments: &mut Arguments) -> Result<Option<Change>,
         "mark_as_finished" => {
             let (piece, block, peer) = arguments.block_and_peer()?;
             Change::MarkAsFinished { piece, block, peer }
+        }
+        "mark_as_canceled" => {
+            let (piece, block, peer) = arguments.block_and_peer()?;
+            Change::MarkAsCanceled { piece, block, peer }
         }
         "abort_download" => {
             let (piece, block, peer) = arguments.block_and_peer()?;
@@ -192,13 +200,13 @@ fn parse_question(question: &'static Question, arguments: &mut Arguments) -> Res
 fn parse_options<'a>(words: impl Iterator<Item = &'a str>, what: &What) -> Result<Lent, String> {
     let (mut memory, mut room, mut draws, mut free) = (None, None, None, None);
     for word in words {
-        let (name, value) = word.split_once('=').ok_or_else(|| format!("not an option: {word:?}"))?;
+        let (name, value) = word.split_once('=').ok_or_else(|| format!("not an option: {}", quoted(word)))?;
         let before = match name {
             "mem" => memory.replace(length(value)?).is_some(),
             "draws" if what.may_draw() => draws.replace(parse_draws(value)?).is_some(),
             "room" if what.takes_room() => room.replace(length(value)?).is_some(),
             "free" if matches!(what, What::Pick(_)) => free.replace(length(value)?).is_some(),
-            _ => return Err(format!("not an option of this call: {word:?}")),
+            _ => return Err(format!("not an option of this call: {}", quoted(word))),
         };
         if before {
             return Err(format!("the option {name} comes twice"));
@@ -210,11 +218,11 @@ fn parse_options<'a>(words: impl Iterator<Item = &'a str>, what: &What) -> Resul
 
 fn parse_draws(text: &str) -> Result<Words, String> {
     if let Some((count, seed)) = text.split_once('~') {
-        return Ok(Words { count: length(count)?, made: Made::Seeded(parse_seed(seed)?) });
+        return Ok(Words { count: length(count)?, made: Made::Seeded(natural(seed, u64::MAX, "a seed")?) });
     }
     let (count, words) = text.split_once(':').map_or((text, None), |(count, words)| (count, Some(words)));
     let count = length(count)?;
-    let word = |text| u32::try_from(number(text)?).map_err(|_| format!("not a word of 32 bits: {text:?}"));
+    let word = |text| natural(text, u32::MAX.into(), "a word of 32 bits").map(|word| word as u32);
     let listed: Rc<[u32]> = match words {
         Some(words) => words.split(',').map(word).collect::<Result<_, String>>()?,
         None => Rc::new([]),
@@ -223,15 +231,6 @@ fn parse_draws(text: &str) -> Result<Words, String> {
         return Err(format!("more than {count} words listed"));
     }
     Ok(Words { count, made: Made::Listed(listed) })
-}
-
-/// A seed counts modulo 2^64, so that a number below 0 and one from 2^63 on both name one.
-fn parse_seed(text: &str) -> Result<u64, String> {
-    match number(text) {
-        Ok(number) => Ok(number as u64),
-        Err(_) if digits(text) => text.parse().map_err(|_| format!("not a seed: {text:?}")),
-        Err(fault) => Err(fault),
-    }
 }
 
 /// The words of a call's arguments, taken one after the other.
@@ -247,8 +246,7 @@ impl<'a> Arguments<'a, '_> {
     }
 
     fn options(&mut self) -> Result<u16, String> {
-        let number = self.number()?;
-        u16::try_from(number).map_err(|_| format!("not options: {number}"))
+        natural(self.word()?, u16::MAX.into(), "options").map(|options| options as u16)
     }
 
     fn block_and_peer(&mut self) -> Result<(i64, i64, Option<u64>), String> {
@@ -256,28 +254,36 @@ impl<'a> Arguments<'a, '_> {
     }
 }
 
-fn digits(text: &str) -> bool {
-    !text.is_empty() && text.bytes().all(|byte| byte.is_ascii_digit())
+/// A word of the script (ASCII) for a message, cut where it is long.
+fn quoted(word: &str) -> String {
+    format!("{:?}", &word[..word.len().min(QUOTED)])
+}
+
+/// Digits without a zero in front.
+fn is_decimal(text: &str) -> bool {
+    text == "0" || !text.is_empty() && !text.starts_with('0') && text.bytes().all(|byte| byte.is_ascii_digit())
 }
 
 fn number(text: &str) -> Result<i64, String> {
-    let fault = || format!("not a number: {text:?}");
-    if !digits(text.strip_prefix('-').unwrap_or(text)) {
-        return Err(fault());
-    }
-    text.parse().map_err(|_| fault())
+    let one_way = is_decimal(text) || text != "-0" && text.strip_prefix('-').is_some_and(is_decimal);
+    text.parse().ok().filter(|_| one_way).ok_or_else(|| format!("not a number: {}", quoted(text)))
+}
+
+/// A number from 0 to `most`, without a sign.
+fn natural(text: &str, most: u64, what: &str) -> Result<u64, String> {
+    let number = text.parse().ok().filter(|number| is_decimal(text) && *number <= most);
+    number.ok_or_else(|| format!("not {what}: {}", quoted(text)))
 }
 
 /// A lent length.
 fn length(text: &str) -> Result<u64, String> {
-    u64::try_from(number(text)?).map_err(|_| format!("a length below 0: {text:?}"))
+    natural(text, i64::MAX as u64, "a length")
 }
 
 fn peer(text: &str) -> Result<Option<u64>, String> {
     match text {
         "-" => Ok(None),
-        _ if digits(text) => text.parse().map(Some).map_err(|_| format!("not a peer: {text:?}")),
-        _ => Err(format!("not a peer: {text:?}")),
+        _ => natural(text, u64::MAX, "a peer").map(Some),
     }
 }
 

@@ -23,8 +23,8 @@ push-requires c κs = let d = c .before .before .draw in
       (t .pre .0, (t .pre .1 .0, t .pre .1 .1)),
     )
 
-more-requires : tie.Need-more-requires
-more-requires c κs = search needs
+one-if-less-requires : tie.Need-one-if-less-requires
+one-if-less-requires c κs = search needs
 
 same-length : tie.Need-same-length
 same-length c = search needs
@@ -34,7 +34,7 @@ returns c = let d = c .before .before .before .before .before .before .draw in
     let g = c .before .before .before .before .before .before .before .group-of in
     let t = c .before .before .before .before .before .before .before .before .before .before .before .before in (
       c .before .before .before .push .ensures ∙ pushed-added (g .ensures) (t .args .draws .now) (t .args .t) (d .result) (d .ensures),
-      c .more .ensures ∙ draws-are (g .ensures) (t .args .draws .now) (t .args .t) (d .result) (d .ensures),
+      c .one-if-less .ensures ∙ draws-are (g .ensures) (t .args .draws .now) (t .args .t) (d .result) (d .ensures),
     )
 
 pub add-spec : {M : Type 1} → statement M
@@ -45,6 +45,6 @@ add-spec =
     draw-requires
     add-push
     push-requires
-    more-requires
+    one-if-less-requires
     same-length
     returns)

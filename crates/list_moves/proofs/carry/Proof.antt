@@ -10,11 +10,11 @@ use Rattle.list_moves.proofs.carry.Statement.{statement}
 use Rattle.list_moves.proofs.carry.Tie as tie
 
 abbrev Inv-loop : tie.InvT-loop
-Inv-loop list₀ keys from e first held₀ j₀ list held j =
-    Carries (rankIn keys) (length keys) e (carried (rankIn keys) from e first list₀) list₀ list held j
+Inv-loop list₀ ranks from e first held₀ j₀ list held j =
+    Carries (rankIn ranks) (length ranks) e (carried (rankIn ranks) from e first list₀) list₀ list held j
 
 abbrev μ-loop : tie.MeasureT-loop
-μ-loop list₀ keys from e first held₀ j₀ list held j = e - j
+μ-loop list₀ ranks from e first held₀ j₀ list held j = e - j
 
 loop-holds : tie.Need-loop-holds Inv-loop μ-loop
 loop-holds c =
@@ -27,11 +27,11 @@ mul-y c = search needs
 slice-read-y : tie.Need-slice-read-y Inv-loop μ-loop
 slice-read-y c = search needs
 
-key-requires : tie.Need-key-requires Inv-loop μ-loop
-key-requires c κs = c .before .before .loop .inv .in-l _ (c .before .loop-test .taken)
+rank-of-requires : tie.Need-rank-of-requires Inv-loop μ-loop
+rank-of-requires c κs = c .before .before .loop .inv .in-l _ (c .before .loop-test .taken)
 
-key-requires-2 : tie.Need-key-requires-2 Inv-loop μ-loop
-key-requires-2 c κs = c .before .before .before .loop .inv .in-held
+rank-of-requires-2 : tie.Need-rank-of-requires-2 Inv-loop μ-loop
+rank-of-requires-2 c κs = c .before .before .before .loop .inv .in-held
 
 mul-list : tie.Need-mul-list Inv-loop μ-loop
 mul-list c = search needs
@@ -50,8 +50,8 @@ loop-again c =
     let l = c .before .before .before .before .before .loop in
     let t = c .before .before .before .before .before .before .before .before in
     let lt = c .before .before .before .before .loop-test .taken in
-    let ky = c .before .before .key .ensures in
-    let kh = c .before .key2 .ensures in
+    let ky = c .before .before .rank-of .ensures in
+    let kh = c .before .rank-of2 .ensures in
     ⊎-elim
     (λ w. rw (w .1, w .2) (carries-other (l .inv) (t .pre .1 .0) lt (λ q. w .0 .taken (ky ∙ q ∙ sym kh))))
     (λ w. rw (w .1, w .2) (carries-same (l .inv) (t .pre .1 .0) lt (sym ky ∙ w .0 .left ∙ kh)))
@@ -78,8 +78,8 @@ carry-spec =
     loop-holds
     mul-y
     slice-read-y
-    key-requires
-    key-requires-2
+    rank-of-requires
+    rank-of-requires-2
     mul-list
     slice-write-list
     add-j

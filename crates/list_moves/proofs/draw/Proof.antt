@@ -4,14 +4,14 @@ use Rattle.list_moves.proofs.Adding.{drawn, drawn-none}
 use Rattle.list_moves.proofs.draw.Statement.{statement}
 use Rattle.list_moves.proofs.draw.Tie as tie
 
-mul-wide : tie.Need-mul-wide
-mul-wide c = search needs
+mul-u32-to-usize : tie.Need-mul-u32-to-usize
+mul-u32-to-usize c = search needs
 
-shared-slice-read-wide : tie.Need-shared-slice-read-wide
-shared-slice-read-wide c = search needs
+shared-slice-read-u32-to-usize : tie.Need-shared-slice-read-u32-to-usize
+shared-slice-read-u32-to-usize c = search needs
 
-wide-requires : tie.Need-wide-requires
-wide-requires c κs = search needs
+u32-to-usize-requires : tie.Need-u32-to-usize-requires
+u32-to-usize-requires c κs = search needs
 
 add-result : tie.Need-add-result
 add-result c = search needs
@@ -22,7 +22,7 @@ rem-result c = search needs
 returns : tie.Need-returns
 returns c =
     let t = c .before .before .before .before in
-    drawn (t .args .draws .now) (t .args .t) (t .args .limit) (c .wide .result) (c .wide .ensures)
+    drawn (t .args .draws .now) (t .args .t) (t .args .limit) (c .u32-to-usize .result) (c .u32-to-usize .ensures)
 
 returns-2 : tie.Need-returns-2
 returns-2 c = let t = c .before .before in drawn-none (t .args .draws .now) (t .args .t) (t .args .limit) (c .if1 .left)
@@ -31,9 +31,9 @@ pub draw-spec : {M : Type 1} → statement M
 draw-spec =
     tie.close
     (tie.spec
-    mul-wide
-    shared-slice-read-wide
-    wide-requires
+    mul-u32-to-usize
+    shared-slice-read-u32-to-usize
+    u32-to-usize-requires
     add-result
     rem-result
     returns

@@ -9,10 +9,10 @@ use Rattle.list_moves.proofs.pull.Statement.{statement}
 use Rattle.list_moves.proofs.pull.Tie as tie
 
 abbrev Inv-loop : tie.InvT-loop
-Inv-loop list₀ keys i e held₀ j₀ list held j = Pulls (rankIn keys) (length keys) i e list₀ list held j
+Inv-loop list₀ ranks i e held₀ j₀ list held j = Pulls (rankIn ranks) (length ranks) i e list₀ list held j
 
 abbrev μ-loop : tie.MeasureT-loop
-μ-loop list₀ keys i e held₀ j₀ list held j = j
+μ-loop list₀ ranks i e held₀ j₀ list held j = j
 
 mul-held : tie.Need-mul-held Inv-loop μ-loop
 mul-held c = search needs
@@ -37,11 +37,11 @@ mul-y c = search needs
 slice-read-y : tie.Need-slice-read-y Inv-loop μ-loop
 slice-read-y c = search needs
 
-key-requires : tie.Need-key-requires Inv-loop μ-loop
-key-requires c κs = let l = c .before .before .loop in l .inv .in-l _ (omega arith)
+rank-of-requires : tie.Need-rank-of-requires Inv-loop μ-loop
+rank-of-requires c κs = let l = c .before .before .loop in l .inv .in-l _ (omega arith)
 
-key-requires-2 : tie.Need-key-requires-2 Inv-loop μ-loop
-key-requires-2 c κs = c .before .before .before .loop .inv .in-held
+rank-of-requires-2 : tie.Need-rank-of-requires-2 Inv-loop μ-loop
+rank-of-requires-2 c κs = c .before .before .before .loop .inv .in-held
 
 mul-list : tie.Need-mul-list Inv-loop μ-loop
 mul-list c = search needs
@@ -57,7 +57,7 @@ loop-again c =
     let l = c .before .before .before .before .before .loop in
     pulls-other (l .inv) (c .before .before .before .before .before .before .before .before .before .pre .1 .0)
     (omega arith)
-    (λ q. c .if1 .taken (c .before .before .key .ensures ∙ q ∙ sym (c .before .key2 .ensures)))
+    (λ q. c .if1 .taken (c .before .before .rank-of .ensures ∙ q ∙ sym (c .before .rank-of2 .ensures)))
 
 loop-less-2 : tie.Need-loop-less-2 Inv-loop μ-loop
 loop-less-2 c = search needs
@@ -66,7 +66,7 @@ loop-again-2 : tie.Need-loop-again-2 Inv-loop μ-loop
 loop-again-2 c =
     let l = c .before .before .before .before .before .loop in
     pulls-same (l .inv) (c .before .before .before .before .before .before .before .before .before .pre .1 .0)
-    (omega arith) (sym (c .before .before .key .ensures) ∙ c .if1 .left ∙ c .before .key2 .ensures)
+    (omega arith) (sym (c .before .before .rank-of .ensures) ∙ c .if1 .left ∙ c .before .rank-of2 .ensures)
 
 mul-list-2 : tie.Need-mul-list-2 Inv-loop μ-loop
 mul-list-2 c = search needs
@@ -93,8 +93,8 @@ pull-spec =
     sub-j
     mul-y
     slice-read-y
-    key-requires
-    key-requires-2
+    rank-of-requires
+    rank-of-requires-2
     mul-list
     slice-write-list
     loop-less

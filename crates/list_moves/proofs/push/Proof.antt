@@ -27,7 +27,7 @@ carry-requires c κs =
     let t = c .before .before .before .before .before in (
       omega arith,
       (
-        omega (arith, length-set (t .args .list .now) (t .args .p) (t .args .x)),
+        omega (arith, length-set (t .args .list .now) (t .args .p) (t .args .piece)),
         (pieces-set _ _ _ _ (t .args .list .now) (omega arith) (t .pre .1 .1 .1) (t .pre .1 .1 .0), t .pre .1 .1 .0 _ (omega arith)),
       ),
     )
@@ -35,12 +35,12 @@ carry-requires c κs =
 same-length : tie.Need-same-length
 same-length c =
     let t = c .before .before .before .before .before .before .before .before in
-    omega (arith, length-set (t .args .list .now) (t .args .p) (t .args .x))
+    omega (arith, length-set (t .args .list .now) (t .args .p) (t .args .piece))
 
 returns : tie.Need-returns
 returns c =
     let t = c .before .before .before .before .before .before .before .before in
-    c .before .before .carry .ensures ∙ pushed-carried _ (t .args .p) (t .args .e) (t .args .x) (t .args .list .now) (omega arith)
+    c .before .before .carry .ensures ∙ pushed-carried _ (t .args .p) (t .args .e) (t .args .piece) (t .args .list .now) (omega arith)
     (t .pre .1 .0)
 
 same-length-2 : tie.Need-same-length-2
@@ -49,7 +49,7 @@ same-length-2 c = search needs
 returns-2 : tie.Need-returns-2
 returns-2 c =
     let t = c .before .before .before .before in
-    pushed-end _ (t .args .p) (t .args .e) (t .args .x) (t .args .list .now) (t .pre .0) (omega arith) (t .pre .1 .0)
+    pushed-end _ (t .args .p) (t .args .e) (t .args .piece) (t .args .list .now) (t .pre .0) (omega arith) (t .pre .1 .0)
 
 pub push-spec : {M : Type 1} → statement M
 push-spec =

@@ -3,12 +3,12 @@ use borrow.Author.Needs.{needs}
 use mathlib.Core.Path.{_∙_}
 use native.Mathlib.Omega.{arith}
 use Rattle.list_update.proofs.Changing.{spot}
-use Rattle.list_update.proofs.Mending.{ready-pieces}
+use Rattle.list_update.proofs.UpdateLaws.{ready-pieces}
 use Rattle.list_update.proofs.change.Statement.{statement}
 use Rattle.list_update.proofs.change.Tie as tie
 
-key-requires : tie.Need-key-requires
-key-requires c κs = search needs
+rank-of-requires : tie.Need-rank-of-requires
+rank-of-requires c κs = search needs
 
 place-of-requires : tie.Need-place-of-requires
 place-of-requires c κs = search needs
@@ -25,13 +25,13 @@ to-earlier-requires c κs =
     (c .before .before .before .before .place-of .ensures) (c .before .before .group-of .ensures) in (
       m .has,
       (
-        m .ends (omega (arith, c .before .before .before .before .before .before .key .ensures, c .before .if1 .taken)),
+        m .ends (omega (arith, c .before .before .before .before .before .before .rank-of .ensures, c .before .if1 .taken)),
         (omega arith, λ k q. ready-pieces (t .args .list .now) (t .pre .1 .1 .0) (t .pre .0) k (omega arith)),
       ),
     )
 
-more-requires : tie.Need-more-requires
-more-requires c κs = search needs
+one-if-less-requires : tie.Need-one-if-less-requires
+one-if-less-requires c κs = search needs
 
 same-length : tie.Need-same-length
 same-length c = search needs
@@ -46,10 +46,10 @@ returns c =
           ∙ m .goes-earlier (t .args .draws .now) (t .args .t)
           (omega (
             arith,
-            c .before .before .before .before .before .before .before .before .before .before .key .ensures,
+            c .before .before .before .before .before .before .before .before .before .before .rank-of .ensures,
             c .before .before .before .before .before .if1 .taken,
           )),
-      c .more .ensures ∙ m .draws,
+      c .one-if-less .ensures ∙ m .draws,
     )
 
 to-later-requires : tie.Need-to-later-requires
@@ -62,7 +62,7 @@ to-later-requires c κs =
       (
         m .behind (omega (
           arith,
-          c .before .before .before .before .before .before .key .ensures,
+          c .before .before .before .before .before .before .rank-of .ensures,
           c .before .if1 .left,
           t .pre .1 .1 .1 .1,
         )),
@@ -70,8 +70,8 @@ to-later-requires c κs =
       ),
     )
 
-more-requires-2 : tie.Need-more-requires-2
-more-requires-2 c κs = search needs
+one-if-less-requires-2 : tie.Need-one-if-less-requires-2
+one-if-less-requires-2 c κs = search needs
 
 same-length-2 : tie.Need-same-length-2
 same-length-2 c = search needs
@@ -86,25 +86,25 @@ returns-2 c =
           ∙ m .goes-later (t .args .draws .now) (t .args .t)
           (omega (
             arith,
-            c .before .before .before .before .before .before .before .before .before .before .key .ensures,
+            c .before .before .before .before .before .before .before .before .before .before .rank-of .ensures,
             c .before .before .before .before .before .if1 .left,
             t .pre .1 .1 .1 .1,
           )),
-      c .more2 .ensures ∙ m .draws,
+      c .one-if-less2 .ensures ∙ m .draws,
     )
 
 pub change-spec : {M : Type 1} → statement M
 change-spec =
     tie.close
     (tie.spec
-    key-requires
+    rank-of-requires
     place-of-requires
     group-of-requires
     to-earlier-requires
-    more-requires
+    one-if-less-requires
     same-length
     returns
     to-later-requires
-    more-requires-2
+    one-if-less-requires-2
     same-length-2
     returns-2)

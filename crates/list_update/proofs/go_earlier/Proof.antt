@@ -6,11 +6,11 @@ use Rattle.list_update.proofs.Moving.{earlier-pushed}
 use Rattle.list_update.proofs.go_earlier.Statement.{statement}
 use Rattle.list_update.proofs.go_earlier.Tie as tie
 
-mul-x : tie.Need-mul-x
-mul-x c = search needs
+mul-piece : tie.Need-mul-piece
+mul-piece c = search needs
 
-slice-read-x : tie.Need-slice-read-x
-slice-read-x c = search needs
+slice-read-piece : tie.Need-slice-read-piece
+slice-read-piece c = search needs
 
 push-requires : tie.Need-push-requires
 push-requires c κs =
@@ -26,4 +26,4 @@ returns c =
     c .before .before .push .ensures ∙ earlier-pushed _ (t .args .p) (t .args .i) (t .args .list .now)
 
 pub go-earlier-spec : {M : Type 1} → statement M
-go-earlier-spec = tie.close (tie.spec mul-x slice-read-x push-requires same-length returns)
+go-earlier-spec = tie.close (tie.spec mul-piece slice-read-piece push-requires same-length returns)

@@ -9,11 +9,11 @@ use Rattle.list_update.proofs.Moving.{later-pulled, later-stays}
 use Rattle.list_update.proofs.go_later.Statement.{statement}
 use Rattle.list_update.proofs.go_later.Tie as tie
 
-mul-x : tie.Need-mul-x
-mul-x c = search needs
+mul-piece : tie.Need-mul-piece
+mul-piece c = search needs
 
-slice-read-x : tie.Need-slice-read-x
-slice-read-x c = search needs
+slice-read-piece : tie.Need-slice-read-piece
+slice-read-piece c = search needs
 
 pull-requires : tie.Need-pull-requires
 pull-requires c κs = search needs
@@ -42,8 +42,8 @@ pub go-later-spec : {M : Type 1} → statement M
 go-later-spec =
     tie.close
     (tie.spec
-    mul-x
-    slice-read-x
+    mul-piece
+    slice-read-piece
     pull-requires
     mul-list
     slice-write-list

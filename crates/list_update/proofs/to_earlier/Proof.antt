@@ -55,7 +55,7 @@ returns c =
     c .before .before .swap .ensures
     ∙ ap (λ (z : List ℕ). swap z p (t .args .s + c .before .before .before .before .before .before .before .before .draw .result))
     (c .before .before .before .before .before .before .go-earlier .ensures)
-    ∙ ap (λ (z : ℕ). swap (earlier (rankIn (t .args .keys .now)) p (t .args .i) (t .args .list .now)) p (t .args .s + z))
+    ∙ ap (λ (z : ℕ). swap (earlier (rankIn (t .args .ranks .now)) p (t .args .i) (t .args .list .now)) p (t .args .s + z))
     (c .before .before .before .before .before .before .before .before .draw .ensures)
 
 pub to-earlier-spec : {M : Type 1} → statement M

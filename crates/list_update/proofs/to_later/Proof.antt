@@ -52,7 +52,7 @@ returns c =
     ∙ ap (λ (z : List ℕ). swap z (t .args .s)
     (t .args .s + c .before .before .before .before .before .before .before .before .draw .result))
     (c .before .before .before .before .before .before .go-later .ensures)
-    ∙ ap (λ (z : ℕ). swap (later (rankIn (t .args .keys .now)) (t .args .i) (t .args .s) (t .args .list .now)) (t .args .s)
+    ∙ ap (λ (z : ℕ). swap (later (rankIn (t .args .ranks .now)) (t .args .i) (t .args .s) (t .args .list .now)) (t .args .s)
     (t .args .s + z)) (c .before .before .before .before .before .before .before .before .draw .ensures)
 
 pub to-later-spec : {M : Type 1} → statement M

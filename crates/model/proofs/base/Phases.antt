@@ -1,7 +1,7 @@
 -- What holds after a choice holds after both of its arms; each arm knows how the test came out.
 use mathlib.Core.Path.{_≡_, refl}
 use mathlib.Core.Bool.{Bool, true, false, cond}
-use Rattle.model.specs.Lists.{unless, when}
+use Rattle.model.specs.Lists.{unless, when, branch}
 
 module _ {S : Type 0} (P : S → Type 0) where
   -- one of two
@@ -14,6 +14,12 @@ module _ {S : Type 0} (P : S → Type 0) where
   unfolding when
   when-arms true f s g h = g refl
   when-arms false f s g h = h refl
+
+  -- one phase or another
+  pub branch-arms : (b : Bool) (f g : S → S) (s : S) → (b ≡ true → P (f s)) → (b ≡ false → P (g s)) → P (branch b f g s)
+  unfolding branch
+  branch-arms true f g s h k = h refl
+  branch-arms false f g s h k = k refl
 
   -- a phase unless the work is done
   pub unless-arms : (b : Bool) (f : S → S) (s : S) → (b ≡ false → P (f s)) → (b ≡ true → P s) → P (unless b f s)

@@ -6,17 +6,11 @@ use native.Mathlib.Omega.{arith}
 use mathlib.Core.Bool.{Bool, true, false}
 use mathlib.Core.List.{List, [], _∷_}
 use lib.ListN.{length}
-use Rattle.model.specs.Lists.{unless, when, repeat, walkUntil, walk, every, len}
+use Rattle.model.specs.Lists.{unless, when, repeat, walkUntil, walk, every, len, forEach}
 use Rattle.model.proofs.base.Truths.{and-left, and-right}
 
--- ---- taking a test apart
 -- ---- choices and phases
 module _ {S : Type 0} (I : S → Type 0) where
-  -- the same of a choice that waits
-  pub fork-keeps : (b : Bool) (x y : S) → (b ≡ true → I x) → (b ≡ false → I y) → I (elim b [ true ↦ x | false ↦ y ])
-  fork-keeps true x y f g = f refl
-  fork-keeps false x y f g = g refl
-
   -- a phase that is left out where the work is done
   pub unless-keeps : (b : Bool) (f : S → S) (s : S) → I s → (b ≡ false → I (f s)) → I (unless b f s)
   unfolding unless
@@ -86,6 +80,26 @@ module _ {A S : Type 0} (I : S → Type 0) (step : A → S → S) where
       walkUntil-ends (λ ys t. (done t ≡ false) × I t) I step (λ x t. done (step x t))
       (λ x ys t g e. (e, f x t (g .0) (g .1))) (λ x ys t g e. f x t (g .0) (g .1)) (λ t g. g .1) xs s (d, h)
 
+-- ---- a step for each element
+module _ {A S : Type 0} (step : A → S → S) where
+  -- a walk that never halts
+  pub forEach-walk : (xs : List A) (s : S) → forEach step xs s ≡ walkUntil step (λ x t. false) xs s
+  unfolding forEach walkUntil unless
+  forEach-walk [] s = refl
+  forEach-walk (x ∷ xs) s = forEach-walk xs (step x s)
+
+-- I is known of the elements that are left and the state
+module _ {A S : Type 0} (I : List A → S → Type 0) (step : A → S → S) where
+  pub forEach-ends : ((x : A) (xs : List A) (t : S) → I (x ∷ xs) t → I xs (step x t)) → (xs : List A) (s : S) → I xs s → I [] (forEach step xs s)
+  unfolding forEach
+  forEach-ends f [] s h = h
+  forEach-ends f (x ∷ xs) s h = forEach-ends f xs (step x s) (f x xs s h)
+
+module _ {A S : Type 0} (I : S → Type 0) (step : A → S → S) where
+  -- a predicate that each step keeps
+  pub forEach-keeps : ((x : A) (t : S) → I t → I (step x t)) → (xs : List A) (s : S) → I s → I (forEach step xs s)
+  forEach-keeps f xs s h = forEach-ends (λ ys t. I t) step (λ x ys t g. f x t g) xs s h
+
 -- ---- walks that count
 -- I is known of a number and the state, and a step raises the number: a walk raises it by at most one for each element
 module _ {A S : Type 0} (I : ℕ → S → Type 0) (more : (m n : ℕ) (t : S) → m ≤ n → I m t → I n t) (step : A → S → S) where
@@ -97,6 +111,11 @@ module _ {A S : Type 0} (I : ℕ → S → Type 0) (more : (m n : ℕ) (t : S) �
       (λ x ys t g e. (g .0 + k, f (g .0) x t (g .1), let l = g .2 in omega arith))
       (λ x ys t g e. let l = g .2 in more (g .0 + k) (m + length xs * k) (step x t) (omega arith) (f (g .0) x t (g .1)))
       (λ t g. let l = g .2 in more (g .0) (m + length xs * k) t (omega arith) (g .1)) xs s (m, h, omega arith)
+
+  -- the same of a step for each element
+  pub forEach-counts : (k : ℕ) → ((m : ℕ) (x : A) (t : S) → I m t → I (m + k) (step x t))
+      → (xs : List A) (m : ℕ) (s : S) → I m s → I (m + len xs * k) (forEach step xs s)
+  forEach-counts k f xs m s h = rw (forEach-walk step xs s) (walkUntil-counts k (λ x t. false) f xs m s h)
 
   -- the same up to the step after which the work is done
   pub walk-counts : (k : ℕ) (done : S → Bool) → ((m : ℕ) (x : A) (t : S) → I m t → I (m + k) (step x t))

@@ -2,19 +2,20 @@
 -- difference.
 use mathlib.Core.Path.{_≡_, refl}
 use Prim.Native.Nat.{ℕ, _-_}
-use mathlib.Core.Bool.{Bool, true, false}
+use mathlib.Core.Bool.{true, false}
 use mathlib.Core.List.{List, [], _∷_, _++_}
 use mathlib.Core.Option.{Option, none, some}
 use lib.ListN.{length, replicate}
+use Rattle.types.specs.declared.refusal.Refusal.the-variants.{ShortMemory, FewDraws, OutOfRange, NoPeerToTake, HavePiece, NotWriting}
 use Rattle.model.specs.State.{new}
-use Rattle.model.specs.ask.Questions.{Question, ofPicker, ofPiece, ofBlock, recent-extent, list-place, num-seeds, dirty?, have-piece}
-use Rattle.model.specs.ask.Questions.{is-piece-flushed, piece-stats, peer-count, download-state, block-peer, numbers, staleList}
-use Rattle.model.specs.ask.Questions.{nothing, one}
+use Rattle.model.specs.ask.Questions.{ofPicker, ofPiece, ofBlock, recent-extent, list-place, num-seeds, dirty?, have-piece}
+use Rattle.model.specs.ask.Questions.{is-piece-flushed, piece-stats, peer-count, download-state, block-state, block-num-peers}
+use Rattle.model.specs.ask.Questions.{block-peer, numbers, nothing, one}
 use Rattle.model.specs.pick.Blocks.{PickRequest, pieceBlock}
 use Rattle.model.specs.Calls.{Action, question, inc-refcount, dec-refcount, inc-refcount-all, set-piece-priority, mark-as-downloading}
-use Rattle.model.specs.Calls.{mark-as-writing, mark-as-finished, abort-download, piece-passed, pick-pieces, Call, refused, done, said}
-use Rattle.model.specs.Calls.{replied, picked, answers}
-use Rattle.model.specs.image.Program.{program, shown}
+use Rattle.model.specs.Calls.{mark-as-writing, mark-as-finished, mark-as-canceled, abort-download, piece-passed, pick-pieces, Call}
+use Rattle.model.specs.Calls.{refused, done, said, replied, picked, answers}
+use Rattle.model.specs.image.Program.{program}
 use Rattle.model.proofs.cases.Everything.{everything}
 
 -- n lent words: those listed, then zeros
@@ -38,7 +39,7 @@ example =
     2 ∷ 0 ∷ 1 ∷ 4 ∷ 4 ∷ 0 ∷ 0 ∷ 0 ∷ 0 ∷ 0 ∷
     7 ∷ 0 ∷ 3 ∷ 0 ∷ 3 ∷ 0 ∷ 0 ∷ 0 ∷ 10 ∷ 0 ∷ 0 ∷ 0 ∷ 0 ∷ 0 ∷ 0 ∷ 0 ∷ 0 ∷ 0 ∷ []
 
-pick-example : program example ≡ shown (picked (pieceBlock 0 0 ∷ pieceBlock 0 1 ∷ pieceBlock 1 0 ∷ []) 16 (0 ∷ 0 ∷ 2 ∷ 0 ∷ 0 ∷ 0 ∷ 0 ∷ []) 0)
+pick-example : program example ≡ picked (pieceBlock 0 0 ∷ pieceBlock 0 1 ∷ pieceBlock 1 0 ∷ []) 16 (0 ∷ 0 ∷ 2 ∷ 0 ∷ 0 ∷ 0 ∷ 0 ∷ []) 0
 unfolding everything example
 pick-example = refl
 
@@ -89,7 +90,7 @@ turned-and-back :
     ∷ replied (one 1)
     ∷ said true 0
     ∷ replied (numbers (some 1 ∷ none ∷ some 0 ∷ some 1 ∷ []))
-    ∷ refused 5
+    ∷ refused OutOfRange
     ∷ []
 unfolding everything
 turned-and-back = refl
@@ -111,7 +112,7 @@ break-one-seed :
     ∷ replied (one 0)
     ∷ replied (one 1)
     ∷ replied (one 1)
-    ∷ refused 7
+    ∷ refused NoPeerToTake
     ∷ []
 unfolding everything
 break-one-seed = refl
@@ -133,11 +134,11 @@ table-order :
     ∷ done 0
     ∷ done 0
     ∷ replied (one 1)
-    ∷ refused 8
-    ∷ refused 5
-    ∷ refused 4
-    ∷ refused 4
-    ∷ refused 2
+    ∷ refused HavePiece
+    ∷ refused OutOfRange
+    ∷ refused FewDraws
+    ∷ refused FewDraws
+    ∷ refused ShortMemory
     ∷ []
 unfolding everything
 table-order = refl
@@ -174,7 +175,7 @@ not-without-writing :
     ∷ call (question (ofPiece download-state 0))
     ∷ [])
     ≡ said true 0
-    ∷ refused 9
+    ∷ refused NotWriting
     ∷ said true 0
     ∷ done 0
     ∷ replied (one 2)
@@ -274,6 +275,24 @@ end-game :
 unfolding everything
 end-game = refl
 
+-- a peer is a number of 64 bits, in a mark as in a pick: 2^64 + 1 is peer 1, and peer 0 is another
+lent-peer :
+    answers (new 16384 16384)
+    (call (inc-refcount 0 draws)
+    ∷ call (mark-as-downloading 0 0 (some 18446744073709551617) 0 draws)
+    ∷ call (question (ofBlock block-peer 0 0))
+    ∷ call (pick-pieces (asking 1 1 0 10 (some 18446744073709551617) 1 (128 ∷ []) []) 4351 draws)
+    ∷ call (pick-pieces (asking 1 1 0 10 (some 18446744073709551616) 1 (128 ∷ []) []) 4351 draws)
+    ∷ [])
+    ≡ done 0
+    ∷ said true 0
+    ∷ replied (one 1)
+    ∷ picked [] 8192 (0 ∷ 0 ∷ 0 ∷ 0 ∷ 0 ∷ 0 ∷ 1 ∷ []) 1
+    ∷ picked (pieceBlock 0 0 ∷ []) 40960 (0 ∷ 0 ∷ 0 ∷ 0 ∷ 0 ∷ 0 ∷ 1 ∷ []) 2
+    ∷ []
+unfolding everything
+lent-peer = refl
+
 -- a suggestion out of range is skipped and counted
 skipped-suggestion :
     answers (new 32768 16384)
@@ -323,3 +342,94 @@ given-back :
     ∷ []
 unfolding everything
 given-back = refl
+
+-- a Requested block handed to another peer, and to none: it stays Requested, by as many
+handed-on :
+    answers (new 16384 16384)
+    (call (mark-as-downloading 0 0 (some 1) 0 draws)
+    ∷ call (mark-as-downloading 0 0 (some 2) 0 draws)
+    ∷ call (mark-as-canceled 0 0 (some 3) draws)
+    ∷ call (question (ofBlock block-state 0 0))
+    ∷ call (question (ofBlock block-num-peers 0 0))
+    ∷ call (question (ofBlock block-peer 0 0))
+    ∷ call (mark-as-canceled 0 0 none draws)
+    ∷ call (question (ofBlock block-state 0 0))
+    ∷ call (question (ofBlock block-peer 0 0))
+    ∷ [])
+    ≡ said true 0
+    ∷ said true 0
+    ∷ done 0
+    ∷ replied (one 1)
+    ∷ replied (one 2)
+    ∷ replied (one 3)
+    ∷ done 0
+    ∷ replied (one 1)
+    ∷ replied (numbers (none ∷ []))
+    ∷ []
+unfolding everything
+handed-on = refl
+
+-- Writing blocks given back: the first keeps the named peer while the partial stands, with the second the partial is closed. A Finished
+-- block stays as it is, and so does a piece without a partial
+canceled :
+    answers (new 49152 32768)
+    (call (inc-refcount 0 draws)
+    ∷ call (mark-as-writing 0 0 (some 1) draws)
+    ∷ call (mark-as-writing 0 1 (some 1) draws)
+    ∷ call (question (ofPiece download-state 0))
+    ∷ call (mark-as-canceled 0 0 (some 2) draws)
+    ∷ call (question (ofBlock block-state 0 0))
+    ∷ call (question (ofBlock block-peer 0 0))
+    ∷ call (question (ofPiece download-state 0))
+    ∷ call (mark-as-canceled 0 1 (some 2) draws)
+    ∷ call (question (ofBlock block-state 0 1))
+    ∷ call (question (ofPiece download-state 0))
+    ∷ call (mark-as-finished 1 0 (some 1) draws)
+    ∷ call (mark-as-canceled 1 0 (some 2) draws)
+    ∷ call (question (ofBlock block-peer 1 0))
+    ∷ call (mark-as-canceled 0 0 (some 2) draws)
+    ∷ call (mark-as-canceled 1 1 (some 2) draws)
+    ∷ call (mark-as-canceled 1 0 (some 2) (lent 4351 []))
+    ∷ [])
+    ≡ done 0
+    ∷ said true 0
+    ∷ said true 0
+    ∷ replied (one 2)
+    ∷ done 0
+    ∷ replied (one 0)
+    ∷ replied (one 2)
+    ∷ replied (one 0)
+    ∷ done 0
+    ∷ replied nothing
+    ∷ replied (one 4)
+    ∷ done 0
+    ∷ done 0
+    ∷ replied (one 1)
+    ∷ done 0
+    ∷ refused OutOfRange
+    ∷ refused FewDraws
+    ∷ []
+unfolding everything
+canceled = refl
+
+-- a piece that is back in its bucket is put into the list by a draw
+canceled-draws :
+    answers (new 32768 16384)
+    (call (inc-refcount 0 draws)
+    ∷ call (inc-refcount 1 draws)
+    ∷ call (mark-as-writing 0 0 (some 1) draws)
+    ∷ call (pick-pieces (asking 1 1 0 10 none 2 (192 ∷ []) []) 4351 draws)
+    ∷ call (mark-as-canceled 0 0 none (lent 4352 (1 ∷ [])))
+    ∷ call (question (list-place 0))
+    ∷ call (question (list-place 1))
+    ∷ [])
+    ≡ done 0
+    ∷ done 0
+    ∷ said true 0
+    ∷ picked (pieceBlock 1 0 ∷ []) 8 (0 ∷ 0 ∷ 0 ∷ 1 ∷ 0 ∷ 0 ∷ 0 ∷ []) 0
+    ∷ done 1
+    ∷ replied (one 1)
+    ∷ replied (one 0)
+    ∷ []
+unfolding everything
+canceled-draws = refl

@@ -1,32 +1,29 @@
 -- Pickers that answer every question alike are equal: each field of the image has its question.
-use mathlib.Core.Path.{_≡_, refl, sym, ap, _∙_, subst}
-use mathlib.Core.Logic.{_≢_, _⊎_, inl, inr}
+use mathlib.Core.Path.{_≡_, refl, sym, ap, _∙_}
 use Prim.Native.Nat.{ℕ, zero, suc, _+_, _≤_, _<_}
 use native.Mathlib.Omega.{arith}
 use native.Mathlib.Decide.{decLe}
-use mathlib.Core.Bool.{Bool, true, false, not, cond}
+use mathlib.Core.Bool.{Bool, true, false, cond}
 use mathlib.Core.List.{List, [], _∷_}
 use mathlib.Core.Option.{Option, none, some}
-use lib.ListN.{length, getD, getElem?}
+use lib.ListN.{length, getElem?}
 use lib.Seq.{ext-getD}
-use lib.Dec.{leb, ltb}
+use lib.Dec.{leb}
 use borrow.Author.Tests.{le-ltb, lt-leb, leb-true}
-use Rattle.types.specs.declared.queue.DownloadQueue.{DownloadQueue}
-use Rattle.types.specs.declared.block.BlockState.{BlockState}
-use Rattle.types.specs.Queue.{queueNumber}
-use Rattle.types.specs.Block.{blockStateNumber}
+use Rattle.types.specs.declared.refusal.Refusal.{Refusal}
+use Rattle.types.specs.declared.refusal.Refusal.the-variants.{OutOfRange}
 use Rattle.model.specs.Lists.{bit, len, each, nth}
-use Rattle.model.specs.State.{Piece, Block, DownloadingPiece, Picker, Listing, dirty, fresh, noPiece, noBlock, sameQueue, isOpen}
-use Rattle.model.specs.State.{isDirty, pieceAt, piecesIn, blocksInPiece}
+use Rattle.model.specs.State.{Piece, DownloadingPiece, Picker, Listing, dirty, fresh, noPiece, noBlock, sameQueue, isOpen, isDirty}
+use Rattle.model.specs.State.{pieceAt, piecesIn, blocksInPiece}
 use Rattle.model.specs.change.Partials.{partialOf, blockAt}
 use Rattle.model.specs.ask.Questions.{Question, ofPicker, ofPiece, ofBlock, recent-extent, list-place, total-size, full-piece-size}
 use Rattle.model.specs.ask.Questions.{num-seeds, cursor?, reverse-cursor?, dirty?, num-pieces, peer-count, download-state}
 use Rattle.model.specs.ask.Questions.{piece-priority, is-piece-flushed, pad-bytes-in-piece, passed-hash-check, locked?, hashing?}
-use Rattle.model.specs.ask.Questions.{block-state, block-num-peers, block-peer, OfPiece, OfBlock, Reply, numbers, nothing, staleList}
-use Rattle.model.specs.ask.Questions.{plain, one, flag, reply, replyPicker, replyPiece, replyBlock, ofPartial, ofBlockThere, blockIn}
-use Rattle.model.specs.ask.Questions.{placeIn, listPlace}
+use Rattle.model.specs.ask.Questions.{block-state, block-num-peers, block-peer, OfPiece, OfBlock, numbers, nothing, plain, one, flag}
+use Rattle.model.specs.ask.Questions.{reply, replyPicker, replyPiece, replyBlock, ofPartial, ofBlockThere, blockIn, placeIn}
+use Rattle.model.specs.ask.Questions.{listPlace}
 use Rattle.model.specs.Calls.{refuseBadPiece as pieceRefusal, refuseBadBlock as blockRefusal, Call, question, Answer, refused}
-use Rattle.model.specs.Calls.{replied, Step, step, answers, act, answering, unlessRefused, check, refusal, questionRefusal, noPlace}
+use Rattle.model.specs.Calls.{replied, step, answers, act, answering, unlessRefused, check, refusal, questionRefusal, noPlace}
 use Rattle.model.specs.Calls.{memoryNeeded}
 use Rattle.model.specs.image.Sound.{Sound, PartialSound}
 use Rattle.types.proofs.QueueNumbers.{queue-numbers}
@@ -90,7 +87,7 @@ with-memory u q n h = rw (le-ltb n (memoryNeeded u) h)
 
 unrefused : (u : Picker) (q : Question) → questionRefusal u q ≡ none → answered u q ≡ replied (reply u q)
 unfolding unlessRefused act answering
-unrefused u q h = ap (λ (o : Option ℕ). unlessRefused o u (question q) .answer) h
+unrefused u q h = ap (λ (o : Option Refusal). unlessRefused o u (question q) .answer) h
 
 piece-fits : (u : Picker) (i : ℕ) → i < piecesIn u → pieceRefusal u i none ≡ none
 unfolding pieceRefusal check
@@ -102,16 +99,16 @@ block-fits u i j h k = rw (lt-leb (piecesIn u) i h, lt-leb (blocksInPiece u i) j
 
 -- a place of a list that is not dirty
 abbrev placeAnswer : List ℕ → ℕ → Answer
-placeAnswer l k = cond (leb (length l) k) (refused 5) (replied (placeIn (getElem? l k)))
+placeAnswer l k = cond (leb (length l) k) (refused OutOfRange) (replied (placeIn (getElem? l k)))
 
 place-answered : (u : Picker) (l : List ℕ) (k : ℕ) → u .listing ≡ fresh l → answered u (list-place k) ≡ placeAnswer l k
 unfolding questionRefusal noPlace len unlessRefused listPlace check act answering reply
 place-answered u l k e = sym (ap shown (sym e)) ∙ judged (leb (length l) k)
   where
     shown : Listing → Answer
-    shown x = unlessRefused (check (noPlace x k) 5 none) u (question (list-place k)) .answer
+    shown x = unlessRefused (check (noPlace x k) OutOfRange none) u (question (list-place k)) .answer
 
-    judged : (b : Bool) → unlessRefused (check b 5 none) u (question (list-place k)) .answer ≡ cond b (refused 5) (replied (placeIn (getElem? l k)))
+    judged : (b : Bool) → unlessRefused (check b OutOfRange none) u (question (list-place k)) .answer ≡ cond b (refused OutOfRange) (replied (placeIn (getElem? l k)))
     judged true = refl
     judged false = ap replied (ap (λ (x : Listing). listPlace x k) e)
 
@@ -119,7 +116,7 @@ place-told : (l m : List ℕ) (k : ℕ) → placeAnswer l k ≡ placeAnswer m k 
 place-told l m k e = go (leb (length l) k) (leb (length m) k) refl refl e
   where
     go : (b c : Bool) → leb (length l) k ≡ b → leb (length m) k ≡ c
-        → cond b (refused 5) (replied (placeIn (getElem? l k))) ≡ cond c (refused 5) (replied (placeIn (getElem? m k)))
+        → cond b (refused OutOfRange) (replied (placeIn (getElem? l k))) ≡ cond c (refused OutOfRange) (replied (placeIn (getElem? m k)))
         → getElem? l k ≡ getElem? m k
     go true true p q r = elements-end l k (leb-true _ _ p) ∙ sym (elements-end m k (leb-true _ _ q))
     go true false p q r = let z : _≡_ {A = ℕ} 0 1 = cc in absurd (omega arith)

@@ -3,7 +3,6 @@ use mathlib.Core.Path.{_≡_, refl, ap, ap₂}
 use mathlib.Core.Bool.{Bool, cond, _&&_}
 use mathlib.Core.List.{List, [], _∷_, _++_}
 use Prim.Native.Nat.{ℕ, suc}
-use Rattle.model.specs.Lists.{len}
 use Rattle.model.specs.State.{Piece, DownloadingPiece, Picker, Listing, dirty, fresh, isOpen, pieceAt, piecesIn, pieceSizeAt}
 use Rattle.model.specs.State.{blocksPerPiece, blocksInPiece}
 use Rattle.model.specs.list.Order.{rank, withBucket}

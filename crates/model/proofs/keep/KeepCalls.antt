@@ -9,56 +9,68 @@ use mathlib.Core.Option.{Option, none, some, Option·none-ne-some}
 use lib.Dec.{eqb, ltb, leb}
 use borrow.Author.Tests.{leb-false, ltb-false, lt-ltb, not-false}
 use Rattle.types.specs.declared.block.BlockState.the-variants.{Requested}
+use Rattle.types.specs.declared.refusal.Refusal.{Refusal}
+use Rattle.types.specs.declared.refusal.Refusal.the-variants.{ShortMemory, FewDraws, OutOfRange, TooManyPeers, NoPeerToTake, HavePiece}
+use Rattle.types.specs.declared.refusal.Refusal.the-variants.{NotWriting, TooManyPartials, PickArguments}
 use Rattle.model.specs.Lists.{any, nth, len}
-use Rattle.model.specs.State.{Piece, DownloadingPiece, Picker, maxPeers, sameBlockState, minDraws, noPiece, pieceAt, piecesIn}
-use Rattle.model.specs.State.{blocksInPiece}
+use Rattle.model.specs.State.{Piece, DownloadingPiece, Picker, maxPeers, maxPriority, sameBlockState, minDraws, noPiece, pieceAt}
+use Rattle.model.specs.State.{piecesIn, blocksInPiece}
 use Rattle.model.specs.list.Order.{drawing}
 use Rattle.model.specs.change.Partials.{partialOf, blockAt}
 use Rattle.model.specs.change.Changes.{quietly}
 use Rattle.model.specs.ask.Questions.{blockIn, blockTest}
+use Rattle.model.specs.pick.Blocks.{PickRequest, option}
 use Rattle.model.specs.image.WellFormed.{peerOk}
 use Rattle.model.specs.image.Sound.{Sound}
 use Rattle.model.specs.Calls.{Action, question, inc-refcount, dec-refcount, inc-refcount-all, dec-refcount-all, set-piece-priority}
-use Rattle.model.specs.Calls.{mark-as-downloading, mark-as-writing, mark-as-finished, abort-download, lock-piece, piece-passed}
-use Rattle.model.specs.Calls.{pick-pieces, Call, check, refuseFewDraws, refuseBadPiece as pastPieces, refuseBadBlock as pastBlocks}
-use Rattle.model.specs.Calls.{peersFull, numPeersFull, blockThere, noPartialLeft, requestFits, refusal, memoryNeeded, answering}
-use Rattle.model.specs.Calls.{changing, doing, lentPeer, picking, act, unlessRefused, step, run}
+use Rattle.model.specs.Calls.{mark-as-downloading, mark-as-writing, mark-as-finished, mark-as-canceled, abort-download, lock-piece}
+use Rattle.model.specs.Calls.{piece-passed, pick-pieces, Call, check, refuseFewDraws, refuseBadPiece as pastPieces}
+use Rattle.model.specs.Calls.{refuseBadBlock as pastBlocks, peersFull, numPeersFull, blockThere, noPartialLeft, bitfieldFits}
+use Rattle.model.specs.Calls.{requestFits, refusal, memoryNeeded, answering, changing, doing, lentPeer, lentRequest, picking, act}
+use Rattle.model.specs.Calls.{unlessRefused, step, run}
 use Rattle.model.proofs.keep.KeepCounts.{incRefcount-keeps, decRefcount-keeps, incRefcountAll-keeps, decRefcountAll-keeps}
 use Rattle.model.proofs.keep.KeepBlocks.{lockPiece-keeps}
 use Rattle.model.proofs.keep.KeepClose.{piecePassed-keeps}
-use Rattle.model.proofs.keep.KeepMarks.{markAsDownloading-keeps, markAsWriting-keeps, markAsFinished-keeps, abortDownload-keeps}
+use Rattle.model.proofs.keep.KeepMarks.{markAsDownloading-keeps, markAsWriting-keeps, markAsFinished-keeps, markAsCanceled-keeps}
+use Rattle.model.proofs.keep.KeepMarks.{abortDownload-keeps}
 use Rattle.model.proofs.pick.SoundPick.{pick-sound}
 use Rattle.model.proofs.keep.KeepPriority.{setPiecePriority-keeps}
 use Rattle.model.proofs.base.Truths.{or-no-left, or-no-right}
 
 -- ---- what a call that is not refused knows
 -- a check that does not refuse failed, and so did those after it
-pub check-none : (b : Bool) (n : ℕ) (r : Option ℕ) → check b n r ≡ none → (b ≡ false) × (r ≡ none)
+pub check-none : (b : Bool) (x : Refusal) (r : Option Refusal) → check b x r ≡ none → (b ≡ false) × (r ≡ none)
 unfolding check
-check-none true n r e = absurd (Option·none-ne-some n (sym e))
-check-none false n r e = (refl, e)
+check-none true x r e = absurd (Option·none-ne-some x (sym e))
+check-none false x r e = (refl, e)
 
-pub drawn : (ds : List ℕ) (r : Option ℕ) → refuseFewDraws ds r ≡ none → r ≡ none
+drawn : (ds : List ℕ) (r : Option Refusal) → refuseFewDraws ds r ≡ none → r ≡ none
 unfolding refuseFewDraws
-drawn ds r e = check-none (ltb (len ds) minDraws) 4 r e .1
+drawn ds r e = check-none (ltb (len ds) minDraws) FewDraws r e .1
 
 -- the piece is one of the picker's
-here : (s : Picker) (i : ℕ) (r : Option ℕ) → pastPieces s i r ≡ none → (i < piecesIn s) × (r ≡ none)
+here : (s : Picker) (i : ℕ) (r : Option Refusal) → pastPieces s i r ≡ none → (i < piecesIn s) × (r ≡ none)
 unfolding pastPieces
-here s i r e = let c = check-none (leb (piecesIn s) i) 5 r e in (leb-false (piecesIn s) i (c .0), c .1)
+here s i r e = let c = check-none (leb (piecesIn s) i) OutOfRange r e in (leb-false (piecesIn s) i (c .0), c .1)
 
 -- and so is the piece of a block
-here-block : (s : Picker) (i j : ℕ) (r : Option ℕ) → pastBlocks s i j r ≡ none → (i < piecesIn s) × (r ≡ none)
+here-block : (s : Picker) (i j : ℕ) (r : Option Refusal) → pastBlocks s i j r ≡ none → (i < piecesIn s) × (r ≡ none)
 unfolding pastBlocks
 here-block s i j r e =
-    let c = here s i (check (leb (blocksInPiece s i) j) 5 r) e in
-    (c .0, check-none (leb (blocksInPiece s i) j) 5 r (c .1) .1)
+    let c = here s i (check (leb (blocksInPiece s i) j) OutOfRange r) e in
+    (c .0, check-none (leb (blocksInPiece s i) j) OutOfRange r (c .1) .1)
 
 -- the lent peer is in range
 lent-right : (peer : Option ℕ) → peerOk (lentPeer peer) ≡ true
 unfolding peerOk lentPeer
 lent-right none = refl
 lent-right (some n) = lt-ltb (n % 2 ^ 64) (2 ^ 64) (mod-lt n (omega arith))
+
+-- the request fits, whoever it is for
+pub pick-fits : (s : Picker) (a : PickRequest) (free : ℕ) (ds : List ℕ) → refusal s (pick-pieces a free ds) ≡ none
+    → requestFits s (lentRequest a) ≡ true
+unfolding refusal requestFits bitfieldFits option lentRequest
+pick-fits s a free ds e = not-false (requestFits s a) (check-none (not (requestFits s a)) PickArguments _ (drawn ds _ e) .0)
 
 not-full : (s : Picker) (p : Piece) → peersFull s p ≡ false → p .peerCount + s .seeds < maxPeers
 unfolding peersFull
@@ -90,51 +102,50 @@ unfolding refusal act answering doing changing quietly picking drawing pieceAt p
 act-keeps s (question q) v e = v
 act-keeps s (inc-refcount i ds) v e =
     let c = here s i _ (drawn ds _ e) in
-    let full = check-none (peersFull s (pieceAt s i)) 6 none (c .1) in
+    let full = check-none (peersFull s (pieceAt s i)) TooManyPeers none (c .1) in
     incRefcount-keeps ds i (drawing 0 s) (c .0) (not-full s (pieceAt s i) (full .0)) v
 act-keeps s (dec-refcount i ds) v e =
     let c = here s i _ (drawn ds _ e) in
-    let gone = check-none (eqb (s .seeds) 0 && eqb (pieceAt s i .peerCount) 0) 7 none (c .1) in
+    let gone = check-none (eqb (s .seeds) 0 && eqb (pieceAt s i .peerCount) 0) NoPeerToTake none (c .1) in
     decRefcount-keeps ds i (drawing 0 s) (c .0) (some-peer (pieceAt s i .peerCount) (s .seeds) (gone .0)) v
 act-keeps s inc-refcount-all v e =
-    let full = check-none (any (peersFull s) (s .pieces)) 6 none e in
+    let full = check-none (any (peersFull s) (s .pieces)) TooManyPeers none e in
     incRefcountAll-keeps s (λ i h. not-full s (pieceAt s i) (none-passes (peersFull s) noPiece (s .pieces) (full .0) i h)) v
 act-keeps s dec-refcount-all v e = decRefcountAll-keeps s v
 act-keeps s (set-piece-priority i priority ds) v e =
     let c = here s i _ (drawn ds _ e) in
-    let high = check-none (ltb 7 priority) 5 none (c .1) in
-    setPiecePriority-keeps ds i priority (drawing 0 s) (c .0) (ltb-false 7 priority (high .0)) v
+    let high = check-none (ltb maxPriority priority) OutOfRange none (c .1) in
+    setPiecePriority-keeps ds i priority (drawing 0 s) (c .0) (ltb-false maxPriority priority (high .0)) v
 act-keeps s (mark-as-downloading i j peer options ds) v e =
     let c = here-block s i j _ (drawn ds _ e) in
-    let full = check-none (blockTest numPeersFull (blockThere s i j)) 6 _ (c .1) in
-    let flushed = check-none (pieceAt s i .flushed) 8 _ (full .1) in
-    let room = check-none (noPartialLeft s i) 10 none (flushed .1) in
+    let full = check-none (blockTest numPeersFull (blockThere s i j)) TooManyPeers _ (c .1) in
+    let flushed = check-none (pieceAt s i .flushed) HavePiece _ (full .1) in
+    let room = check-none (noPartialLeft s i) TooManyPartials none (flushed .1) in
     markAsDownloading-keeps ds i j (lentPeer peer) (drawing 0 s) v options (c .0) (lent-right peer)
     (not-asked-full s i j (full .0)) (flushed .0) (room .0)
 act-keeps s (mark-as-writing i j peer ds) v e =
     let c = here-block s i j _ (drawn ds _ e) in
-    let room = check-none (noPartialLeft s i) 10 none (c .1) in
+    let room = check-none (noPartialLeft s i) TooManyPartials none (c .1) in
     markAsWriting-keeps ds i j (lentPeer peer) (drawing 0 s) v (c .0) (lent-right peer) (room .0)
 act-keeps s (mark-as-finished i j peer ds) v e =
     let c = here-block s i j _ (drawn ds _ e) in
-    let asked = check-none (blockTest (λ b. sameBlockState (b .state) Requested) (blockThere s i j)) 9 _ (c .1) in
-    let room = check-none (noPartialLeft s i) 10 none (asked .1) in
+    let asked = check-none (blockTest (λ b. sameBlockState (b .state) Requested) (blockThere s i j)) NotWriting _ (c .1) in
+    let room = check-none (noPartialLeft s i) TooManyPartials none (asked .1) in
     markAsFinished-keeps ds i j (lentPeer peer) (drawing 0 s) v (c .0) (lent-right peer) (room .0)
+act-keeps s (mark-as-canceled i j peer ds) v e = markAsCanceled-keeps ds i j (lentPeer peer) (drawing 0 s) v (lent-right peer)
 act-keeps s (abort-download i j peer ds) v e = abortDownload-keeps ds i j (lentPeer peer) (drawing 0 s) v
 act-keeps s (lock-piece i) v e = lockPiece-keeps i s v
 act-keeps s (piece-passed i) v e = piecePassed-keeps i s v
-act-keeps s (pick-pieces a free ds) v e =
-    let bad = check-none (not (requestFits s a)) 11 _ (drawn ds _ e) in
-    pick-sound ds s a v (not-false (requestFits s a) (bad .0))
+act-keeps s (pick-pieces a free ds) v e = pick-sound ds s (lentRequest a) v (pick-fits s a free ds e)
 
 -- a call, refused or not
 pub step-keeps : (s : Picker) (c : Call) → Sound s → Sound (step s c .after)
 unfolding step unlessRefused answering
-step-keeps s c v = go (check (ltb (c .lent) (memoryNeeded s)) 2 (refusal s (c .action))) refl
+step-keeps s c v = go (check (ltb (c .lent) (memoryNeeded s)) ShortMemory (refusal s (c .action))) refl
   where
-    go : (r : Option ℕ) → check (ltb (c .lent) (memoryNeeded s)) 2 (refusal s (c .action)) ≡ r
+    go : (r : Option Refusal) → check (ltb (c .lent) (memoryNeeded s)) ShortMemory (refusal s (c .action)) ≡ r
         → Sound (unlessRefused r s (c .action) .after)
-    go none e = act-keeps s (c .action) v (check-none (ltb (c .lent) (memoryNeeded s)) 2 (refusal s (c .action)) e .1)
+    go none e = act-keeps s (c .action) v (check-none (ltb (c .lent) (memoryNeeded s)) ShortMemory (refusal s (c .action)) e .1)
     go (some n) e = v
 
 -- any calls, one after another

@@ -19,8 +19,8 @@ use Rattle.model.specs.list.Order.{Drawing, drawing, noDraw}
 use Rattle.model.specs.change.Partials.{partialOf, blockAt, progress, replaceBlock, eraseAndUpdate}
 use Rattle.model.specs.change.Changes.{saying, reverseAsked, affinityAsked, setBlock, markOpening, makePieceReverse, requestedBy}
 use Rattle.model.specs.change.Changes.{writtenBy, finishedBy, received, request, markDownloadingIn, markAsDownloading, markWritingIn}
-use Rattle.model.specs.change.Changes.{markAsWriting, flushDone, finishedPeer, markFinishedIn, markAsFinished, released, freed}
-use Rattle.model.specs.change.Changes.{freeBlock, abortIn, abortDownload}
+use Rattle.model.specs.change.Changes.{markAsWriting, flushDone, finishedPeer, markFinishedIn, markAsFinished, freed, canceled}
+use Rattle.model.specs.change.Changes.{freeBlock, cancelIn, markAsCanceled, released, abortIn, abortDownload}
 use Rattle.model.specs.image.WellFormed.{peerOk, blockOk}
 use Rattle.model.specs.image.Sound.{Sound}
 use Rattle.model.specs.Calls.{numPeersFull, noPartialLeft}
@@ -101,10 +101,18 @@ module _ (ds : List ℕ) (i j : ℕ) (peer : Option ℕ) (w : Drawing) (v : Soun
           (λ k. v) (λ k. request-keeps d back e (leb-false maxPeers (blockAt d j .numPeers) (rw k at (r d e))) p)
 
   -- ---- received
+  -- a block that keeps state and number of peers gets another peer
+  handed-keeps : (d : DownloadingPiece) → partialOf (w .picker) i ≡ some d → peerOk peer ≡ true
+      → Sound (replaceBlock d j (withPeer peer (blockAt d j)) (w .picker))
+  unfolding withPeer
+  handed-keeps d f p =
+      let old = blockAt d j in
+      sameBlock-keeps i d j (withPeer peer old) (w .picker) f (block-ok (old .state) (old .numPeers) peer (few-numPeers (w .picker) i j d f v) p) refl v
+
   -- a block received; one that was before gets another peer
   pub markAsWriting-keeps : i < piecesIn (w .picker) → peerOk peer ≡ true → noPartialLeft (w .picker) i ≡ false
       → Sound (markAsWriting ds i j peer w .after .picker)
-  unfolding markAsWriting markWritingIn saying writtenBy withPeer isOpen sameQueue noDraw drawing
+  unfolding markAsWriting markWritingIn saying writtenBy isOpen sameQueue noDraw drawing
   markAsWriting-keeps h p n = go (partialOf (w .picker) i) refl
     where
       b : Block
@@ -121,8 +129,7 @@ module _ (ds : List ℕ) (i j : ℕ) (peer : Option ℕ) (w : Drawing) (v : Soun
           let old = blockAt d j in
           cond-arms (λ c. Sound (c .after .picker)) (received old)
           (saying false (noDraw (replaceBlock d j (withPeer peer old)) w)) (saying true (setBlock ds i d j b w))
-          (λ k. sameBlock-keeps i d j (withPeer peer old) (w .picker) e
-          (block-ok (old .state) (old .numPeers) peer (few-numPeers (w .picker) i j d e v) p) refl v)
+          (λ k. handed-keeps d e p)
           (λ k. setBlock-keeps ds i d j b w e right v)
 
   -- ---- on disk
@@ -166,17 +173,34 @@ module _ (ds : List ℕ) (i j : ℕ) (peer : Option ℕ) (w : Drawing) (v : Soun
       (cond-arms (λ x. peerOk x ≡ true) (samePeer (old .peer) peer) none (old .peer) (λ g. refl) (λ g. peer-right (w .picker) i j d f v)))
       (sym q) v
 
-  -- no requester any more: the block is free, or the partial goes with its last block at work
-  freeBlock-keeps : (d : DownloadingPiece) → partialOf (w .picker) i ≡ some d → Sound (freeBlock ds i d j w .picker)
-  unfolding freeBlock freed peerOk
-  freeBlock-keeps d f =
-      cond-arms (λ u. Sound (u .picker)) (eqb (progress d) 1 && not (d .hashing)) (eraseAndUpdate ds i w) (setBlock ds i d j freed w)
+  -- the block is free, or the partial goes with its last block at work
+  freeBlock-keeps : (d : DownloadingPiece) (b : Block) → partialOf (w .picker) i ≡ some d → blockOk b ≡ true → Sound (freeBlock ds i d j b w .picker)
+  unfolding freeBlock
+  freeBlock-keeps d b f o =
+      cond-arms (λ u. Sound (u .picker)) (eqb (progress d) 1 && not (d .hashing)) (eraseAndUpdate ds i w) (setBlock ds i d j b w)
       (λ g. erase-keeps ds i w (within (w .picker) i (sound-standing (w .picker) i d v f)) v)
-      (λ g. setBlock-keeps ds i d j freed w f (block-ok None 0 none (omega arith) refl) v)
+      (λ g. setBlock-keeps ds i d j b w f o v)
+
+  -- a block canceled: given back, or handed to another peer
+  pub markAsCanceled-keeps : peerOk peer ≡ true → Sound (markAsCanceled ds i j peer w .picker)
+  unfolding markAsCanceled cancelIn canceled noDraw drawing
+  markAsCanceled-keeps p = go (partialOf (w .picker) i) refl
+    where
+      go : (o : Option DownloadingPiece) → partialOf (w .picker) i ≡ o → Sound (cancelIn ds i o j peer w .picker)
+      go none e = v
+      go (some d) e =
+          let old = blockAt d j in
+          let free = freeBlock ds i d j (canceled peer old) w in
+          let handed = noDraw (replaceBlock d j (withPeer peer old)) w in
+          let written = sameBlockState (old .state) Writing in
+          cond-arms (λ u. Sound (u .picker)) (sameBlockState (old .state) Finished) w (cond written free handed) (λ k. v)
+          (λ k. cond-arms (λ u. Sound (u .picker)) written free handed
+          (λ m. freeBlock-keeps d (canceled peer old) e (block-ok None (old .numPeers) peer (few-numPeers (w .picker) i j d e v) p))
+          (λ m. handed-keeps d e p))
 
   -- a block given back by a peer
   pub abortDownload-keeps : Sound (abortDownload ds i j peer w .picker)
-  unfolding abortDownload abortIn noDraw drawing
+  unfolding abortDownload abortIn freed peerOk noDraw drawing
   abortDownload-keeps = go (partialOf (w .picker) i) refl
     where
       go : (o : Option DownloadingPiece) → partialOf (w .picker) i ≡ o → Sound (abortIn ds i o j peer w .picker)
@@ -184,8 +208,8 @@ module _ (ds : List ℕ) (i j : ℕ) (peer : Option ℕ) (w : Drawing) (v : Soun
       go (some d) e =
           let old = blockAt d j in
           let less = noDraw (replaceBlock d j (released peer old)) w in
-          let free = freeBlock ds i d j w in
+          let free = freeBlock ds i d j freed w in
           let asked = sameBlockState (old .state) Requested in
           cond-arms (λ u. Sound (u .picker)) (not asked) w (cond (ltb 1 (old .numPeers)) less free) (λ k. v)
           (λ k. cond-arms (λ u. Sound (u .picker)) (ltb 1 (old .numPeers)) less free
-          (λ m. released-keeps d e (same-state (old .state) Requested (not-false asked k))) (λ m. freeBlock-keeps d e))
+          (λ m. released-keeps d e (same-state (old .state) Requested (not-false asked k))) (λ m. freeBlock-keeps d freed e (block-ok None 0 none (omega arith) refl)))

@@ -1,20 +1,17 @@
 -- What a piece adds to a pick, in numbers: with `left` blocks wanted of N, N less what is appended are left, a piece appends at most 255
 -- past N, and a run at most its own length more; at most 2,303 blocks are set aside. Assumes nothing.
-use mathlib.Core.Path.{_≡_, refl, sym, ap, _∙_}
-use mathlib.Core.Logic.{_⊎_, inl, inr, ⊎-elim}
-use Prim.Native.Nat.{ℕ, suc, _+_, _-_, _*_, _≤_}
+use mathlib.Core.Path.{_≡_, refl}
+use Prim.Native.Nat.{ℕ, _+_, _-_, _*_, _≤_}
 use native.Mathlib.Omega.{arith}
-use mathlib.Core.Bool.{Bool, true, false, cond, not, _&&_, _||_, true≢false}
+use mathlib.Core.Bool.{Bool, true, false, cond, not, _&&_, _||_}
 use mathlib.Core.List.{List, [], _∷_, _++_}
 use mathlib.Core.Option.{Option, none, some}
-use lib.ListN.{length, take, length-append, length-take, length-drop}
-use lib.Dec.{eqb, ltb, leb}
-use borrow.Author.Tests.{eqb-true, eqb-false, eq-eqb, ne-eqb, ltb-true, leb-true, leb-false, le-leb}
-use Rattle.types.specs.declared.queue.DownloadQueue.{DownloadQueue}
-use Rattle.types.specs.declared.queue.DownloadQueue.the-variants.{Downloading, Full, Finished, ZeroPrio, Open, DownloadingReverse}
-use Rattle.types.specs.declared.queue.DownloadQueue.the-variants.{FullReverse}
+use lib.ListN.{length, take, length-append, length-take}
+use lib.Dec.{leb}
+use borrow.Author.Tests.{eqb-false, leb-true, le-leb}
+use Rattle.types.specs.declared.queue.DownloadQueue.the-variants.{Downloading}
 use Rattle.types.specs.Queue.{unreverse}
-use Rattle.model.specs.Lists.{least, from, filter, each, every, nth, len, when, walk}
+use Rattle.model.specs.Lists.{least, from, each, every, len, when, branch, walk, forEach}
 use Rattle.model.specs.Bep3.{wholePieceBlocks, pieceBlocks}
 use Rattle.model.specs.State.{DownloadingPiece, Picker, sameQueue, isOpen, pieceAt, blocksPerPiece, blocksInPiece}
 use Rattle.model.specs.State.{payloadBlocksInPiece}
@@ -22,19 +19,20 @@ use Rattle.model.specs.Options.{onParole, prioritizePartials, randomPiec
 use Rattle.model.specs.change.Partials.{findDlPiece, partialOf}
 use Rattle.model.specs.pick.Blocks.{PickRequest, option, hasBit, Contiguous, PickState, spent, withOut, withContiguous, withBackup}
 use Rattle.model.specs.pick.Blocks.{ignore, flagged, steps, isIgnored, contiguousIsZero, contiguousAbove, shorter, expandPiece}
-use Rattle.model.specs.pick.Blocks.{piecesOf, pieceBlock, took, tookPast, contiguousMet, contiguousOver, takePiece, spanStep}
-use Rattle.model.specs.pick.Blocks.{spanHalt, takeSpan, takePayload, addNewPiece, RequestedFrom, requestedFrom, freeFrom, setAside}
-use Rattle.model.specs.pick.Blocks.{freeStep, freeHalt, takeFree, keepingContiguous, useFree, addBlocksDownloading, addPartialOf}
-use Rattle.model.specs.pick.Blocks.{addStanding, addBlocks, appendBlocks}
+use Rattle.model.specs.pick.Blocks.{piecesOf, pieceBlock, took, contiguousMet, contiguousOver, spanStep, takeSpan, takePayload}
+use Rattle.model.specs.pick.Blocks.{addNewPiece, RequestedFrom, requestedFrom, freeFrom, setAside, freeHalt, takeFree}
+use Rattle.model.specs.pick.Blocks.{keepingContiguous, useFree, addBlocksDownloading, addPartialOf, addStanding, addBlocks}
+use Rattle.model.specs.pick.Blocks.{appendBlocks, PieceBlock}
 use Rattle.model.specs.pick.Pick.{randStep, takeAll}
-use Rattle.model.specs.image.Sound.{partialsFrom, Sound}
+use Rattle.model.specs.image.Sound.{Sound}
 use Rattle.model.proofs.base.Bep3Laws.{blocksPerPiece-pos, blocksPerPiece-le, blocksInPiece-le}
-use Rattle.model.proofs.base.Counts.{length-from, length-filter, count-le}
-use Rattle.model.proofs.base.WalkLaws.{unless-keeps, when-keeps, walkUntil-counts, walk-counts}
+use Rattle.model.proofs.base.Counts.{length-from}
+use Rattle.model.proofs.base.WalkLaws.{unless-keeps, when-keeps, walkUntil-counts, walk-counts, forEach-counts}
 use Rattle.model.proofs.pick.SpanLaws.{least-left, least-right, span-blocks}
 use Rattle.model.proofs.pick.SoundPick.{sound-sized}
-use Rattle.model.proofs.base.Truths.{and-left, and-right, true-both}
-use Rattle.model.proofs.base.Phases.{cond-arms}
+use Rattle.model.proofs.base.Phases.{branch-arms}
+use Rattle.model.proofs.pick.AsideLaws.{aside-arms, free-size, added-most, mostAside}
+use Rattle.model.proofs.pick.FoundLaws.{every-found, found-every}
 
 -- ---- the geometry
 -- at most 256 blocks
@@ -48,42 +46,6 @@ pub record Fits (b totalSize pieceSize : ℕ) (ds : List DownloadingPiece) : Typ
   pub most : b ≤ 256
   pub piece : (i : ℕ) → pieceBlocks totalSize pieceSize i ≤ b
   pub partials : every small ds ≡ true
-
-nothing : {C : Type 0} (d : DownloadingPiece) → none ≡ some d → C
-nothing d e = let z : _≡_ {A = ℕ} 0 1 = cc in absurd (omega arith)
-
--- the first partial is the one found, or the rest has it
-first-or-rest : (b : Bool) (c d : DownloadingPiece) (o : Option DownloadingPiece) → cond b (some c) o ≡ some d → ((b ≡ true) × (c ≡ d)) ⊎ ((b ≡ false) × (o ≡ some d))
-first-or-rest true c d o e = let p : c ≡ d = cc in inl (refl, p)
-first-or-rest false c d o e = inr (refl, e)
-
-found-from : (lo i : ℕ) (d : DownloadingPiece) (ds : List DownloadingPiece) → partialsFrom lo ds ≡ true → findDlPiece i ds ≡ some d → lo ≤ i
-unfolding partialsFrom findDlPiece
-found-from lo i d [] h g = nothing d g
-found-from lo i d (e ∷ ds) h g =
-    let l = ltb-true lo (suc (e .piece)) (and-left (ltb lo (suc (e .piece))) (partialsFrom (suc (e .piece)) ds) h) in
-    let r = and-right (ltb lo (suc (e .piece))) (partialsFrom (suc (e .piece)) ds) h in
-    ⊎-elim (λ x. let q = eqb-true (e .piece) i (x .0) in omega arith) (λ x. let q = found-from (suc (e .piece)) i d ds r (x .1) in omega arith)
-    (first-or-rest (eqb (e .piece) i) e d (findDlPiece i ds) g)
-
--- what holds of each partial that is found holds of every partial
-every-found : (ok : DownloadingPiece → Bool) (lo : ℕ) (ds : List DownloadingPiece) → partialsFrom lo ds ≡ true
-    → ((i : ℕ) (d : DownloadingPiece) → findDlPiece i ds ≡ some d → ok d ≡ true) → every ok ds ≡ true
-unfolding partialsFrom findDlPiece every
-every-found ok lo [] h f = refl
-every-found ok lo (d ∷ ds) h f =
-    let r = and-right (ltb lo (suc (d .piece))) (partialsFrom (suc (d .piece)) ds) h in
-    true-both (ok d) (every ok ds) (f (d .piece) d (rw (eq-eqb (d .piece) (d .piece) refl)))
-    (every-found ok (suc (d .piece)) ds r
-    (λ i e g. let l = found-from (suc (d .piece)) i e ds r g in f i e (rw (ne-eqb (d .piece) i (λ q. omega arith)) g)))
-
--- and the other way
-found-every : (ok : DownloadingPiece → Bool) (ds : List DownloadingPiece) → every ok ds ≡ true → (i : ℕ) (d : DownloadingPiece) → findDlPiece i ds ≡ some d → ok d ≡ true
-unfolding findDlPiece every
-found-every ok [] h i d e = nothing d e
-found-every ok (c ∷ ds) h i d e =
-    ⊎-elim (λ x. rw (x .1) at (and-left (ok c) (every ok ds) h)) (λ x. found-every ok ds (and-right (ok c) (every ok ds) h) i d (x .1))
-    (first-or-rest (eqb (c .piece) i) c d (findDlPiece i ds) e)
 
 sound-small : (s : Picker) → Sound s → (i : ℕ) (d : DownloadingPiece) → findDlPiece i (s .partials) ≡ some d → small d ≡ true
 unfolding small partialOf blocksInPiece
@@ -111,37 +73,13 @@ sound-fits s h =
 pub record Lean (N R m left taken aside asked : ℕ) : Type 0 where
   pub rest : left ≡ N - taken
   pub few : taken ≤ m
-  pub backup : aside ≤ 2303
+  pub backup : aside ≤ mostAside
   pub contiguous : asked ≤ R
 
 -- the geometry and the accounting of a work
 unfoldable pub Tight : ℕ → ℕ → ℕ → ℕ → PickState → Type 0
 Tight b N R m w =
     Fits b (w .picker .totalSize) (w .picker .pieceSize) (w .picker .partials) × Lean N R m (w .left) (len (w .out)) (len (w .backup)) (w .contiguous .asked)
-
-length-each : {A B : Type 0} (f : A → B) (l : List A) → length (each f l) ≡ length l
-unfolding each
-length-each f [] = refl
-length-each f (x ∷ l) = ap suc (length-each f l)
-
--- a filter leaves no more
-pub filter-size : {A : Type 0} (t : A → Bool) (l : List A) (n : ℕ) → length l ≡ n → length (filter t l) ≤ n
-filter-size t l n e = omega (arith, length-filter t l, count-le t l)
-
-free-size : (d : DownloadingPiece) (first : ℕ) → len (freeFrom d first) ≤ len (d .blocks)
-unfolding freeFrom len
-free-size d first = filter-size _ _ (length (d .blocks)) (length-each _ (from 0 (length (d .blocks))) ∙ length-from 0 (length (d .blocks)))
-
--- Open and Downloading are two
-open-apart : (q : DownloadQueue) → isOpen q ≡ true → sameQueue (unreverse q) Downloading ≡ false
-unfolding isOpen sameQueue
-open-apart Downloading h = absurd (true≢false (sym h))
-open-apart Full h = refl
-open-apart Finished h = refl
-open-apart ZeroPrio h = refl
-open-apart Open h = refl
-open-apart DownloadingReverse h = absurd (true≢false (sym h))
-open-apart FullReverse h = refl
 
 module _ (b N R : ℕ) where
   -- ---- one block
@@ -177,12 +115,6 @@ module _ (b N R : ℕ) where
       let e = length-append (w .out) (pieceBlock i j ∷ []) in
       (h .0, record { rest = omega (arith, h .1 .rest); few = omega (arith, h .1 .few); backup = h .1 .backup; contiguous = h .1 .contiguous })
 
-  past-tight : (m i j : ℕ) (w : PickState) → Tight b N R m w → Tight b N R (m + 1) (tookPast i j w)
-  unfolding Tight tookPast withOut len
-  past-tight m i j w h =
-      let e = length-append (w .out) (pieceBlock i j ∷ []) in
-      (h .0, record { rest = omega (arith, h .1 .rest); few = omega (arith, h .1 .few); backup = h .1 .backup; contiguous = h .1 .contiguous })
-
   run-tight : (m : ℕ) (r : Contiguous) (w : PickState) → r .asked ≤ R → Tight b N R m w → Tight b N R m (withContiguous r w)
   unfolding Tight withContiguous withOut
   run-tight m r w l h = (h .0, record { rest = h .1 .rest; few = h .1 .few; backup = h .1 .backup; contiguous = l })
@@ -207,11 +139,11 @@ module _ (b N R : ℕ) where
   step-tight m n c w h = h
 
   -- ---- a piece, and a run of pieces
-  piece-tight : (ends : PickState → Bool) (i n m : ℕ) (w : PickState) → Tight b N R m w → Tight b N R (m + n) (takePiece ends i n w)
-  unfolding takePiece len
-  piece-tight ends i n m w h =
-      tight-more (m + length (from 0 n) * 1) (m + n) (walk (took i) ends (from 0 n) w) (omega (arith, length-from 0 n))
-      (walk-counts (Tight b N R) tight-more (took i) 1 ends (λ k j t g. took-tight k i j t g) (from 0 n) m w h)
+  counted-tight : (i n m : ℕ) (w : PickState) → Tight b N R m w → Tight b N R (m + n) (forEach (took i) (from 0 n) w)
+  unfolding len
+  counted-tight i n m w h =
+      tight-more (m + length (from 0 n) * 1) (m + n) (forEach (took i) (from 0 n) w) (omega (arith, length-from 0 n))
+      (forEach-counts (Tight b N R) tight-more (took i) 1 (λ k j t g. took-tight k i j t g) (from 0 n) m w h)
 
   payload-le : (m i : ℕ) (w : PickState) → Tight b N R m w → payloadBlocksInPiece (w .picker) i ≤ b
   unfolding Tight payloadBlocksInPiece blocksInPiece
@@ -222,10 +154,11 @@ module _ (b N R : ℕ) where
   blocks-le m i w h = h .0 .piece i
 
   payload-tight : (m i : ℕ) (w : PickState) → Tight b N R m w → Tight b N R (m + b) (takePayload i w)
-  unfolding takePayload
+  unfolding takePayload len
   payload-tight m i w h =
       let n = payloadBlocksInPiece (w .picker) i in
-      tight-more (m + n) (m + b) (takePiece contiguousMet i n w) (omega (arith, payload-le m i w h)) (piece-tight contiguousMet i n m w h)
+      tight-more (m + length (from 0 n) * 1) (m + b) (walk (took i) contiguousMet (from 0 n) w) (omega (arith, length-from 0 n, payload-le m i w h))
+      (walk-counts (Tight b N R) tight-more (took i) 1 contiguousMet (λ k j t g. took-tight k i j t g) (from 0 n) m w h)
 
   -- all blocks of a piece, at most b
   pub all-tight : (m i : ℕ) (w : PickState) → Tight b N R m w → Tight b N R (m + b) (takeAll i w)
@@ -242,8 +175,8 @@ module _ (b N R : ℕ) where
       → (is : List ℕ) (m : ℕ) (w : PickState) → Tight b N R m w → Tight b N R (m + len is * b) (takeSpan takes is w)
   unfolding takeSpan spanStep shorter
   takeSpan-tight takes f is m w h =
-      walkUntil-counts (Tight b N R) tight-more (spanStep takes) b spanHalt
-      (λ k i t g. cond-arms (Tight b N R (k + b)) (isIgnored i t) (withContiguous (shorter (t .contiguous)) t) (takes i (ignore i t))
+      forEach-counts (Tight b N R) tight-more (spanStep takes) b
+      (λ k i t g. branch-arms (Tight b N R (k + b)) (isIgnored i t) (λ v. withContiguous (shorter (v .contiguous)) v) (λ v. takes i (ignore i v)) t
       (λ e. tight-more k (k + b) (withContiguous (shorter (t .contiguous)) t) (omega arith) (run-tight k (shorter (t .contiguous)) t (asked-le k t g) g))
       (λ e. f k i (ignore i t) (mark-tight k i t g)))
       is m w h
@@ -277,10 +210,10 @@ module _ (b N R : ℕ) where
   new-tight a i w p h =
       let n = least (payloadBlocksInPiece (w .picker) i) (w .left) in
       let is = piecesOf (expandPiece a i w) in
-      cond-arms (Tight b N R (N + R + 255)) (contiguousIsZero (w .contiguous)) (takePiece (λ t. false) i n w) (takeSpan takePayload is w)
-      (λ e. tight-more (len (w .out) + n) (N + R + 255) (takePiece (λ t. false) i n w)
+      branch-arms (Tight b N R (N + R + 255)) (contiguousIsZero (w .contiguous)) (forEach (took i) (from 0 n)) (takeSpan takePayload is) w
+      (λ e. tight-more (len (w .out) + n) (N + R + 255) (forEach (took i) (from 0 n) w)
       (omega (arith, left-le (N - 1) w h (omega arith), least-right (payloadBlocksInPiece (w .picker) i) (w .left)))
-      (piece-tight (λ t. false) i n (len (w .out)) w (tight-now (N - 1) w h)))
+      (counted-tight i n (len (w .out)) w (tight-now (N - 1) w h)))
       (λ e. span-tight a takePayload payload-tight i w p h)
 
   -- ---- partials
@@ -289,41 +222,31 @@ module _ (b N R : ℕ) where
   small-le d o = leb-true (len (d .blocks)) 256 o
 
   free-tight : (d : DownloadingPiece) (first : ℕ) (w : PickState) → small d ≡ true → 1 ≤ N → Tight b N R (N - 1) w → Tight b N R (N + R + 255) (takeFree d first w)
-  unfolding takeFree freeStep
+  unfolding takeFree
   free-tight d first w o p h =
       tight-more (N - 1 + len (freeFrom d first) * 1) (N + R + 255) (takeFree d first w) (omega (arith, free-size d first, small-le d o))
-      (walkUntil-counts (Tight b N R) tight-more (freeStep (d .piece)) 1 (freeHalt (d .piece))
-      (λ k j t g. cond-arms (Tight b N R (k + 1)) (contiguousAbove 0 (t .contiguous)) (took (d .piece) j t) (tookPast (d .piece) j t)
-      (λ e. took-tight k (d .piece) j t g) (λ e. past-tight k (d .piece) j t g))
+      (walkUntil-counts (Tight b N R) tight-more (took (d .piece)) 1 (freeHalt (d .piece)) (λ k j t g. took-tight k (d .piece) j t g)
       (freeFrom d first) (N - 1) w h)
+
+  -- other blocks set aside, few enough
+  backup-tight-by : (m : ℕ) (bs : List PieceBlock) (w : PickState) → len bs ≤ mostAside → Tight b N R m w → Tight b N R m (withBackup bs w)
+  unfolding Tight withBackup
+  backup-tight-by m bs w l h = (h .0, record { rest = h .1 .rest; few = h .1 .few; backup = l; contiguous = h .1 .contiguous })
 
   module _ (most : N ≤ 2048) where
     aside-tight : (d : DownloadingPiece) (first m : ℕ) (w : PickState) → small d ≡ true → Tight b N R m w → Tight b N R m (setAside d first w)
-    unfolding setAside withBackup Tight len
     aside-tight d first m w o h =
-        let bs = w .backup ++ each (pieceBlock (d .piece)) (freeFrom d first) in
-        let e1 = length-append (w .backup) (each (pieceBlock (d .piece)) (freeFrom d first)) in
-        let e2 = length-each (pieceBlock (d .piece)) (freeFrom d first) in
-        let l = free-size d first in
-        let k = small-le d o in
-        cond-arms (Tight b N R m) (leb (w .left) (len (w .backup))) w (withBackup bs w) (λ e. h)
-        (λ e. (
-          h .0,
-          record {
-            rest = h .1 .rest;
-            few = h .1 .few;
-            backup = let g = leb-false (w .left) (len (w .backup)) e in omega (arith, h .1 .rest);
-            contiguous = h .1 .contiguous;
-          },
-        ))
+        aside-arms (Tight b N R m) d first w h
+        (λ e. backup-tight-by m (w .backup ++ each (pieceBlock (d .piece)) (freeFrom d first)) w
+        (added-most d first w e (omega (arith, tight-left m w h)) (small-le d o)) h)
 
-    use-tight : (a : PickRequest) (d : DownloadingPiece) (held : RequestedFrom) (w : PickState) → small d ≡ true → 1 ≤ N → Tight b N R (N - 1) w
-        → Tight b N R (N + R + 255) (useFree a d held w)
+    use-tight : (d : DownloadingPiece) (held : RequestedFrom) (w : PickState) → small d ≡ true → 1 ≤ N → Tight b N R (N - 1) w
+        → Tight b N R (N + R + 255) (useFree d held w)
     unfolding useFree keepingContiguous
-    use-tight a d held w o p h =
+    use-tight d held w o p h =
         let first = cond (contiguousIsZero (w .contiguous)) 0 (held .first) in
-        cond-arms (Tight b N R (N + R + 255)) (contiguousAbove (held .longest) (w .contiguous) && (held .active && not (option onParole a))) (setAside d first w)
-        (withContiguous (w .contiguous) (takeFree d first w))
+        branch-arms (Tight b N R (N + R + 255)) (contiguousAbove (held .longest) (w .contiguous) && held .active) (setAside d first)
+        (keepingContiguous (takeFree d first)) w
         (λ e. tight-more (N - 1) (N + R + 255) (setAside d first w) (omega arith) (aside-tight d first (N - 1) w o h))
         (λ e. run-tight (N + R + 255) (w .contiguous) (takeFree d first w) (asked-le (N - 1) w h) (free-tight d first w o p h))
 
@@ -334,7 +257,7 @@ module _ (b N R : ℕ) where
     downloading-tight a d w o p h =
         let held = requestedFrom (a .peer) d in
         when-keeps (Tight b N R (N + R + 255)) (hasBit a (d .piece) && (not (d .locked) && (not (option onParole a) || held .exclusive)))
-        (useFree a d held) w (tight-more (N - 1) (N + R + 255) w (omega arith) h) (λ e. use-tight a d held w o p h)
+        (useFree d held) w (tight-more (N - 1) (N + R + 255) w (omega arith) h) (λ e. use-tight d held w o p h)
 
     partial-small : (m i : ℕ) (d : DownloadingPiece) (w : PickState) → Tight b N R m w → partialOf (w .picker) i ≡ some d → small d ≡ true
     unfolding Tight partialOf
@@ -353,20 +276,16 @@ module _ (b N R : ℕ) where
 
     -- what a piece adds
     pub blocks-tight : (a : PickRequest) (i : ℕ) (w : PickState) → 1 ≤ N → Tight b N R (N - 1) w → Tight b N R (N + R + 255) (addBlocks a i w)
-    unfolding addBlocks keepingContiguous when
+    unfolding addBlocks keepingContiguous
     blocks-tight a i w p h =
         let q = pieceAt (w .picker) i .state in
         let k = tight-more (N - 1) (N + R + 255) w (omega arith) h in
         unless-keeps (Tight b N R (N + R + 255)) (isIgnored i w)
-        (λ t. when (isOpen q) (keepingContiguous (addNewPiece a i)) (when (sameQueue (unreverse q) Downloading) (addStanding a i) t)) w k
-        (λ e. go (isOpen q) (sameQueue (unreverse q) Downloading) (open-apart q) k)
-      where
-        go : (o d : Bool) → (o ≡ true → d ≡ false) → Tight b N R (N + R + 255) w
-            → Tight b N R (N + R + 255) (when o (keepingContiguous (addNewPiece a i)) (when d (addStanding a i) w))
-        go true true f k = absurd (true≢false (f refl))
-        go true false f k = run-tight (N + R + 255) (w .contiguous) (addNewPiece a i w) (asked-le (N - 1) w h) (new-tight a i w p h)
-        go false true f k = standing-tight a i w p h
-        go false false f k = k
+        (branch (isOpen q) (keepingContiguous (addNewPiece a i)) (when (sameQueue (unreverse q) Downloading) (addStanding a i))) w k
+        (λ e. branch-arms (Tight b N R (N + R + 255)) (isOpen q) (keepingContiguous (addNewPiece a i))
+        (when (sameQueue (unreverse q) Downloading) (addStanding a i)) w
+        (λ o. run-tight (N + R + 255) (w .contiguous) (addNewPiece a i w) (asked-le (N - 1) w h) (new-tight a i w p h))
+        (λ o. when-keeps (Tight b N R (N + R + 255)) (sameQueue (unreverse q) Downloading) (addStanding a i) w k (λ g. standing-tight a i w p h)))
 
     -- the blocks set aside, appended
     pub backup-tight : (w : PickState) → 1 ≤ N → Tight b N R (N - 1) w → Tight b N R N (appendBlocks w)
@@ -375,14 +294,13 @@ module _ (b N R : ℕ) where
         let n = least (len (w .backup)) (w .left) in
         let e1 = length-append (w .out) (take n (w .backup)) in
         let e2 = length-take n (w .backup) in
-        let e3 = length-drop n (w .backup) in
         let l1 = least-left (len (w .backup)) (w .left) in
         let l2 = least-right (len (w .backup)) (w .left) in (
           h .0,
           record {
             rest = omega (arith, h .1 .rest);
             few = omega (arith, h .1 .rest, h .1 .few);
-            backup = omega (arith, h .1 .backup);
+            backup = omega arith;
             contiguous = h .1 .contiguous;
           },
         )

@@ -9,8 +9,8 @@ use Rattle.model.specs.Lists.{nth, setNth}
 use Rattle.model.specs.State.{Picker}
 use Rattle.model.specs.Options.{randLoops}
 use Rattle.model.specs.pick.Blocks.{PickRequest, PickState, startState, withOut, withBackup, ignore, flagged, steps}
-use Rattle.model.proofs.pick.FrameLaws.{Blind}
-use Rattle.model.proofs.pick.PhaseLaws.{any, Kept, blind-kept}
+use Rattle.model.proofs.pick.FrameLaws.{Blind, anyPartial}
+use Rattle.model.proofs.pick.PhaseLaws.{Kept, blind-kept}
 
 -- the counter at a place
 unfoldable pub counter : ℕ → PickState → ℕ
@@ -54,7 +54,7 @@ module _ (k m : ℕ) where
   counter-keeps n c w d h = omega (arith, counter-other k n c w d)
 
   -- a pick keeps a bound on a counter, where the phases' own counting does
-  pub counter-kept : (a : PickRequest) → (k ≡ randLoops → ⊥) → Kept a any (λ w. counter k w ≤ m)
+  pub counter-kept : (a : PickRequest) → (k ≡ randLoops → ⊥) → Kept a anyPartial (λ w. counter k w ≤ m)
   counter-kept a d = blind-kept a (λ w. counter k w ≤ m) counter-blind counter-flag (λ w h. counter-keeps 1 randLoops w d h)
 
 -- ---- where a pick begins

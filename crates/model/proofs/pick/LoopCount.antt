@@ -15,15 +15,16 @@ use Rattle.model.specs.Options.{randStartLoops, randLoops, busyLoops}
 use Rattle.model.specs.list.Order.{draw}
 use Rattle.model.specs.change.Partials.{inQueue}
 use Rattle.model.specs.pick.Blocks.{PickRequest, option, PickState, startState, spent, withOut, withBackup, withPicker, ignore}
-use Rattle.model.specs.pick.Blocks.{flagged, steps, appendBlocks}
-use Rattle.model.specs.pick.Pick.{effectiveRequest, startPick, pickPartials, partialsDone, pickSuggested, forgetExtent, pickRandom}
-use Rattle.model.specs.pick.Pick.{pickEndGame, withListUpdated, pickListed, pickMain, pickRest, pickPieces}
-use Rattle.model.proofs.base.WalkLaws.{fork-keeps, unless-keeps}
-use Rattle.model.proofs.pick.FrameLaws.{Blind, backup-keeps}
-use Rattle.model.proofs.pick.PhaseLaws.{any, Kept, blind-kept, pickPartials-keeps, pickSuggested-keeps, ring-keeps, pickListed-keeps}
+use Rattle.model.specs.pick.Blocks.{flagged, steps, appendBlocks, enoughAside}
+use Rattle.model.specs.pick.Pick.{effectiveRequest, startPick, pickPartials, pickSuggested, forgetExtent, pickRandom, pickEndGame}
+use Rattle.model.specs.pick.Pick.{withListUpdated, pickListed, pickMain, pickRest, pickPieces}
+use Rattle.model.proofs.base.WalkLaws.{unless-keeps}
+use Rattle.model.proofs.pick.FrameLaws.{Blind, backup-keeps, anyPartial}
+use Rattle.model.proofs.pick.PhaseLaws.{Kept, blind-kept, pickPartials-keeps, pickSuggested-keeps, ring-keeps, pickListed-keeps}
 use Rattle.model.proofs.pick.PhaseLaws.{pickEndGame-keeps, phases-keeps, startPick-keeps, start-more}
 use Rattle.model.proofs.pick.CounterLaws.{counter, counter-up, counter-other}
 use Rattle.model.proofs.pick.LoopFrame.{counter-drawn, counter-refreshed, counter-forgets, counter-tried, counter-found}
+use Rattle.model.proofs.base.Phases.{branch-arms}
 
 -- ---- seven counters
 loops-blind : Blind (λ w. length (w .loops) ≡ 7)
@@ -43,7 +44,7 @@ unfolding forgetExtent withPicker
 loops-forgets none w h = h
 loops-forgets (some i) w h = h
 
-loops-kept : (a : PickRequest) → Kept a any (λ w. length (w .loops) ≡ 7)
+loops-kept : (a : PickRequest) → Kept a anyPartial (λ w. length (w .loops) ≡ 7)
 loops-kept a = blind-kept a (λ w. length (w .loops) ≡ 7) loops-blind loops-flag (loops-step 1 randLoops)
 
 loops-main : (ds : List ℕ) (a : PickRequest) (w : PickState) → spent w ≡ false → length (w .loops) ≡ 7 → length (pickMain ds a w .loops) ≡ 7
@@ -51,9 +52,9 @@ unfolding pickMain pickRandom withListUpdated withPicker
 loops-main ds a w z h =
     let I : PickState → Type 0 = λ v. length (v .loops) ≡ 7 in
     let k = loops-kept a in
-    fork-keeps I (option sequential a || option rarestFirst a) (pickListed ds a w) (pickRandom ds a w)
-    (λ e. pickListed-keeps a any I I k k (λ v g. g) loops-forgets (loops-step 1 rareLoops) (loops-step 1 reverseRareLoops) ds w z h)
-    (λ e. ring-keeps a any I k (loops-step 1 randStartLoops) (draw ds (w .used) (piecesIn (w .picker) - 1)) (withPicker (w .picker) (suc (w .used)) w) h)
+    branch-arms I (option sequential a || option rarestFirst a) (pickListed ds a) (pickRandom ds a) w
+    (λ e. pickListed-keeps a anyPartial I I k k (λ v g. g) loops-forgets (loops-step 1 rareLoops) (loops-step 1 reverseRareLoops) ds w z h)
+    (λ e. ring-keeps a anyPartial I k (loops-step 1 randStartLoops) (draw ds (w .used) (piecesIn (w .picker) - 1)) (withPicker (w .picker) (suc (w .used)) w) h)
 
 loops-endGame : (ds : List ℕ) (a : PickRequest) (w : PickState) → length (w .loops) ≡ 7 → length (pickEndGame ds a w .loops) ≡ 7
 unfolding withPicker flagged withOut
@@ -79,7 +80,7 @@ unfolding pickPieces len
 pick-loops ds s a h =
     let I : PickState → Type 0 = λ v. length (v .loops) ≡ 7 in
     let b = effectiveRequest s a in
-    phases-keeps ds b any I I I (loops-kept b) (λ n w g. loops-step n partialLoops w g) (loops-step 1 suggestLoops) (λ w g. g) (loops-main ds b)
+    phases-keeps ds b anyPartial I I I (loops-kept b) (λ n w g. loops-step n partialLoops w g) (loops-step 1 suggestLoops) (λ w g. g) (loops-main ds b)
     (λ w g. g) (loops-rest ds b) (startPick s a) (start-more s a h) (startPick-keeps s a I loops-flag (begin-loops s b))
 
 -- ---- counters never fall
@@ -99,7 +100,7 @@ module _ (k m : ℕ) where
   rises-flag f w h = h
 
   -- what a pick does keeps a counter at m or above
-  pub rises-kept : (a : PickRequest) → Kept a any (λ w. m ≤ counter k w)
+  pub rises-kept : (a : PickRequest) → Kept a anyPartial (λ w. m ≤ counter k w)
   rises-kept a = blind-kept a (λ w. m ≤ counter k w) rises-blind rises-flag (rises-step 1 randLoops)
 
   rises-endGame : (ds : List ℕ) (a : PickRequest) (w : PickState) → m ≤ counter k w → m ≤ counter k (pickEndGame ds a w)
@@ -110,17 +111,17 @@ module _ (k m : ℕ) where
 -- each phase leaves a counter where it was, or higher
 module _ (k : ℕ) (ds : List ℕ) (a : PickRequest) (w : PickState) where
   -- partials
-  pub partials-rise : partialsDone w ≡ false → counter k w ≤ counter k (pickPartials a w)
+  pub partials-rise : enoughAside w ≡ false → counter k w ≤ counter k (pickPartials a w)
   partials-rise d =
       let m = counter k w in
-      pickPartials-keeps a any (λ v. m ≤ counter k v) (rises-kept k m a) w d (omega arith)
+      pickPartials-keeps a anyPartial (λ v. m ≤ counter k v) (rises-kept k m a) w d (omega arith)
       (rises-step k m (len (inQueue Downloading (w .picker))) partialLoops w (omega arith))
 
   -- suggestions
   pub suggested-rise : spent w ≡ false → counter k w ≤ counter k (pickSuggested a w)
   suggested-rise z =
       let m = counter k w in
-      pickSuggested-keeps a any (λ v. m ≤ counter k v) (rises-kept k m a) (rises-step k m 1 suggestLoops) w z (omega arith)
+      pickSuggested-keeps a anyPartial (λ v. m ≤ counter k v) (rises-kept k m a) (rises-step k m 1 suggestLoops) w z (omega arith)
 
   -- the main walk
   pub main-rise : spent w ≡ false → counter k w ≤ counter k (pickMain ds a w)
@@ -129,10 +130,10 @@ module _ (k : ℕ) (ds : List ℕ) (a : PickRequest) (w : PickState) where
       let m = counter k w in
       let I : PickState → Type 0 = λ v. m ≤ counter k v in
       let kept = rises-kept k m a in
-      fork-keeps I (option sequential a || option rarestFirst a) (pickListed ds a w) (pickRandom ds a w)
-      (λ e. pickListed-keeps a any I I kept kept (λ v g. g) (λ o v g. rw (counter-forgets k o v) g) (rises-step k m 1 rareLoops)
+      branch-arms I (option sequential a || option rarestFirst a) (pickListed ds a) (pickRandom ds a) w
+      (λ e. pickListed-keeps a anyPartial I I kept kept (λ v g. g) (λ o v g. rw (counter-forgets k o v) g) (rises-step k m 1 rareLoops)
       (rises-step k m 1 reverseRareLoops) ds w z (rw (counter-refreshed k ds w) (omega arith)))
-      (λ e. ring-keeps a any I kept (rises-step k m 1 randStartLoops) (draw ds (w .used) (piecesIn (w .picker) - 1))
+      (λ e. ring-keeps a anyPartial I kept (rises-step k m 1 randStartLoops) (draw ds (w .used) (piecesIn (w .picker) - 1))
       (withPicker (w .picker) (suc (w .used)) w) (rw (counter-drawn k w) (omega arith)))
 
   -- backup blocks and end game

@@ -12,14 +12,14 @@ use Rattle.model.specs.Options.{rareLoops, randStartLoops, randLoops, bu
 use Rattle.model.specs.list.Order.{draw}
 use Rattle.model.specs.change.Partials.{inQueue}
 use Rattle.model.specs.pick.Blocks.{PickRequest, option, PickState, spent, withOut, withPicker, flagged, steps, pieceBlock}
-use Rattle.model.specs.pick.Blocks.{appendBlocks}
-use Rattle.model.specs.pick.Pick.{pickPartials, partialsDone, pickSuggested, forgetExtent, pickRandom, pickEndGame, withListUpdated}
-use Rattle.model.specs.pick.Pick.{pickListed, pickMain, pickRest}
-use Rattle.model.proofs.base.WalkLaws.{fork-keeps, unless-keeps}
-use Rattle.model.proofs.pick.FrameLaws.{backup-keeps}
-use Rattle.model.proofs.pick.PhaseLaws.{any, pickPartials-keeps, pickSuggested-keeps, ring-keeps, pickListed-keeps}
-use Rattle.model.proofs.pick.PhaseLaws.{pickEndGame-keeps}
+use Rattle.model.specs.pick.Blocks.{appendBlocks, enoughAside}
+use Rattle.model.specs.pick.Pick.{pickPartials, pickSuggested, forgetExtent, pickRandom, pickEndGame, withListUpdated, pickListed}
+use Rattle.model.specs.pick.Pick.{pickMain, pickRest}
+use Rattle.model.proofs.base.WalkLaws.{unless-keeps}
+use Rattle.model.proofs.pick.FrameLaws.{backup-keeps, anyPartial}
+use Rattle.model.proofs.pick.PhaseLaws.{pickPartials-keeps, pickSuggested-keeps, ring-keeps, pickListed-keeps, pickEndGame-keeps}
 use Rattle.model.proofs.pick.CounterLaws.{counter, counter-blind, counter-flag, counter-keeps, counter-kept}
+use Rattle.model.proofs.base.Phases.{branch-arms}
 
 -- ---- what draws, lists and extents leave alone
 -- a draw
@@ -55,19 +55,19 @@ module _ (k m : ℕ) (a : PickRequest) (loud : k ≡ randLoops → ⊥) where
   upto-step n c d w h = counter-keeps k m n c w d h
 
   -- partials
-  pub upto-partials : (k ≡ partialLoops → ⊥) → (w : PickState) → partialsDone w ≡ false → counter k w ≤ m → counter k (pickPartials a w) ≤ m
+  pub upto-partials : (k ≡ partialLoops → ⊥) → (w : PickState) → enoughAside w ≡ false → counter k w ≤ m → counter k (pickPartials a w) ≤ m
   upto-partials d w e h =
-      pickPartials-keeps a any (λ v. counter k v ≤ m) (counter-kept k m a loud) w e h (upto-step (len (inQueue Downloading (w .picker))) partialLoops d w h)
+      pickPartials-keeps a anyPartial (λ v. counter k v ≤ m) (counter-kept k m a loud) w e h (upto-step (len (inQueue Downloading (w .picker))) partialLoops d w h)
 
   -- suggestions
   pub upto-suggested : (k ≡ suggestLoops → ⊥) → (w : PickState) → spent w ≡ false → counter k w ≤ m → counter k (pickSuggested a w) ≤ m
-  upto-suggested d w z h = pickSuggested-keeps a any (λ v. counter k v ≤ m) (counter-kept k m a loud) (upto-step 1 suggestLoops d) w z h
+  upto-suggested d w z h = pickSuggested-keeps a anyPartial (λ v. counter k v ≤ m) (counter-kept k m a loud) (upto-step 1 suggestLoops d) w z h
 
   -- the random walk
   pub upto-random : (k ≡ randStartLoops → ⊥) → (ds : List ℕ) (w : PickState) → counter k w ≤ m → counter k (pickRandom ds a w) ≤ m
   unfolding pickRandom
   upto-random d ds w h =
-      ring-keeps a any (λ v. counter k v ≤ m) (counter-kept k m a loud) (upto-step 1 randStartLoops d) (draw ds (w .used) (piecesIn (w .picker) - 1))
+      ring-keeps a anyPartial (λ v. counter k v ≤ m) (counter-kept k m a loud) (upto-step 1 randStartLoops d) (draw ds (w .used) (piecesIn (w .picker) - 1))
       (withPicker (w .picker) (suc (w .used)) w) (rw (counter-drawn k w) h)
 
   -- the list
@@ -75,7 +75,7 @@ module _ (k m : ℕ) (a : PickRequest) (loud : k ≡ randLoops → ⊥) where
       → counter k (pickListed ds a w) ≤ m
   upto-listed d e ds w z h =
       let kept = counter-kept k m a loud in
-      pickListed-keeps a any (λ v. counter k v ≤ m) (λ v. counter k v ≤ m) kept kept (λ v g. g) (λ o v g. rw (counter-forgets k o v) g)
+      pickListed-keeps a anyPartial (λ v. counter k v ≤ m) (λ v. counter k v ≤ m) kept kept (λ v g. g) (λ o v g. rw (counter-forgets k o v) g)
       (upto-step 1 rareLoops d) (upto-step 1 reverseRareLoops e) ds w z (rw (counter-refreshed k ds w) h)
 
   -- the main walk
@@ -83,7 +83,7 @@ module _ (k m : ℕ) (a : PickRequest) (loud : k ≡ randLoops → ⊥) where
       → counter k (pickMain ds a w) ≤ m
   unfolding pickMain
   upto-main d e f ds w z h =
-      fork-keeps (λ v. counter k v ≤ m) (option sequential a || option rarestFirst a) (pickListed ds a w) (pickRandom ds a w)
+      branch-arms (λ v. counter k v ≤ m) (option sequential a || option rarestFirst a) (pickListed ds a) (pickRandom ds a) w
       (λ q. upto-listed d e ds w z h) (λ q. upto-random f ds w h)
 
   upto-endGame : (k ≡ busyLoops → ⊥) → (ds : List ℕ) (w : PickState) → counter k w ≤ m → counter k (pickEndGame ds a w) ≤ m

@@ -15,16 +15,16 @@ use Rattle.model.specs.Options.{randStartLoops, randLoops, busyLoops}
 use Rattle.model.specs.list.Order.{drawing, rank, draw, updatePieces}
 use Rattle.model.specs.change.Partials.{inQueue}
 use Rattle.model.specs.pick.Blocks.{PickRequest, option, PickState, startState, spent, withOut, withBackup, withPicker, ignore}
-use Rattle.model.specs.pick.Blocks.{flagged, steps, appendBlocks}
-use Rattle.model.specs.pick.Pick.{effectiveRequest, startPick, pickPartials, partialsDone, suggest, pickSuggested, rareStep}
-use Rattle.model.specs.pick.Pick.{reverseRareStep, forgetExtent, trace, lapStep, walkOver, ringFuel, pickRandom, pickEndGame}
-use Rattle.model.specs.pick.Pick.{withListUpdated, pickListed, pickMain, pickRest, pickPieces}
+use Rattle.model.specs.pick.Blocks.{flagged, steps, appendBlocks, enoughAside}
+use Rattle.model.specs.pick.Pick.{effectiveRequest, startPick, pickPartials, suggest, pickSuggested, rareStep, reverseRareStep}
+use Rattle.model.specs.pick.Pick.{forgetExtent, trace, lapStep, walkOver, ringFuel, pickRandom, pickEndGame, withListUpdated}
+use Rattle.model.specs.pick.Pick.{pickListed, pickMain, pickRest, pickPieces}
 use Rattle.model.specs.image.Sound.{Sound}
 use Rattle.model.specs.Calls.{requestFits}
 use Rattle.model.proofs.base.Bep3Laws.{numPieces-pos}
-use Rattle.model.proofs.base.WalkLaws.{fork-keeps, unless-keeps, walk-raises}
-use Rattle.model.proofs.pick.FrameLaws.{Blind, backup-keeps}
-use Rattle.model.proofs.pick.PhaseLaws.{any, Kept, blind-kept, kept-both, pickPartials-keeps, suggest-keeps, pickSuggested-keeps}
+use Rattle.model.proofs.base.WalkLaws.{unless-keeps, walk-raises}
+use Rattle.model.proofs.pick.FrameLaws.{Blind, backup-keeps, anyPartial}
+use Rattle.model.proofs.pick.PhaseLaws.{Kept, blind-kept, kept-both, pickPartials-keeps, suggest-keeps, pickSuggested-keeps}
 use Rattle.model.proofs.pick.PhaseLaws.{rare-keeps, reverseRare-keeps, rareWalk-keeps, reverseWalk-keeps, pickListed-ends}
 use Rattle.model.proofs.pick.PhaseLaws.{pickEndGame-keeps, beforeMain, beforeMain-keeps, phases-ends, startPick-keeps}
 use Rattle.model.proofs.pick.PhaseLaws.{asked-suggestions, start-more}
@@ -33,12 +33,14 @@ use Rattle.model.proofs.pick.CounterLaws.{counter-kept}
 use Rattle.model.proofs.list.ListedLaws.{listed-length-le}
 use Rattle.model.proofs.list.ListingLaws.{updatePieces-listed}
 use Rattle.model.proofs.pick.SoundPick.{Fitting, ask-fits, sound-sized}
-use Rattle.model.proofs.pick.BoundLaws.{filter-size, Tight, small, step-tight}
+use Rattle.model.proofs.pick.BoundLaws.{Tight, small, step-tight}
 use Rattle.model.proofs.pick.OutputLaws.{bounded-kept, start-bounded}
 use Rattle.model.proofs.pick.RandLoops.{rand-loops}
 use Rattle.model.proofs.pick.RingLaws.{Ready, ring-over, ring-skips}
 use Rattle.model.proofs.pick.LoopFrame.{counter-drawn, counter-tried, counter-found, upto-partials, upto-suggested, upto-random}
 use Rattle.model.proofs.pick.LoopFrame.{upto-listed, upto-main, upto-rest}
+use Rattle.model.proofs.base.Phases.{branch-arms}
+use Rattle.model.proofs.pick.AsideLaws.{filter-size}
 
 -- ---- where a pick begins
 queue-size : (q : Picker) → len (inQueue Downloading q) ≤ len (q .partials)
@@ -79,7 +81,7 @@ module _ (s : Picker) (k m : ℕ) where
   unfolding Still steps
   still-step n c d w h = (h .0, h .1, counter-keeps k m n c w d (h .2))
 
-  still-kept : (a : PickRequest) → (k ≡ randLoops → ⊥) → Kept a any Still
+  still-kept : (a : PickRequest) → (k ≡ randLoops → ⊥) → Kept a anyPartial Still
   still-kept a d = blind-kept a Still still-blind still-flag (still-step 1 randLoops d)
 
 -- ---- a short list and a counter together
@@ -97,7 +99,7 @@ module _ (k : ℕ) where
   unfolding Short steps
   short-step n c d w h = (h .0, counter-keeps k 0 n c w d (h .1))
 
-  short-kept : (a : PickRequest) → (k ≡ randLoops → ⊥) → Kept a any Short
+  short-kept : (a : PickRequest) → (k ≡ randLoops → ⊥) → Kept a anyPartial Short
   unfolding Short counter withOut withBackup ignore flagged
   short-kept a d =
       blind-kept a Short (record { out = λ n r bs w h. h; backup = λ bs w h. h; marks = λ i w h. h }) (λ f w h. h) (short-step 1 randLoops d)
@@ -112,7 +114,7 @@ module _ (ds : List ℕ) (s : Picker) (a : PickRequest) (h : Sound s) (f : reque
   fits : Fitting a
   fits = ask-fits s a f
 
-  more : partialsDone (startPick s a) ≡ false
+  more : enoughAside (startPick s a) ≡ false
   more = start-more s a (fits .some)
 
   few-partials : (q : Picker) → q ≡ s → len (inQueue Downloading q) ≤ 512
@@ -130,7 +132,7 @@ module _ (ds : List ℕ) (s : Picker) (a : PickRequest) (h : Sound s) (f : reque
       (λ v g. g) (upto-suggested partialLoops 512 b (λ e. omega arith) (λ e. omega arith))
       (λ v g. g) (upto-main partialLoops 512 b (λ e. omega arith) (λ e. omega arith) (λ e. omega arith) (λ e. omega arith) ds)
       (λ v g. g) (upto-rest partialLoops 512 b (λ e. omega arith) (λ e. omega arith) ds) w
-      (pickPartials-keeps b any (λ v. counter partialLoops v ≤ 512) (counter-kept partialLoops 512 b (λ e. omega arith)) w more (omega arith)
+      (pickPartials-keeps b anyPartial (λ v. counter partialLoops v ≤ 512) (counter-kept partialLoops 512 b (λ e. omega arith)) w more (omega arith)
       (omega (arith, counter-step (len (inQueue Downloading (w .picker))) partialLoops w, few-partials (w .picker) (start-picker s a))))
 
   suggested-count : (w : PickState) → spent w ≡ false → counter suggestLoops w ≤ 0 → counter suggestLoops (pickSuggested (effectiveRequest s a) w) ≤ 256
@@ -138,7 +140,7 @@ module _ (ds : List ℕ) (s : Picker) (a : PickRequest) (h : Sound s) (f : reque
   suggested-count w z g =
       let b = effectiveRequest s a in
       let l = walk-raises (λ m v. counter suggestLoops v ≤ m) (λ m n v l k. omega arith) (suggest b) spent
-      (λ m i v e k. suggest-keeps b any (λ u. counter suggestLoops u ≤ m + 1) (counter-kept suggestLoops (m + 1) b (λ q. omega arith)) i v e
+      (λ m i v e k. suggest-keeps b anyPartial (λ u. counter suggestLoops u ≤ m + 1) (counter-kept suggestLoops (m + 1) b (λ q. omega arith)) i v e
       (omega (arith, counter-step 1 suggestLoops v)))
       (b .suggestions) 0 w z g in
       omega (arith, fits .suggestions, ap len (asked-suggestions s a))
@@ -172,7 +174,7 @@ module _ (ds : List ℕ) (s : Picker) (a : PickRequest) (h : Sound s) (f : reque
   partials-still : (k : ℕ) → (k ≡ randLoops → ⊥) → (k ≡ partialLoops → ⊥) → Still s k 0 (pickPartials (effectiveRequest s a) (startPick s a))
   partials-still k d e =
       let w = startPick s a in
-      pickPartials-keeps (effectiveRequest s a) any (Still s k 0) (still-kept s k 0 (effectiveRequest s a) d) w more (start-still k)
+      pickPartials-keeps (effectiveRequest s a) anyPartial (Still s k 0) (still-kept s k 0 (effectiveRequest s a) d) w more (start-still k)
       (still-step s k 0 (len (inQueue Downloading (w .picker))) partialLoops e w (start-still k))
 
   -- a walk over the list that counts
@@ -182,7 +184,7 @@ module _ (ds : List ℕ) (s : Picker) (a : PickRequest) (h : Sound s) (f : reque
   rare-count w z g =
       let b = effectiveRequest s a in
       let l = walk-raises (λ m v. counter rareLoops v ≤ m) (λ m n v l k. omega arith) (rareStep b) spent
-      (λ m i v e k. rare-keeps b any (λ u. counter rareLoops u ≤ m + 1) (counter-kept rareLoops (m + 1) b (λ q. omega arith)) i v e
+      (λ m i v e k. rare-keeps b anyPartial (λ u. counter rareLoops u ≤ m + 1) (counter-kept rareLoops (m + 1) b (λ q. omega arith)) i v e
       (omega (arith, counter-step 1 rareLoops v)))
       (listOf (w .picker .listing)) 0 w z (g .1) in
       omega (arith, g .0)
@@ -193,7 +195,7 @@ module _ (ds : List ℕ) (s : Picker) (a : PickRequest) (h : Sound s) (f : reque
   reverse-count w z g =
       let b = effectiveRequest s a in
       let l = walk-raises (λ m v. counter reverseRareLoops v ≤ m) (λ m n v l k. omega arith) (reverseRareStep b) spent
-      (λ m i v e k. reverseRare-keeps b any (λ u. counter reverseRareLoops u ≤ m + 1) (counter-kept reverseRareLoops (m + 1) b (λ q. omega arith)) i v e
+      (λ m i v e k. reverseRare-keeps b anyPartial (λ u. counter reverseRareLoops u ≤ m + 1) (counter-kept reverseRareLoops (m + 1) b (λ q. omega arith)) i v e
       (omega (arith, counter-step 1 reverseRareLoops v)))
       (reversed (listOf (w .picker .listing))) 0 w z (g .1) in
       omega (arith, g .0, size-reversed (listOf (w .picker .listing)))
@@ -203,10 +205,10 @@ module _ (ds : List ℕ) (s : Picker) (a : PickRequest) (h : Sound s) (f : reque
   rare-main w z g =
       let b = effectiveRequest s a in
       let k = counter-kept rareLoops 4096 b (λ e. omega arith) in
-      fork-keeps (λ v. counter rareLoops v ≤ 4096) (option sequential b || option rarestFirst b) (pickListed ds b w) (pickRandom ds b w)
-      (λ q. pickListed-ends b any (Short rareLoops) (Short rareLoops) (λ v. counter rareLoops v ≤ 4096) (short-kept rareLoops b (λ e. omega arith))
+      branch-arms (λ v. counter rareLoops v ≤ 4096) (option sequential b || option rarestFirst b) (pickListed ds b) (pickRandom ds b) w
+      (λ q. pickListed-ends b anyPartial (Short rareLoops) (Short rareLoops) (λ v. counter rareLoops v ≤ 4096) (short-kept rareLoops b (λ e. omega arith))
       (λ v j. j) (λ v j. omega (arith, j .1)) (short-forgets rareLoops) rare-count
-      (λ v e j. reverseWalk-keeps b any (λ u. counter rareLoops u ≤ 4096) k
+      (λ v e j. reverseWalk-keeps b anyPartial (λ u. counter rareLoops u ≤ 4096) k
       (λ u i. counter-keeps rareLoops 4096 1 reverseRareLoops u (λ o. omega arith) i) v e (omega (arith, j .1)))
       ds w z (refreshed-short rareLoops w g))
       (λ q. upto-random rareLoops 4096 b (λ e. omega arith) (λ e. omega arith) ds w (omega (arith, g .2)))
@@ -216,10 +218,10 @@ module _ (ds : List ℕ) (s : Picker) (a : PickRequest) (h : Sound s) (f : reque
   reverse-main w z g =
       let b = effectiveRequest s a in
       let k = counter-kept reverseRareLoops 4096 b (λ e. omega arith) in
-      fork-keeps (λ v. counter reverseRareLoops v ≤ 4096) (option sequential b || option rarestFirst b) (pickListed ds b w) (pickRandom ds b w)
-      (λ q. pickListed-ends b any (Short reverseRareLoops) (Short reverseRareLoops) (λ v. counter reverseRareLoops v ≤ 4096)
+      branch-arms (λ v. counter reverseRareLoops v ≤ 4096) (option sequential b || option rarestFirst b) (pickListed ds b) (pickRandom ds b) w
+      (λ q. pickListed-ends b anyPartial (Short reverseRareLoops) (Short reverseRareLoops) (λ v. counter reverseRareLoops v ≤ 4096)
       (short-kept reverseRareLoops b (λ e. omega arith)) (λ v j. j) (λ v j. omega (arith, j .1)) (short-forgets reverseRareLoops)
-      (λ v e j. rareWalk-keeps b any (λ u. counter reverseRareLoops u ≤ 4096) k
+      (λ v e j. rareWalk-keeps b anyPartial (λ u. counter reverseRareLoops u ≤ 4096) k
       (λ u i. counter-keeps reverseRareLoops 4096 1 rareLoops u (λ o. omega arith) i) v e (omega (arith, j .1)))
       reverse-count ds w z (refreshed-short reverseRareLoops w g))
       (λ q. upto-random reverseRareLoops 4096 b (λ e. omega arith) (λ e. omega arith) ds w (omega (arith, g .2)))
@@ -230,7 +232,7 @@ module _ (ds : List ℕ) (s : Picker) (a : PickRequest) (h : Sound s) (f : reque
   rare-loops =
       let b = effectiveRequest s a in
       phases-ends ds b (Still s rareLoops 0) (Still s rareLoops 0) (λ v. counter rareLoops v ≤ 4096) (λ v. counter rareLoops v ≤ 4096)
-      (λ v g. g) (pickSuggested-keeps b any (Still s rareLoops 0) (still-kept s rareLoops 0 b (λ e. omega arith)) (still-step s rareLoops 0 1 suggestLoops (λ e. omega arith)))
+      (λ v g. g) (pickSuggested-keeps b anyPartial (Still s rareLoops 0) (still-kept s rareLoops 0 b (λ e. omega arith)) (still-step s rareLoops 0 1 suggestLoops (λ e. omega arith)))
       (λ v g. omega (arith, g .2)) rare-main
       (λ v g. g) (upto-rest rareLoops 4096 b (λ e. omega arith) (λ e. omega arith) ds) (startPick s a)
       (partials-still rareLoops (λ e. omega arith) (λ e. omega arith))
@@ -243,7 +245,7 @@ module _ (ds : List ℕ) (s : Picker) (a : PickRequest) (h : Sound s) (f : reque
       phases-ends ds b (Still s reverseRareLoops 0) (Still s reverseRareLoops 0) (λ v. counter reverseRareLoops v ≤ 4096)
       (λ v. counter reverseRareLoops v ≤ 4096)
       (λ v g. g)
-      (pickSuggested-keeps b any (Still s reverseRareLoops 0) (still-kept s reverseRareLoops 0 b (λ e. omega arith))
+      (pickSuggested-keeps b anyPartial (Still s reverseRareLoops 0) (still-kept s reverseRareLoops 0 b (λ e. omega arith))
       (still-step s reverseRareLoops 0 1 suggestLoops (λ e. omega arith)))
       (λ v g. omega (arith, g .2)) reverse-main
       (λ v g. g) (upto-rest reverseRareLoops 4096 b (λ e. omega arith) (λ e. omega arith) ds) (startPick s a)
@@ -327,7 +329,7 @@ module _ (ds : List ℕ) (s : Picker) (a : PickRequest) (h : Sound s) (f : reque
   unfolding pickMain
   random-main w z g =
       let b = effectiveRequest s a in
-      fork-keeps (λ v. counter randStartLoops v ≤ 33554432) (option sequential b || option rarestFirst b) (pickListed ds b w) (pickRandom ds b w)
+      branch-arms (λ v. counter randStartLoops v ≤ 33554432) (option sequential b || option rarestFirst b) (pickListed ds b) (pickRandom ds b) w
       (λ q. upto-listed randStartLoops 33554432 b (λ e. omega arith) (λ e. omega arith) (λ e. omega arith) ds w z (omega (arith, poised-zero w g))) (λ q. random-count w g)
 
   -- at most 33,554,432 steps skipped in the random walk

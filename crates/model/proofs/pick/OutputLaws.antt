@@ -12,12 +12,12 @@ use Rattle.model.specs.Options.{onParole, sequential, rarestFirst, backu
 use Rattle.model.specs.Options.{randStartLoops}
 use Rattle.model.specs.list.Order.{drawing, draw, updatePieces}
 use Rattle.model.specs.pick.Blocks.{PickRequest, option, PickState, startState, spent, withOut, withPicker, flagged, steps}
-use Rattle.model.specs.pick.Blocks.{pieceBlock, appendBlocks}
-use Rattle.model.specs.pick.Pick.{effectiveRequest, startPick, partialsDone, forgetExtent, takeAll, pickRandom, pickEndGame}
-use Rattle.model.specs.pick.Pick.{withListUpdated, pickListed, pickMain, pickRest, phases, pickPieces}
+use Rattle.model.specs.pick.Blocks.{pieceBlock, appendBlocks, enoughAside}
+use Rattle.model.specs.pick.Pick.{effectiveRequest, startPick, forgetExtent, takeAll, pickRandom, pickEndGame, withListUpdated}
+use Rattle.model.specs.pick.Pick.{pickListed, pickMain, pickRest, phases, pickPieces}
 use Rattle.model.specs.image.Sound.{Sound}
 use Rattle.model.specs.Calls.{requestFits}
-use Rattle.model.proofs.base.WalkLaws.{fork-keeps, unless-keeps}
+use Rattle.model.proofs.base.WalkLaws.{unless-keeps}
 use Rattle.model.proofs.pick.PhaseLaws.{flag-spent, Kept, pickListed-keeps, ring-keeps, pickEndGame-keeps, phases-keeps}
 use Rattle.model.proofs.pick.PhaseLaws.{startPick-keeps, asked-wanted, asked-run, start-more}
 use Rattle.model.proofs.list.ListingLaws.{OnlyListing, updatePieces-only}
@@ -25,6 +25,8 @@ use Rattle.model.proofs.pick.SoundPick.{ask-fits}
 use Rattle.model.proofs.pick.BoundLaws.{small, Fits, sound-fits, Tight, tight-more, tight-unspent, mark-tight, flag-tight}
 use Rattle.model.proofs.pick.BoundLaws.{step-tight, all-tight, span-tight, downloading-tight, blocks-tight, backup-tight}
 use Rattle.model.proofs.base.Truths.{or-no-left}
+use Rattle.model.proofs.base.Phases.{branch-arms}
+use Rattle.model.proofs.pick.AsideLaws.{mostAside}
 
 only-of : (ds : List ℕ) (t : ℕ) (s : Picker) → OnlyListing s (updatePieces ds (drawing t s) .picker)
 unfolding drawing
@@ -75,13 +77,13 @@ module _ (b N R : ℕ) (most : N ≤ 2048) where
   unfolding pickMain pickRandom Bounded withPicker Tight
   main-bounded ds a w z h =
       let k = bounded-kept a in
-      fork-keeps Bounded (option sequential a || option rarestFirst a) (pickListed ds a w) (pickRandom ds a w)
+      branch-arms Bounded (option sequential a || option rarestFirst a) (pickListed ds a) (pickRandom ds a) w
       (λ e. pickListed-keeps a small Bounded Bounded k k (λ v g. g) forgets-bounded (counts 1 rareLoops) (counts 1 reverseRareLoops) ds w z (refreshed-bounded ds w h))
       (λ e. ring-keeps a small Bounded k (counts 1 randStartLoops) (draw ds (w .used) (piecesIn (w .picker) - 1)) (withPicker (w .picker) (suc (w .used)) w) h)
 
   -- what a pick comes to in the end
   Final : PickState → Type 0
-  Final w = (len (w .out) ≤ N + R + 255) × (len (w .backup) ≤ 2303)
+  Final w = (len (w .out) ≤ N + R + 255) × (len (w .backup) ≤ mostAside)
 
   bounded-final : (w : PickState) → Bounded w → Final w
   unfolding Bounded Final Tight
@@ -107,7 +109,7 @@ module _ (b N R : ℕ) (most : N ≤ 2048) where
       unless-keeps Final (spent v || option onParole a) (pickEndGame ds a) v (bounded-final v g)
       (λ e. endGame-final ds a v (or-no-left (spent v) (option onParole a) e) g)
 
-  phases-final : (ds : List ℕ) (a : PickRequest) (w : PickState) → partialsDone w ≡ false → Bounded w → Final (phases ds a w)
+  phases-final : (ds : List ℕ) (a : PickRequest) (w : PickState) → enoughAside w ≡ false → Bounded w → Final (phases ds a w)
   unfolding Bounded
   phases-final ds a w d h =
       phases-keeps ds a small Bounded Bounded Final (bounded-kept a) (λ n v g. counts n partialLoops v g) (λ v g. counts 1 suggestLoops v g)
@@ -133,7 +135,7 @@ module _ (ds : List ℕ) (s : Picker) (a : PickRequest) (h : Sound s) (f : reque
       startPick-keeps s a (Tight (blocksPerPiece s) (a .wanted) (a .contiguous) (a .wanted + a .contiguous + 255))
       (flag-tight (blocksPerPiece s) (a .wanted) (a .contiguous) (a .wanted + a .contiguous + 255)) begin-bounded
 
-  final : (len (pickPieces ds s a .out) ≤ a .wanted + a .contiguous + 255) × (len (pickPieces ds s a .backup) ≤ 2303)
+  final : (len (pickPieces ds s a .out) ≤ a .wanted + a .contiguous + 255) × (len (pickPieces ds s a .backup) ≤ mostAside)
   unfolding pickPieces Final Bounded
   final =
       phases-final (blocksPerPiece s) (a .wanted) (a .contiguous) (ask-fits s a f .wanted) ds (effectiveRequest s a) (startPick s a) (start-more s a (ask-fits s a f .some)) start-bounded
@@ -143,5 +145,5 @@ module _ (ds : List ℕ) (s : Picker) (a : PickRequest) (h : Sound s) (f : reque
   pick-output = final .0
 
   -- and at most 2,303 blocks are set aside
-  pub pick-backup : len (pickPieces ds s a .backup) ≤ 2303
+  pub pick-backup : len (pickPieces ds s a .backup) ≤ mostAside
   pick-backup = final .1

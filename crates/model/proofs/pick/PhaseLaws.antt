@@ -9,7 +9,7 @@ use mathlib.Core.Option.{Option, none}
 use lib.Dec.{eqb, ltb}
 use borrow.Author.Tests.{ne-eqb, leb-false, lt-leb}
 use Rattle.types.specs.declared.queue.DownloadQueue.the-variants.{Downloading}
-use Rattle.model.specs.Lists.{from, range, rangeDown, filter, every, nth, len, reversed, unless, when, walk}
+use Rattle.model.specs.Lists.{from, range, rangeDown, filter, every, nth, len, reversed, unless, when, walk, sortBy}
 use Rattle.model.specs.State.{DownloadingPiece, Picker, isOpen, listOf, pieceAt, piecesIn, extentStart, extentEnd}
 use Rattle.model.specs.Options.{reverse, prioritizePartials, sequential, pieceExtentAffinity, partialRatio, preferContiguous}
 use Rattle.model.specs.Options.{prioritizedPartials, rarestFirstPartials, rarestFirstPieces, reverseRarestFirst, suggestedPieces}
@@ -19,19 +19,22 @@ use Rattle.model.specs.list.Order.{draw}
 use Rattle.model.specs.change.Partials.{inQueue}
 use Rattle.model.specs.pick.Blocks.{PickRequest, option, PickState, startState, spent, withOut, withPicker, ignore, flagged, steps}
 use Rattle.model.specs.pick.Blocks.{contiguousAbove, isPieceFree, expandPiece, piecesOf, pieceBlock, takeSpan, addBlocksDownloading}
-use Rattle.model.specs.pick.Blocks.{addBlocks, appendBlocks}
-use Rattle.model.specs.pick.Pick.{isForced, forcedRequest, effectiveRequest, startPick, usable, rarestFirstBefore, insertRarest}
-use Rattle.model.specs.pick.Pick.{sortRarest, byRarity, orderedPartials, partialStep, partialsDone, walkPartials, pickPartials, visit}
-use Rattle.model.specs.pick.Pick.{suggest, pickSuggested, leadingTop, visitBelowTop, pickRange, pickSequential, inRange, visitOutside}
-use Rattle.model.specs.pick.Pick.{rareStep, reverseRareStep, ExtentWalk, extentStep, forgetExtent, pickExtents, pickForward}
-use Rattle.model.specs.pick.Pick.{pickRarest, onward, trace, RandomWalk, skipStep, skipDone, skip, takeAll, arrive, randomVisit}
-use Rattle.model.specs.pick.Pick.{ended, marked, lapEnds, lapFrom, lapStep, walkOver, ringFuel, ring, busyBlocks, maxEndGamePieces}
-use Rattle.model.specs.pick.Pick.{fullPartials, EndGame, noPartial, endGameTry, endGameStep, endGameDone, pickEndGame}
-use Rattle.model.specs.pick.Pick.{withListUpdated, pickListed, pickMain, pickRest, phases}
+use Rattle.model.specs.pick.Blocks.{addBlocks, appendBlocks, enoughAside}
+use Rattle.model.specs.pick.Pick.{isForced, forcedRequest, effectiveRequest, startPick, usable, byRarity, orderedPartials}
+use Rattle.model.specs.pick.Pick.{partialStep, walkPartials, pickPartials, visit, suggest, pickSuggested, leadingTop, visitBelowTop}
+use Rattle.model.specs.pick.Pick.{pickRange, pickSequential, inRange, visitOutside, rareStep, reverseRareStep, ExtentWalk, extentStep}
+use Rattle.model.specs.pick.Pick.{forgetExtent, pickExtents, pickForward, pickRarest, trace, RandomWalk, skipStep, skipDone, skip}
+use Rattle.model.specs.pick.Pick.{takeAll, arrive, randomSpan, randomPiece, randomVisit, ended, marked, lapEnds, lapFrom, lapStep}
+use Rattle.model.specs.pick.Pick.{walkOver, ringFuel, ring, busyBlocks, maxEndGamePieces, fullPartials, EndGame, noPartial}
+use Rattle.model.specs.pick.Pick.{endGameTry, endGameStep, endGameDone, pickEndGame, withListUpdated, pickListed, pickMain, pickRest}
+use Rattle.model.specs.pick.Pick.{phases, scanPartials, partialCompareRarestFirst, pickScanned}
 use Rattle.model.proofs.pick.FrameLaws.{Blind, blind-closed, run-keeps, downloading-keeps, blocks-keeps, backup-keeps, all-keeps}
-use Rattle.model.proofs.base.WalkLaws.{fork-keeps, unless-keeps, when-keeps, repeat-keeps, repeat-counts, walk-keeps-in, walk-keeps}
+use Rattle.model.proofs.pick.FrameLaws.{anyPartial, Closed}
+use Rattle.model.proofs.base.WalkLaws.{unless-keeps, when-keeps, repeat-keeps, repeat-counts, walk-keeps-in, walk-keeps}
 use Rattle.model.proofs.base.Truths.{and-left, and-right, or-no-left, or-no-right, true-both}
-use Rattle.model.proofs.base.Phases.{cond-arms}
+use Rattle.model.proofs.base.Phases.{cond-arms, branch-arms}
+use Rattle.model.proofs.base.SortLaws.{every-sort}
+use Rattle.model.proofs.pick.ScanLaws.{scan-work, scan-partials}
 
 -- ---- lists of partials
 module _ (ok : DownloadingPiece → Bool) where
@@ -44,31 +47,21 @@ module _ (ok : DownloadingPiece → Bool) where
       cond-arms (λ l. every ok l ≡ true) (t d) (d ∷ filter t ds) (filter t ds)
       (λ e. true-both (ok d) (every ok (filter t ds)) (and-left (ok d) (every ok ds) h) r) (λ e. r)
 
-  every-insert : (s : Picker) (d : DownloadingPiece) (es : List DownloadingPiece) → ok d ≡ true → every ok es ≡ true → every ok (insertRarest s d es) ≡ true
-  unfolding every insertRarest
-  every-insert s d [] o h = true-both (ok d) true o refl
-  every-insert s d (e ∷ es) o h =
-      cond-arms (λ l. every ok l ≡ true) (rarestFirstBefore s d e) (d ∷ e ∷ es) (e ∷ insertRarest s d es)
-      (λ q. true-both (ok d) (every ok (e ∷ es)) o h)
-      (λ q. true-both (ok e) (every ok (insertRarest s d es)) (and-left (ok e) (every ok es) h) (every-insert s d es o (and-right (ok e) (every ok es) h)))
+  every-ordered : (a : PickRequest) (s : Picker) (ds : List DownloadingPiece) → every ok ds ≡ true → every ok (orderedPartials a s ds) ≡ true
+  unfolding orderedPartials
+  every-ordered a s ds h =
+      cond-arms (λ l. every ok l ≡ true) (byRarity a) (sortBy (partialCompareRarestFirst s) ds) ds
+      (λ e. every-sort (partialCompareRarestFirst s) ok ds h) (λ e. h)
 
-  every-sort : (s : Picker) (ds es : List DownloadingPiece) → every ok ds ≡ true → every ok es ≡ true → every ok (sortRarest s ds es) ≡ true
-  unfolding every sortRarest
-  every-sort s [] es h g = g
-  every-sort s (d ∷ ds) es h g =
-      every-sort s ds (insertRarest s d es) (and-right (ok d) (every ok ds) h) (every-insert s d es (and-left (ok d) (every ok ds) h) g)
-
-  every-ordered : (a : PickRequest) (s : Picker) → every ok (s .partials) ≡ true → every ok (orderedPartials a s) ≡ true
-  unfolding orderedPartials inQueue every
-  every-ordered a s h =
-      let ds = filter (usable a s) (inQueue Downloading s) in
-      let o = every-filter (usable a s) (inQueue Downloading s) (every-filter _ (s .partials) h) in
-      cond-arms (λ l. every ok l ≡ true) (byRarity a) (sortRarest s ds []) ds (λ e. every-sort s ds [] o refl) (λ e. o)
+  every-scanned : (a : PickRequest) (w : PickState) → every ok (w .picker .partials) ≡ true → every ok (scanPartials a w .partials) ≡ true
+  unfolding inQueue
+  every-scanned a w h =
+      rw (scan-partials a w) (every-filter (usable a (w .picker)) (inQueue Downloading (w .picker)) (every-filter _ (w .picker .partials) h))
 
 -- ---- where blocks are wanted
 -- more than are set aside
-unspent : (w : PickState) → partialsDone w ≡ false → spent w ≡ false
-unfolding partialsDone spent
+unspent : (w : PickState) → enoughAside w ≡ false → spent w ≡ false
+unfolding enoughAside spent
 unspent w h = ne-eqb (w .left) 0 (λ e. let l = leb-false (w .left) (len (w .backup)) h in omega arith)
 
 -- flags and counters change nothing of that
@@ -87,12 +80,12 @@ module _ (w : PickState) where
   unfolding spent withListUpdated withPicker
   refreshed-spent ds h = h
 
-  flag-more : (f : ℕ) → partialsDone w ≡ false → partialsDone (flagged f w) ≡ false
-  unfolding partialsDone flagged
+  flag-more : (f : ℕ) → enoughAside w ≡ false → enoughAside (flagged f w) ≡ false
+  unfolding enoughAside flagged
   flag-more f h = h
 
-  step-more : (n c : ℕ) → partialsDone w ≡ false → partialsDone (steps n c w) ≡ false
-  unfolding partialsDone steps
+  step-more : (n c : ℕ) → enoughAside w ≡ false → enoughAside (steps n c w) ≡ false
+  unfolding enoughAside steps
   step-more n c h = h
 
 -- what a pick does where blocks are wanted keeps I; `ok` holds of every partial
@@ -105,34 +98,27 @@ pub record Kept (a : PickRequest) (ok : DownloadingPiece → Bool) (I : PickStat
   pub span : (i : ℕ) (w : PickState) → spent w ≡ false → I w → I (takeSpan takeAll (piecesOf (expandPiece a i w)) w)
   pub backup : (w : PickState) → spent w ≡ false → I w → I (appendBlocks w)
 
--- any partial
-unfoldable pub any : DownloadingPiece → Bool
-any d = true
-
--- all partials are that
-pub every-any : (ds : List DownloadingPiece) → every any ds ≡ true
-unfolding every any
-every-any [] = refl
-every-any (d ∷ ds) = every-any ds
+-- a predicate that each block and each mark keeps
+pub closed-kept : (a : PickRequest) (ok : DownloadingPiece → Bool) (I : PickState → Type 0) → Closed ok I → ((f : ℕ) (w : PickState) → I w → I (flagged f w))
+    → ((w : PickState) → I w → I (steps 1 randLoops w)) → ((w : PickState) → I w → I (appendBlocks w)) → Kept a ok I
+closed-kept a ok I c flags counts backup = record {
+  ready = c .ready;
+  flags = flags;
+  marks = c .marks;
+  partial = λ d w o z h. downloading-keeps ok I c a d w o h;
+  piece = λ i w z h. blocks-keeps ok I c a i w h;
+  span = λ i w z h. run-keeps ok I c takeAll (all-keeps ok I c counts flags) (piecesOf (expandPiece a i w)) w h;
+  backup = λ w z h. backup w h;
+}
 
 -- a predicate that does not look at the blocks
 pub blind-kept : (a : PickRequest) (I : PickState → Type 0) → Blind I → ((f : ℕ) (w : PickState) → I w → I (flagged f w)) → ((w : PickState) → I w → I (steps 1 randLoops w))
-    → Kept a any I
-blind-kept a I k flags counts =
-    let c = blind-closed I k in
-    record {
-      ready = λ w h. every-any (w .picker .partials);
-      flags = flags;
-      marks = k .marks;
-      partial = λ d w o z h. downloading-keeps I c a d w h;
-      piece = λ i w z h. blocks-keeps I c a i w h;
-      span = λ i w z h. run-keeps I c takeAll (all-keeps I c counts flags) (piecesOf (expandPiece a i w)) w h;
-      backup = λ w z h. backup-keeps I k w h;
-    }
+    → Kept a anyPartial I
+blind-kept a I k flags counts = closed-kept a anyPartial I (blind-closed I k) flags counts (backup-keeps I k)
 
 -- two predicates at once
-pub kept-both : (a : PickRequest) (ok : DownloadingPiece → Bool) (I J : PickState → Type 0) → Kept a ok I → Kept a any J → Kept a ok (λ w. I w × J w)
-unfolding any
+pub kept-both : (a : PickRequest) (ok : DownloadingPiece → Bool) (I J : PickState → Type 0) → Kept a ok I → Kept a anyPartial J → Kept a ok (λ w. I w × J w)
+unfolding anyPartial
 kept-both a ok I J k l = record {
   ready = λ w h. k .ready w (h .0);
   flags = λ f w h. (k .flags f w (h .0), l .flags f w (h .1));
@@ -145,29 +131,31 @@ kept-both a ok I J k l = record {
 
 module _ (a : PickRequest) (ok : DownloadingPiece → Bool) (I : PickState → Type 0) (k : Kept a ok I) where
   -- ---- partials
-  walkPartials-keeps : (w : PickState) → partialsDone w ≡ false → I w → I (walkPartials a w)
+  walkPartials-keeps : (ds : List DownloadingPiece) (w : PickState) → every ok ds ≡ true → enoughAside w ≡ false → I w → I (walkPartials a ds w)
   unfolding walkPartials partialStep
-  walkPartials-keeps w d h =
-      let v = walk (partialStep a) partialsDone (orderedPartials a (w .picker)) w in
+  walkPartials-keeps ds w q d h =
+      let v = walk (partialStep a) enoughAside ds w in
       let g : I v =
-      walk-keeps-in I (partialStep a) ok partialsDone
+      walk-keeps-in I (partialStep a) ok enoughAside
       (λ x t o e j. k .partial x (flagged prioritizedPartials t) o (flag-spent t prioritizedPartials (unspent t e)) (k .flags prioritizedPartials t j))
-      (orderedPartials a (w .picker)) w (every-ordered ok a (w .picker) (k .ready w h)) d h in
+      ds w q d h in
       unless-keeps I (spent v) appendBlocks v g (λ e. k .backup v e g)
 
   -- the partials' phase, where counting the partials keeps I
-  pub pickPartials-keeps : (w : PickState) → partialsDone w ≡ false → I w → I (steps (len (inQueue Downloading (w .picker))) partialLoops w)
+  pub pickPartials-keeps : (w : PickState) → enoughAside w ≡ false → I w → I (steps (len (inQueue Downloading (w .picker))) partialLoops w)
       → I (pickPartials a w)
-  unfolding pickPartials
+  unfolding pickPartials pickScanned
   pickPartials-keeps w d h i =
       let n = len (inQueue Downloading (w .picker)) in
-      let v = steps n partialLoops w in
-      let m = step-more w n partialLoops d in
-      let g = when-keeps (λ u. (partialsDone u ≡ false) × I u) (byRarity a) (flagged rarestFirstPartials) v (m, i)
-      (λ q. (flag-more v rarestFirstPartials m, k .flags rarestFirstPartials v i)) in
-      when-keeps I (option prioritizePartials a)
-      (λ u. walkPartials a (when (byRarity a) (flagged rarestFirstPartials) (steps (len (inQueue Downloading (u .picker))) partialLoops u)))
-      w h (λ e. walkPartials-keeps (when (byRarity a) (flagged rarestFirstPartials) v) (g .0) (g .1))
+      let x = scanPartials a w in
+      let v = x .work in
+      let m : enoughAside v ≡ false = rw (scan-work a w) (step-more w n partialLoops d) in
+      let j : I v = rw (scan-work a w) i in
+      let g = when-keeps (λ u. (enoughAside u ≡ false) × I u) (byRarity a) (flagged rarestFirstPartials) v (m, j)
+      (λ q. (flag-more v rarestFirstPartials m, k .flags rarestFirstPartials v j)) in
+      when-keeps I (option prioritizePartials a) (λ u. pickScanned a (scanPartials a u)) w h
+      (λ e. walkPartials-keeps (orderedPartials a (v .picker) (x .partials)) (when (byRarity a) (flagged rarestFirstPartials) v)
+      (every-ordered ok a (v .picker) (x .partials) (every-scanned ok a w (k .ready w h))) (g .0) (g .1))
 
   -- ---- walks over pieces
   -- a free piece visited
@@ -190,8 +178,9 @@ module _ (a : PickRequest) (ok : DownloadingPiece → Bool) (I : PickState → T
   unfolding suggest steps
   suggest-keeps i w z h =
       let v = steps 1 suggestLoops w in
-      when-keeps I (isPieceFree a (w .picker) i) (λ u. ignore i (visit a suggestedPieces i u)) v h
-      (λ e. k .marks i (visit a suggestedPieces i v) (visit-keeps suggestedPieces i v (step-spent w 1 suggestLoops z) h))
+      when-keeps I (isPieceFree a (w .picker) i) (λ u. ignore i (addBlocks a i (flagged suggestedPieces u))) v h
+      (λ e. k .marks i (addBlocks a i (flagged suggestedPieces v))
+      (k .piece i (flagged suggestedPieces v) (flag-spent v suggestedPieces (step-spent w 1 suggestLoops z)) (k .flags suggestedPieces v h)))
 
   -- the suggestions' phase
   pub pickSuggested-keeps : ((w : PickState) → I w → I (steps 1 suggestLoops w)) → (w : PickState) → spent w ≡ false → I w → I (pickSuggested a w)
@@ -202,8 +191,8 @@ module _ (a : PickRequest) (ok : DownloadingPiece → Bool) (I : PickState → T
   unfolding pickRange
   stretch-keeps w z h =
       let s = w .picker in
-      cond-arms I (option reverse a) (walk (visitBelowTop a reverseSequential) spent (rangeDown (s .cursor) (s .reverseCursor)) w)
-      (walk (visitBelowTop a sequentialPieces) spent (range (s .cursor) (s .reverseCursor)) w)
+      branch-arms I (option reverse a) (walk (visitBelowTop a reverseSequential) spent (rangeDown (s .cursor) (s .reverseCursor)))
+      (walk (visitBelowTop a sequentialPieces) spent (range (s .cursor) (s .reverseCursor))) w
       (λ e. walk-keeps I (visitBelowTop a reverseSequential) spent (below-keeps reverseSequential) (rangeDown (s .cursor) (s .reverseCursor)) w z h)
       (λ e. walk-keeps I (visitBelowTop a sequentialPieces) spent (below-keeps sequentialPieces) (range (s .cursor) (s .reverseCursor)) w z h)
 
@@ -264,15 +253,12 @@ module _ (a : PickRequest) (ok : DownloadingPiece → Bool) (I : PickState → T
 
   -- a visit in the random walk
   pub randomVisit-keeps : (start : ℕ) (x : RandomWalk) → spent (x .work) ≡ false → I (x .work) → I (randomVisit a start x .work)
-  unfolding randomVisit arrive
+  unfolding randomVisit randomSpan randomPiece arrive
   randomVisit-keeps start x z h =
       let w = x .work in
-      let s = w .picker in
       let i = x .place in
-      let span = expandPiece a i w in
-      cond-arms (λ y. I (y .work)) (contiguousAbove 1 (w .contiguous) && isOpen (pieceAt s i .state))
-      (arrive start (onward s (span .end - 1)) x (takeSpan takeAll (piecesOf span) w))
-      (arrive start (onward s i) x (addBlocks a i (flagged randomPieces w)))
+      branch-arms (λ y. I (y .work)) (contiguousAbove 1 (w .contiguous) && isOpen (pieceAt (w .picker) i .state)) (randomSpan a start)
+      (randomPiece a start) x
       (λ e. k .span i w z h)
       (λ e. k .piece i (flagged randomPieces w) (flag-spent w randomPieces z) (k .flags randomPieces w h))
 
@@ -281,7 +267,7 @@ module _ (a : PickRequest) (ok : DownloadingPiece → Bool) (I : PickState → T
   lap-keeps counts start x o h =
       let y = skip a start x in
       let g = skip-keeps counts start x (or-no-right (x .over) (spent (x .work)) o) h in
-      fork-keeps (λ v. I (v .work)) (lapEnds a y) (ended y) (randomVisit a start (marked y)) (λ e. g .1)
+      branch-arms (λ v. I (v .work)) (lapEnds a y) ended (λ v. randomVisit a start (marked v)) y (λ e. g .1)
       (λ e. randomVisit-keeps start (marked y) (g .0) (g .1))
 
   -- the random walk
@@ -306,7 +292,7 @@ module _ (a : PickRequest) (ok : DownloadingPiece → Bool) (I J Q : PickState �
   rarest-ends : (w : PickState) → spent w ≡ false → I w → Q (pickRarest a w)
   unfolding pickRarest
   rarest-ends w z h =
-      cond-arms Q (option reverse a) (walk (reverseRareStep a) spent (reversed (listOf (w .picker .listing))) w) (pickForward a w)
+      branch-arms Q (option reverse a) (walk (reverseRareStep a) spent (reversed (listOf (w .picker .listing)))) (pickForward a) w
       (λ e. downs w z h) (λ e. forward-ends w z h)
 
   -- sequential and rarest, from a refreshed list on
@@ -378,7 +364,7 @@ phases-ends ds a H G J Q to-g suggested to-j main to-q rest w h =
 module _ (ds : List ℕ) (a : PickRequest) (ok : DownloadingPiece → Bool) (H J Q : PickState → Type 0) (k : Kept a ok H)
     (counts : (n : ℕ) (w : PickState) → H w → H (steps n partialLoops w)) (suggests : (w : PickState) → H w → H (steps 1 suggestLoops w)) where
   -- partials and suggestions keep H
-  pub beforeMain-keeps : (w : PickState) → partialsDone w ≡ false → H w → H (beforeMain a w)
+  pub beforeMain-keeps : (w : PickState) → enoughAside w ≡ false → H w → H (beforeMain a w)
   unfolding beforeMain
   beforeMain-keeps w d h =
       let p = pickPartials a w in
@@ -388,7 +374,7 @@ module _ (ds : List ℕ) (a : PickRequest) (ok : DownloadingPiece → Bool) (H J
   -- the main walk leads from H to J, backup blocks and end game from J to Q
   pub phases-keeps : ((w : PickState) → H w → J w) → ((w : PickState) → spent w ≡ false → H w → J (pickMain ds a w))
       → ((w : PickState) → J w → Q w) → ((w : PickState) → spent w ≡ false → J w → Q (pickRest ds a w))
-      → (w : PickState) → partialsDone w ≡ false → H w → Q (phases ds a w)
+      → (w : PickState) → enoughAside w ≡ false → H w → Q (phases ds a w)
   phases-keeps into main out rest w d h =
       phases-ends ds a H H J Q (λ v g. g) (pickSuggested-keeps a ok H k suggests) into main out rest w
       (pickPartials-keeps a ok H k w d h (counts (len (inQueue Downloading (w .picker))) w h))
@@ -418,11 +404,11 @@ module _ (s : Picker) (a : PickRequest) where
   unfolding effectiveRequest forcedRequest
   asked-suggestions = cond-arms (λ b. b .suggestions ≡ a .suggestions) (isForced s a) (forcedRequest a) a (λ e. refl) (λ e. refl)
 
-  begin-more : 1 ≤ effectiveRequest s a .wanted → partialsDone (startState s (effectiveRequest s a)) ≡ false
-  unfolding partialsDone startState len
+  begin-more : 1 ≤ effectiveRequest s a .wanted → enoughAside (startState s (effectiveRequest s a)) ≡ false
+  unfolding enoughAside startState len
   begin-more h = lt-leb (effectiveRequest s a .wanted) 0 h
 
   -- at the start more blocks are wanted than are set aside
-  pub start-more : 1 ≤ a .wanted → partialsDone (startPick s a) ≡ false
+  pub start-more : 1 ≤ a .wanted → enoughAside (startPick s a) ≡ false
   start-more h =
-      startPick-keeps (λ w. partialsDone w ≡ false) (λ f w g. flag-more w f g) (begin-more (rw asked-wanted h))
+      startPick-keeps (λ w. enoughAside w ≡ false) (λ f w g. flag-more w f g) (begin-more (rw asked-wanted h))

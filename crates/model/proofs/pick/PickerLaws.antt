@@ -11,13 +11,14 @@ use Rattle.model.specs.Options.{onParole, sequential, rarestFirst, backu
 use Rattle.model.specs.Options.{randStartLoops, randLoops}
 use Rattle.model.specs.list.Order.{drawing, draw, updatePieces}
 use Rattle.model.specs.pick.Blocks.{PickRequest, option, PickState, startState, spent, withOut, withBackup, withPicker, ignore}
-use Rattle.model.specs.pick.Blocks.{flagged, steps, appendBlocks}
-use Rattle.model.specs.pick.Pick.{effectiveRequest, startPick, partialsDone, forgetExtent, pickRandom, maxEndGamePieces, pickEndGame}
+use Rattle.model.specs.pick.Blocks.{flagged, steps, appendBlocks, enoughAside}
+use Rattle.model.specs.pick.Pick.{effectiveRequest, startPick, forgetExtent, pickRandom, maxEndGamePieces, pickEndGame}
 use Rattle.model.specs.pick.Pick.{withListUpdated, pickListed, pickMain, pickRest, phases, pickPieces}
-use Rattle.model.proofs.base.WalkLaws.{fork-keeps, unless-keeps}
-use Rattle.model.proofs.pick.FrameLaws.{Blind, backup-keeps}
-use Rattle.model.proofs.pick.PhaseLaws.{any, Kept, blind-kept, pickListed-keeps, ring-keeps, pickEndGame-keeps, phases-keeps}
+use Rattle.model.proofs.base.WalkLaws.{unless-keeps}
+use Rattle.model.proofs.pick.FrameLaws.{Blind, backup-keeps, anyPartial}
+use Rattle.model.proofs.pick.PhaseLaws.{Kept, blind-kept, pickListed-keeps, ring-keeps, pickEndGame-keeps, phases-keeps}
 use Rattle.model.proofs.pick.PhaseLaws.{startPick-keeps, start-more}
+use Rattle.model.proofs.base.Phases.{branch-arms}
 
 -- ---- predicates of the picker and the draws alone
 -- I of the picker and the draws used
@@ -37,7 +38,7 @@ module _ (P : Picker → ℕ → Type 0) where
   unfolding Of steps
   of-steps n c w h = h
 
-  of-kept : (a : PickRequest) → Kept a any (Of P)
+  of-kept : (a : PickRequest) → Kept a anyPartial (Of P)
   of-kept a = blind-kept a (Of P) (of-blind P) of-flags (of-steps 1 randLoops)
 
 -- ---- what a pick may do to the picker
@@ -86,10 +87,10 @@ module _ (ds : List ℕ) (s : Picker) where
   main-leaves : (a : PickRequest) (w : PickState) → spent w ≡ false → Of Begun w → Of (Leaves ds s) (pickMain ds a w)
   unfolding pickMain pickRandom
   main-leaves a w z h =
-      fork-keeps (Of (Leaves ds s)) (option sequential a || option rarestFirst a) (pickListed ds a w) (pickRandom ds a w)
-      (λ e. pickListed-keeps a any (Of Fresh) (Of (Leaves ds s)) (of-kept Fresh a) (of-kept (Leaves ds s) a) fresh-leaves fresh-forgets
+      branch-arms (Of (Leaves ds s)) (option sequential a || option rarestFirst a) (pickListed ds a) (pickRandom ds a) w
+      (λ e. pickListed-keeps a anyPartial (Of Fresh) (Of (Leaves ds s)) (of-kept Fresh a) (of-kept (Leaves ds s) a) fresh-leaves fresh-forgets
       (of-steps (Leaves ds s) 1 rareLoops) (of-steps (Leaves ds s) 1 reverseRareLoops) ds w z (begun-refreshed w h))
-      (λ e. ring-keeps a any (Of (Leaves ds s)) (of-kept (Leaves ds s) a) (of-steps (Leaves ds s) 1 randStartLoops)
+      (λ e. ring-keeps a anyPartial (Of (Leaves ds s)) (of-kept (Leaves ds s) a) (of-steps (Leaves ds s) 1 randStartLoops)
       (draw ds (w .used) (piecesIn (w .picker) - 1)) (withPicker (w .picker) (suc (w .used)) w) (begun-drawn w h))
 
   leaves-left : (n : ℕ) (w : PickState) → Of (Leaves ds s) w → Of (Left ds s n) w
@@ -118,9 +119,9 @@ module _ (ds : List ℕ) (s : Picker) where
       unless-keeps (Of (Left ds s 201)) (spent v || option onParole a) (pickEndGame ds a) v (leaves-left 201 v g) (λ e. endGame-leaves a v g)
 
   -- what a pick leaves, where it has begun and blocks are wanted
-  phases-leave : (a : PickRequest) (w : PickState) → partialsDone w ≡ false → Of Begun w → Of (Left ds s 201) (phases ds a w)
+  phases-leave : (a : PickRequest) (w : PickState) → enoughAside w ≡ false → Of Begun w → Of (Left ds s 201) (phases ds a w)
   phases-leave a w d h =
-      phases-keeps ds a any (Of Begun) (Of (Leaves ds s)) (Of (Left ds s 201)) (of-kept Begun a)
+      phases-keeps ds a anyPartial (Of Begun) (Of (Leaves ds s)) (Of (Left ds s 201)) (of-kept Begun a)
       (λ n v g. of-steps Begun n partialLoops v g) (of-steps Begun 1 suggestLoops)
       begun-leaves (main-leaves a) (leaves-left 201) (rest-leaves a) w d h
 

@@ -5,43 +5,42 @@ use native.Mathlib.Omega.{arith}
 use mathlib.Core.Bool.{true, false, _||_}
 use mathlib.Core.List.{List, [], _∷_, _++_}
 use mathlib.Core.Option.{Option, none, some}
-use lib.Dec.{leb}
 use lib.ListN.{take, length-append}
-use Rattle.model.specs.Lists.{least, from, each, len, walk}
+use Rattle.model.specs.Lists.{least, from, len, walk}
 use Rattle.model.specs.State.{Picker, piecesIn, blocksInPiece}
 use Rattle.model.specs.Options.{onParole, sequential, rarestFirst, backup1, endGame, randomPieces, partialLoops, suggestLoops}
 use Rattle.model.specs.Options.{reverseRareLoops, rareLoops, randStartLoops, randLoops, busyLoops}
 use Rattle.model.specs.list.Order.{draw}
 use Rattle.model.specs.pick.Blocks.{PickRequest, option, PickState, startState, spent, withOut, withContiguous, withBackup}
-use Rattle.model.specs.pick.Blocks.{withPicker, ignore, flagged, steps, expandPiece, piecesOf, pieceBlock, took, tookPast}
-use Rattle.model.specs.pick.Blocks.{contiguousOver, freeFrom, setAside, appendBlocks}
+use Rattle.model.specs.pick.Blocks.{withPicker, ignore, flagged, steps, expandPiece, piecesOf, pieceBlock, took, contiguousOver}
+use Rattle.model.specs.pick.Blocks.{appendBlocks}
 use Rattle.model.specs.pick.Pick.{effectiveRequest, startPick, forgetExtent, randStep, takeAll, pickRandom, pickEndGame}
 use Rattle.model.specs.pick.Pick.{withListUpdated, pickListed, pickMain, pickRest, pickPieces}
 use Rattle.model.specs.image.Sound.{Sound}
 use Rattle.model.specs.Calls.{requestFits}
-use Rattle.model.proofs.base.WalkLaws.{fork-keeps, unless-keeps, walkUntil-keeps}
-use Rattle.model.proofs.pick.FrameLaws.{Closed, run-keeps, downloading-keeps, blocks-keeps}
-use Rattle.model.proofs.pick.PhaseLaws.{any, every-any, Kept, ring-keeps, pickListed-keeps, pickEndGame-keeps, phases-keeps}
-use Rattle.model.proofs.pick.PhaseLaws.{startPick-keeps, start-more}
+use Rattle.model.proofs.base.WalkLaws.{unless-keeps, walkUntil-keeps}
+use Rattle.model.proofs.pick.FrameLaws.{Closed, run-keeps, downloading-keeps, blocks-keeps, anyPartial, every-any}
+use Rattle.model.proofs.pick.PhaseLaws.{Kept, ring-keeps, pickListed-keeps, pickEndGame-keeps, phases-keeps, startPick-keeps}
+use Rattle.model.proofs.pick.PhaseLaws.{start-more}
 use Rattle.model.proofs.pick.CounterLaws.{counter, counter-step, counter-other, begin-zero}
 use Rattle.model.proofs.pick.SoundPick.{ask-fits}
 use Rattle.model.proofs.pick.OutputLaws.{pick-output}
-use Rattle.model.proofs.base.Phases.{cond-arms}
+use Rattle.model.proofs.base.Phases.{branch-arms}
+use Rattle.model.proofs.pick.AsideLaws.{aside-arms}
 
 -- no more counted than appended
 unfoldable Counted : PickState → Type 0
 Counted w = counter randLoops w ≤ len (w .out)
 
 -- ---- a piece
-counted-closed : Closed Counted
-unfolding Counted counter len withContiguous took tookPast withOut ignore setAside withBackup
+counted-closed : Closed anyPartial Counted
+unfolding Counted counter len withContiguous took withOut ignore withBackup
 counted-closed = record {
+  ready = λ w h. every-any (w .picker .partials);
   contiguous = λ r w h. h;
   takes = λ i j w h. omega (arith, length-append (w .out) (pieceBlock i j ∷ []));
-  past = λ i j w h. omega (arith, length-append (w .out) (pieceBlock i j ∷ []));
   marks = λ i w h. h;
-  aside = λ d first w h.
-      cond-arms Counted (leb (w .left) (len (w .backup))) w (withBackup (w .backup ++ each (pieceBlock (d .piece)) (freeFrom d first)) w) (λ e. h) (λ e. h);
+  aside = λ d first w o h. aside-arms Counted d first w h (λ e. h);
 }
 
 counted-flag : (f : ℕ) (w : PickState) → Counted w → Counted (flagged f w)
@@ -68,14 +67,14 @@ unfolding Counted counter appendBlocks withBackup withOut len
 counted-backup w h = let n = least (len (w .backup)) (w .left) in omega (arith, length-append (w .out) (take n (w .backup)))
 
 -- ---- the phases
-counted-kept : (a : PickRequest) → Kept a any Counted
+counted-kept : (a : PickRequest) → Kept a anyPartial Counted
 counted-kept a = record {
   ready = λ w h. every-any (w .picker .partials);
   flags = counted-flag;
   marks = counted-closed .marks;
-  partial = λ d w o z h. downloading-keeps Counted counted-closed a d w h;
-  piece = λ i w z h. blocks-keeps Counted counted-closed a i w h;
-  span = λ i w z h. run-keeps Counted counted-closed takeAll counted-all (piecesOf (expandPiece a i w)) w h;
+  partial = λ d w o z h. downloading-keeps anyPartial Counted counted-closed a d w o h;
+  piece = λ i w z h. blocks-keeps anyPartial Counted counted-closed a i w h;
+  span = λ i w z h. run-keeps anyPartial Counted counted-closed takeAll counted-all (piecesOf (expandPiece a i w)) w h;
   backup = λ w z h. counted-backup w h;
 }
 
@@ -96,10 +95,10 @@ counted-main : (ds : List ℕ) (a : PickRequest) (w : PickState) → spent w ≡
 unfolding pickMain pickRandom
 counted-main ds a w z h =
     let k = counted-kept a in
-    fork-keeps Counted (option sequential a || option rarestFirst a) (pickListed ds a w) (pickRandom ds a w)
-    (λ e. pickListed-keeps a any Counted Counted k k (λ v g. g) counted-forgets (counted-step 1 rareLoops (λ q. omega arith))
+    branch-arms Counted (option sequential a || option rarestFirst a) (pickListed ds a) (pickRandom ds a) w
+    (λ e. pickListed-keeps a anyPartial Counted Counted k k (λ v g. g) counted-forgets (counted-step 1 rareLoops (λ q. omega arith))
     (counted-step 1 reverseRareLoops (λ q. omega arith)) ds w z (counted-refreshed ds w h))
-    (λ e. ring-keeps a any Counted k (counted-step 1 randStartLoops (λ q. omega arith)) (draw ds (w .used) (piecesIn (w .picker) - 1))
+    (λ e. ring-keeps a anyPartial Counted k (counted-step 1 randStartLoops (λ q. omega arith)) (draw ds (w .used) (piecesIn (w .picker) - 1))
     (withPicker (w .picker) (suc (w .used)) w) (counted-drawn w h))
 
 counted-found : (i j : ℕ) (w : PickState) → Counted w
@@ -129,7 +128,7 @@ module _ (ds : List ℕ) (s : Picker) (a : PickRequest) (h : Sound s) (f : reque
   unfolding pickPieces
   counted =
       let b = effectiveRequest s a in
-      phases-keeps ds b any Counted Counted Counted (counted-kept b) (λ n w g. counted-step n partialLoops (λ q. omega arith) w g)
+      phases-keeps ds b anyPartial Counted Counted Counted (counted-kept b) (λ n w g. counted-step n partialLoops (λ q. omega arith) w g)
       (counted-step 1 suggestLoops (λ q. omega arith)) (λ w g. g) (counted-main ds b) (λ w g. g) (counted-rest ds b) (startPick s a)
       (start-more s a (ask-fits s a f .some)) (startPick-keeps s a Counted counted-flag (counted-begin s b))
 

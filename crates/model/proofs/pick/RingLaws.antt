@@ -15,11 +15,12 @@ use Rattle.model.specs.Options.{randomPieces, randStartLoops, randLoops}
 use Rattle.model.specs.pick.Blocks.{PickRequest, PickState, spent, flagged, steps, isIgnored, contiguousAbove, isPieceFree}
 use Rattle.model.specs.pick.Blocks.{wholePieces, expandPiece, piecesOf, takeSpan, addBlocks}
 use Rattle.model.specs.pick.Pick.{standsOpen, onward, Trace, trace, sameTrace, RandomWalk, skipStep, skipDone, skip, takeAll, arrive}
-use Rattle.model.specs.pick.Pick.{randomVisit, ended, marked, lapEnds, lapFrom, lapStep, walkOver, ringFuel, ring}
+use Rattle.model.specs.pick.Pick.{randomSpan, randomPiece, randomVisit, ended, marked, lapEnds, lapFrom, lapStep, walkOver, ringFuel}
+use Rattle.model.specs.pick.Pick.{ring}
 use Rattle.model.specs.image.Sound.{Sound}
 use Rattle.model.proofs.base.Bep3Laws.{blocksInPiece-pos}
-use Rattle.model.proofs.base.WalkLaws.{fork-keeps, repeat-ends, repeat-enough, repeat-keeps}
-use Rattle.model.proofs.pick.FrameLaws.{blind-closed, run-keeps, blocks-keeps, all-keeps}
+use Rattle.model.proofs.base.WalkLaws.{repeat-ends, repeat-enough, repeat-keeps}
+use Rattle.model.proofs.pick.FrameLaws.{blind-closed, run-keeps, blocks-keeps, all-keeps, anyPartial}
 use Rattle.model.proofs.pick.PhaseLaws.{step-spent, flag-spent}
 use Rattle.model.proofs.pick.SoundPick.{sound-sized}
 use Rattle.model.proofs.pick.SpanLaws.{Around, span-around}
@@ -30,7 +31,7 @@ use Rattle.model.proofs.pick.TraceLaws.{weight, Rises, rises-weight, ri
 use Rattle.model.proofs.pick.TraceLaws.{blocks-grow, run-grow, run-rises, weight-most}
 use Rattle.model.proofs.pick.RoundLaws.{Torrent, far, far-some, far-next, far-on, member-span, ahead, not-done, skip-nearer}
 use Rattle.model.proofs.base.Truths.{and-right, or-no-left, or-no-right}
-use Rattle.model.proofs.base.Phases.{cond-arms}
+use Rattle.model.proofs.base.Phases.{branch-arms}
 
 -- ---- the walk, where it is under way
 module _ (n start b N R : ℕ) (start-in : start < n) (n-most : n ≤ 4096) (N-most : N ≤ 2048) where
@@ -260,7 +261,7 @@ module _ (n start b N R : ℕ) (start-in : start < n) (n-most : n ≤ 4096) (N-m
         (blocks-grow w a i (flagged randomPieces w) (grows-flag w randomPieces w (running-self (z .seen) w (h .work))))
         (k .piece i (flagged randomPieces w) (flag-spent w randomPieces (h .more)) (k .flags randomPieces w (h .work .tight)))
         (f .0)
-        (blocks-keeps (λ v. counter randStartLoops v ≤ m) (blind-closed (λ v. counter randStartLoops v ≤ m) (counter-blind randStartLoops m)) a i
+        (blocks-keeps anyPartial (λ v. counter randStartLoops v ≤ m) (blind-closed (λ v. counter randStartLoops v ≤ m) (counter-blind randStartLoops m)) a i
         (flagged randomPieces w) (counter-flag randStartLoops m randomPieces w (omega arith)))
         (λ q e. ⊎-elim (λ p. absurd (q p)) (λ p. inl (omega arith)) (f .1))
         (h .inside)
@@ -291,14 +292,13 @@ module _ (n start b N R : ℕ) (start-in : start < n) (n-most : n ≤ 4096) (N-m
         let c = blind-closed (λ v. counter randStartLoops v ≤ m) (counter-blind randStartLoops m) in
         let in-marks : i < 4096 = omega (arith, h .inside) in
         arrives (onward (w .picker) (x .end - 1)) z (takeSpan takeAll is w) (h .work) (run-grow w is w g) (k .span i w (h .more) (h .work .tight)) (f .0)
-        (run-keeps (λ v. counter randStartLoops v ≤ m) c takeAll
-        (all-keeps (λ v. counter randStartLoops v ≤ m) c (λ v q. counter-keeps randStartLoops m 1 randLoops v (λ p. omega arith) q) (counter-flag randStartLoops m))
+        (run-keeps anyPartial (λ v. counter randStartLoops v ≤ m) c takeAll
+        (all-keeps anyPartial (λ v. counter randStartLoops v ≤ m) c (λ v q. counter-keeps randStartLoops m 1 randLoops v (λ p. omega arith) q) (counter-flag randStartLoops m))
         is w (omega arith))
         (λ q y. elim (decLe start i) [
           | yes l ↦ inl (nearer q f (far-on n start start-in i (x .end - 1) (omega arith) r (λ p. absurd (omega arith))))
           | no l ↦ elim (decLe start (x .end - 1)) [
-            | yes p ↦ inr (⊎-elim (λ u. absurd (true≢false (sym u ∙ y))) (λ u. u)
-                (run-rises i w in-marks (h .work .torrent .blocks i (h .inside)) is (member-span (w .picker) i (around .0) x o) (h .unmarked) g))
+            | yes p ↦ inr (run-rises i w in-marks (h .work .torrent .blocks i (h .inside)) is (member-span (w .picker) i (around .0) x o) (h .unmarked) g)
             | no p ↦ inl (nearer q f (far-on n start start-in i (x .end - 1) (omega arith) r (λ u. omega arith)))
           ]
         ])
@@ -329,15 +329,11 @@ module _ (n start b N R : ℕ) (start-in : start < n) (n-most : n ≤ 4096) (N-m
       }
 
   visit-lapped : (a : PickRequest) (x z : RandomWalk) → Visiting x z → Lapped x (randomVisit a start z)
-  unfolding randomVisit
+  unfolding randomVisit randomSpan randomPiece
   visit-lapped a x z h =
       let w = z .work in
-      let s = w .picker in
-      let i = z .place in
-      let span = expandPiece a i w in
-      cond-arms (Lapped x) (contiguousAbove 1 (w .contiguous) && isOpen (pieceAt s i .state))
-      (arrive start (onward s (span .end - 1)) z (takeSpan takeAll (piecesOf span) w))
-      (arrive start (onward s i) z (addBlocks a i (flagged randomPieces w)))
+      branch-arms (Lapped x) (contiguousAbove 1 (w .contiguous) && isOpen (pieceAt (w .picker) (z .place) .state)) (randomSpan a start)
+      (randomPiece a start) z
       (λ e. visited-lapped x z _ h (arrives-run a x z h)) (λ e. visited-lapped x z _ h (arrives-piece a x z h))
 
   potential-far : (x : RandomWalk) → far n start (x .place) ≤ potential x
@@ -359,7 +355,7 @@ module _ (n start b N R : ℕ) (start-in : start < n) (n-most : n ≤ 4096) (N-m
   lap-lapped a x o h l =
       let y = skip a start x in
       let g = skip-gives a x h (or-no-right (x .over) (spent (x .work)) o) l in
-      fork-keeps (Lapped x) (lapEnds a y) (ended y) (randomVisit a start (marked y)) (λ e. ended-lapped x y g)
+      branch-arms (Lapped x) (lapEnds a y) ended (λ v. randomVisit a start (marked v)) y (λ e. ended-lapped x y g)
       (λ e. visit-lapped a x (marked y) (mark-visits a x y g e))
 
   -- ---- the walk

@@ -9,21 +9,22 @@ use mathlib.Core.Bool.{Bool, true, false, _&&_, true≢false}
 use mathlib.Core.List.{List, [], _∷_, _++_}
 use lib.ListN.{length, getD, set, length-append, length-set}
 use lib.Seq.{getD-set-other}
-use lib.Dec.{eqb, leb}
+use lib.Dec.{eqb}
 use borrow.Author.Tests.{eq-eqb, ne-eqb, leb-false}
-use Rattle.model.specs.Lists.{bit, count, from, each, nth, setNth, len, any, member, walk, walkUntil}
+use Rattle.model.specs.Lists.{bit, count, from, each, nth, setNth, len, any, member, branch, walk, walkUntil}
 use Rattle.model.specs.State.{DownloadingPiece, blocksInPiece}
 use Rattle.model.specs.Options.{randomPieces, randLoops}
 use Rattle.model.specs.pick.Blocks.{PickRequest, Contiguous, PieceBlock, PickState, spent, withOut, withContiguous, withBackup}
-use Rattle.model.specs.pick.Blocks.{ignore, flagged, steps, isIgnored, contiguousIsZero, shorter, pieceBlock, took, tookPast}
-use Rattle.model.specs.pick.Blocks.{contiguousMet, contiguousOver, spanStep, spanHalt, takeSpan, freeFrom, setAside, addBlocks}
+use Rattle.model.specs.pick.Blocks.{ignore, flagged, steps, isIgnored, shorter, pieceBlock, took, contiguousOver, spanStep, takeSpan}
+use Rattle.model.specs.pick.Blocks.{freeFrom, setAside, addBlocks, enoughAside}
 use Rattle.model.specs.pick.Pick.{Trace, trace, sameTrace, randStep, takeAll}
-use Rattle.model.proofs.base.WalkLaws.{unless-keeps, walkUntil-keeps, walkUntil-ends}
-use Rattle.model.proofs.pick.FrameLaws.{Closed, run-keeps, blocks-keeps, all-keeps}
+use Rattle.model.proofs.base.WalkLaws.{unless-keeps, walkUntil-keeps, forEach-ends}
+use Rattle.model.proofs.pick.FrameLaws.{Closed, run-keeps, blocks-keeps, all-keeps, anyPartial, every-any}
 use Rattle.model.proofs.base.Counts.{count-le}
 use Rattle.model.proofs.pick.BoundLaws.{Tight, tight-unspent}
-use Rattle.model.proofs.base.Truths.{and-left, and-right, true-both}
-use Rattle.model.proofs.base.Phases.{cond-arms}
+use Rattle.model.proofs.base.Truths.{true-both}
+use Rattle.model.proofs.base.Phases.{branch-arms}
+use Rattle.model.proofs.pick.AsideLaws.{aside-arms}
 
 -- ---- the number that rises
 -- blocks set aside count up to 2,048, since none is set aside beyond that
@@ -95,10 +96,6 @@ took-rises : (i j : ℕ) (w : PickState) → weight (trace w) < weight (trace (t
 unfolding weight trace took withOut len
 took-rises i j w = omega (arith, length-append (w .out) (pieceBlock i j ∷ []))
 
-past-rises : (i j : ℕ) (w : PickState) → weight (trace w) < weight (trace (tookPast i j w))
-unfolding weight trace tookPast withOut len
-past-rises i j w = omega (arith, length-append (w .out) (pieceBlock i j ∷ []))
-
 mark-rises : (i : ℕ) (w : PickState) → Rises (trace w) (trace (ignore i w))
 unfolding weight trace ignore setNth
 mark-rises i w =
@@ -110,18 +107,16 @@ more-rises [] w h = inl (record { taken = refl; aside = omega (arith, length-app
 more-rises (x ∷ bs) w h = inr (omega (arith, length-append (w .backup) (x ∷ bs)))
 
 aside-rises : (d : DownloadingPiece) (first : ℕ) (w : PickState) → w .left ≤ 2048 → Rises (trace w) (trace (setAside d first w))
-unfolding setAside
+unfolding enoughAside
 aside-rises d first w l =
-    let bs = each (pieceBlock (d .piece)) (freeFrom d first) in
-    cond-arms (λ v. Rises (trace w) (trace v)) (leb (w .left) (len (w .backup))) w (withBackup (w .backup ++ bs) w)
-    (λ e. rises-same (trace w)) (λ e. more-rises bs w (omega (arith, leb-false (w .left) (len (w .backup)) e)))
+    aside-arms (λ v. Rises (trace w) (trace v)) d first w (rises-same (trace w))
+    (λ e. more-rises (each (pieceBlock (d .piece)) (freeFrom d first)) w (omega (arith, leb-false (w .left) (len (w .backup)) e)))
 
 aside-same : (d : DownloadingPiece) (first : ℕ) (w : PickState)
     → (setAside d first w .left ≡ w .left) × (setAside d first w .ignored ≡ w .ignored) × (setAside d first w .picker ≡ w .picker)
-unfolding setAside withBackup
+unfolding withBackup
 aside-same d first w =
-    cond-arms (λ v. (v .left ≡ w .left) × (v .ignored ≡ w .ignored) × (v .picker ≡ w .picker)) (leb (w .left) (len (w .backup))) w
-    (withBackup (w .backup ++ each (pieceBlock (d .piece)) (freeFrom d first)) w) (λ e. (refl, refl, refl)) (λ e. (refl, refl, refl))
+    aside-arms (λ v. (v .left ≡ w .left) × (v .ignored ≡ w .ignored) × (v .picker ≡ w .picker)) d first w (refl, refl, refl) (λ e. (refl, refl, refl))
 
 module _ (u : PickState) where
   -- one more change
@@ -142,10 +137,6 @@ module _ (u : PickState) where
   unfolding took withOut
   grows-took i j w h = grows-by w (took i j w) (inr (took-rises i j w)) (omega arith) refl refl h
 
-  grows-past : (i j : ℕ) (w : PickState) → Grows u w → Grows u (tookPast i j w)
-  unfolding tookPast withOut
-  grows-past i j w h = grows-by w (tookPast i j w) (inr (past-rises i j w)) (omega arith) refl refl h
-
   grows-mark : (i : ℕ) (w : PickState) → Grows u w → Grows u (ignore i w)
   unfolding ignore setNth
   grows-mark i w h = grows-by w (ignore i w) (mark-rises i w) (omega arith) (length-set (w .ignored) i true) refl h
@@ -155,8 +146,14 @@ module _ (u : PickState) where
       let e = aside-same d first w in
       grows-by w (setAside d first w) (aside-rises d first w (h .left)) (omega (arith, e .0)) (ap length (e .1)) (e .2) h
 
-  grows-closed : Closed (Grows u)
-  grows-closed = record { contiguous = grows-run; takes = grows-took; past = grows-past; marks = grows-mark; aside = grows-aside }
+  grows-closed : Closed anyPartial (Grows u)
+  grows-closed = record {
+    ready = λ w h. every-any (w .picker .partials);
+    contiguous = grows-run;
+    takes = grows-took;
+    marks = grows-mark;
+    aside = λ d first w o h. grows-aside d first w h;
+  }
 
   -- a flag
   pub grows-flag : (f : ℕ) (w : PickState) → Grows u w → Grows u (flagged f w)
@@ -170,15 +167,15 @@ module _ (u : PickState) where
 
   -- what a piece adds
   pub blocks-grow : (a : PickRequest) (i : ℕ) (w : PickState) → Grows u w → Grows u (addBlocks a i w)
-  blocks-grow a i w h = blocks-keeps (Grows u) grows-closed a i w h
+  blocks-grow a i w h = blocks-keeps anyPartial (Grows u) grows-closed a i w h
 
   -- a whole piece in the random walk
   pub all-grow : (i : ℕ) (w : PickState) → Grows u w → Grows u (takeAll i w)
-  all-grow i w h = all-keeps (Grows u) grows-closed (grows-step 1 randLoops) grows-flag i w h
+  all-grow i w h = all-keeps anyPartial (Grows u) grows-closed (grows-step 1 randLoops) grows-flag i w h
 
   -- a run of them
   pub run-grow : (is : List ℕ) (w : PickState) → Grows u w → Grows u (takeSpan takeAll is w)
-  run-grow is w h = run-keeps (Grows u) grows-closed takeAll all-grow is w h
+  run-grow is w h = run-keeps anyPartial (Grows u) grows-closed takeAll all-grow is w h
 
 -- ---- a run in the random walk ignores its piece and takes a block of it
 -- the marks stay while blocks are taken
@@ -230,7 +227,7 @@ visit-rises i u w l e h g =
 run-step-grows : (u : PickState) (x : ℕ) (w : PickState) → Grows u w → Grows u (spanStep takeAll x w)
 unfolding spanStep
 run-step-grows u x w h =
-    cond-arms (Grows u) (isIgnored x w) (withContiguous (shorter (w .contiguous)) w) (takeAll x (ignore x w))
+    branch-arms (Grows u) (isIgnored x w) (λ v. withContiguous (shorter (v .contiguous)) v) (λ v. takeAll x (ignore x v)) w
     (λ e. grows-run u (shorter (w .contiguous)) w h) (λ e. all-grow u x (ignore x w) (grows-mark u x w h))
 
 -- another piece's mark stays
@@ -245,17 +242,8 @@ other-unmarked i x w n h = rw (all-marks x (ignore x w)) (getD-set-other (w .ign
 run-step-other : (i x : ℕ) (w : PickState) → (i ≡ x → ⊥) → isIgnored i w ≡ false → isIgnored i (spanStep takeAll x w) ≡ false
 unfolding spanStep
 run-step-other i x w n h =
-    cond-arms (λ v. isIgnored i v ≡ false) (isIgnored x w) (withContiguous (shorter (w .contiguous)) w) (takeAll x (ignore x w))
+    branch-arms (λ v. isIgnored i v ≡ false) (isIgnored x w) (λ v. withContiguous (shorter (v .contiguous)) v) (λ v. takeAll x (ignore x v)) w
     (λ e. run-unmarked i (shorter (w .contiguous)) w h) (λ e. other-unmarked i x w n h)
-
--- where the run ends no block is wanted
-run-halt-spent : (x : ℕ) (w : PickState) → spanHalt x w ≡ true → spent (spanStep takeAll x w) ≡ true
-unfolding spanHalt spanStep contiguousMet
-run-halt-spent x w h =
-    let v = withContiguous (shorter (w .contiguous)) w in
-    let e = and-left (isIgnored x w) (contiguousMet v) h in
-    let g = and-right (isIgnored x w) (contiguousMet v) h in
-    rw e (and-right (contiguousIsZero (v .contiguous)) (spent v) g)
 
 module _ (i : ℕ) (u : PickState) (inside : i < 4096) (some : 1 ≤ blocksInPiece (u .picker) i) where
   -- piece i is taken already, or still to come
@@ -263,7 +251,7 @@ module _ (i : ℕ) (u : PickState) (inside : i < 4096) (some : 1 ≤ blocksInPie
   Coming ys w = Grows u w × ((weight (trace u) + 2 ≤ weight (trace w)) ⊎ ((isIgnored i w ≡ false) × (member i ys ≡ true)))
 
   coming-here : (w : PickState) → Grows u w → isIgnored i w ≡ false → weight (trace u) + 2 ≤ weight (trace (spanStep takeAll i w))
-  unfolding spanStep
+  unfolding spanStep branch
   coming-here w g e =
       rw e (omega (arith, rises-weight (trace u) (trace w) (g .rises), visit-rises i u w inside e (rw (g .picker) some) g))
 
@@ -279,14 +267,12 @@ module _ (i : ℕ) (u : PickState) (inside : i < 4096) (some : 1 ≤ blocksInPie
         ]) (h .1),
   )
 
-  -- a run over pieces of which i is one: no block is wanted after it, or the number rose by 2
-  pub run-rises : (is : List ℕ) → member i is ≡ true → isIgnored i u ≡ false → Grows u u
-      → (spent (takeSpan takeAll is u) ≡ true) ⊎ (weight (trace u) + 2 ≤ weight (trace (takeSpan takeAll is u)))
+  -- a run over pieces of which i is one: the number rises by 2
+  pub run-rises : (is : List ℕ) → member i is ≡ true → isIgnored i u ≡ false → Grows u u → weight (trace u) + 2 ≤ weight (trace (takeSpan takeAll is u))
   unfolding takeSpan Coming member any
   run-rises is m e g =
-      walkUntil-ends Coming (λ v. (spent v ≡ true) ⊎ (weight (trace u) + 2 ≤ weight (trace v))) (spanStep takeAll) spanHalt
-      (λ x ys t h q. coming-next x ys t h) (λ x ys t h q. inl (run-halt-spent x t q))
-      (λ t h. inr (⊎-elim (λ l. l) (λ c. absurd (true≢false (sym (c .1)))) (h .1))) is u (g, inr (e, m))
+      let h = forEach-ends Coming (spanStep takeAll) coming-next is u (g, inr (e, m)) in
+      ⊎-elim (λ l. l) (λ c. absurd (true≢false (sym (c .1)))) (h .1)
 
 -- ---- the bound
 -- where blocks are wanted the number is at most 8,191

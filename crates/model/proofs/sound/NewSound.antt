@@ -1,17 +1,15 @@
 -- A new picker is well-formed.
 use mathlib.Core.Path.{_≡_, refl, sym, ap, _∙_}
-use Prim.Native.Nat.{ℕ, zero, suc, _+_, _≤_, _<_}
+use Prim.Native.Nat.{ℕ, suc, _<_}
 use native.Mathlib.Omega.{arith}
 use native.Mathlib.Decide.{decLe}
-use mathlib.Core.Bool.{Bool, true, false, _&&_, _||_, not}
-use mathlib.Core.List.{List, [], _∷_}
-use mathlib.Core.Option.{Option, none, some, Option·none-ne-some}
-use lib.ListN.{length, getD, replicate, length-replicate, getD-replicate}
-use lib.Dec.{leb}
+use mathlib.Core.Bool.{true}
+use mathlib.Core.Option.{none, Option·none-ne-some}
+use lib.ListN.{length-replicate, getD-replicate}
 use borrow.Author.Tests.{le-leb}
 use Rattle.model.specs.Lists.{nth, len}
 use Rattle.model.specs.Bep3.{numPieces}
-use Rattle.model.specs.State.{Piece, Picker, noPiece, freshPiece, new, validGeometry, isOpen, sameQueue, pieceAt, piecesIn}
+use Rattle.model.specs.State.{Piece, noPiece, freshPiece, new, validGeometry, isOpen, sameQueue, pieceAt, piecesIn}
 use Rattle.model.specs.State.{pieceSizeAt}
 use Rattle.model.specs.change.Partials.{partialOf, findDlPiece}
 use Rattle.model.specs.image.WellFormed.{headOk, pieceOk, extentsOk}

@@ -11,7 +11,7 @@ use mathlib.Core.Option.{Option, none, some, Option·some-injective, Option·non
 use lib.ListN.{length, getD}
 use lib.Dec.{eqb, ltb}
 use borrow.Author.Tests.{ltb-true, lt-ltb, le-ltb, eq-eqb, ne-eqb}
-use Rattle.model.specs.Lists.{nth, len, each, filter}
+use Rattle.model.specs.Lists.{nth, len, each, filter, insertBy}
 use Rattle.model.specs.State.{DownloadingPiece, Picker, withPartials}
 use Rattle.model.specs.change.Partials.{findDlPiece, partialOf, replaceIn, replacePartial, insertIn, freshPartial, addPartial}
 use Rattle.model.specs.change.Partials.{dropPartial}
@@ -146,16 +146,16 @@ from-put lo d (x ∷ xs) r =
 
 -- ---- one added
 insert-before : (d x : DownloadingPiece) (xs : List DownloadingPiece) → d .piece < x .piece → insertIn d (x ∷ xs) ≡ d ∷ x ∷ xs
-unfolding insertIn
+unfolding insertIn insertBy
 insert-before d x xs h = rw (lt-ltb (d .piece) (x .piece) h)
 
 insert-behind : (d x : DownloadingPiece) (xs : List DownloadingPiece) → x .piece ≤ d .piece → insertIn d (x ∷ xs) ≡ x ∷ insertIn d xs
-unfolding insertIn
+unfolding insertIn insertBy
 insert-behind d x xs h = rw (le-ltb (d .piece) (x .piece) h)
 
 -- the new one is found where none stood
 pub findDlPiece-insert-same : (i : ℕ) (d : DownloadingPiece) (ds : List DownloadingPiece) → d .piece ≡ i → findDlPiece i ds ≡ none → findDlPiece i (insertIn d ds) ≡ some d
-unfolding insertIn
+unfolding insertIn insertBy
 findDlPiece-insert-same i d [] p h = findDlPiece-here i d [] p
 findDlPiece-insert-same i d (x ∷ xs) p h = elim (decLe (x .piece) (d .piece)) [
   | yes q ↦ rw (insert-behind d x xs q) (elim (ℕ-discrete (x .piece) i) [
@@ -167,7 +167,7 @@ findDlPiece-insert-same i d (x ∷ xs) p h = elim (decLe (x .piece) (d .piece)) 
 
 -- other pieces have what they had
 pub findDlPiece-insert-other : (i : ℕ) (d : DownloadingPiece) (ds : List DownloadingPiece) → d .piece ≢ i → findDlPiece i (insertIn d ds) ≡ findDlPiece i ds
-unfolding insertIn
+unfolding insertIn insertBy
 findDlPiece-insert-other i d [] n = findDlPiece-there i d [] n
 findDlPiece-insert-other i d (x ∷ xs) n = elim (decLe (x .piece) (d .piece)) [
   | yes q ↦ rw (insert-behind d x xs q) (elim (ℕ-discrete (x .piece) i) [
@@ -179,7 +179,7 @@ findDlPiece-insert-other i d (x ∷ xs) n = elim (decLe (x .piece) (d .piece)) [
 
 -- one more stands
 pub size-insert : (d : DownloadingPiece) (ds : List DownloadingPiece) → len (insertIn d ds) ≡ suc (len ds)
-unfolding insertIn len
+unfolding insertIn insertBy len
 size-insert d [] = refl
 size-insert d (x ∷ xs) = elim (decLe (x .piece) (d .piece)) [
   | yes q ↦ rw (insert-behind d x xs q) (ap suc (size-insert d xs))
@@ -188,7 +188,7 @@ size-insert d (x ∷ xs) = elim (decLe (x .piece) (d .piece)) [
 
 -- the pieces still rise, where none stood for the new one's
 pub from-insert : (lo : ℕ) (d : DownloadingPiece) (ds : List DownloadingPiece) → lo ≤ d .piece → findDlPiece (d .piece) ds ≡ none → partialsFrom lo ds ≡ true → partialsFrom lo (insertIn d ds) ≡ true
-unfolding insertIn partialsFrom
+unfolding insertIn insertBy partialsFrom
 from-insert lo d [] h f r = from-cons lo d [] h r
 from-insert lo d (x ∷ xs) h f r =
     let a = from-head lo x xs r in
@@ -313,6 +313,17 @@ findDlPiece-drop-other i k (x ∷ xs) m = elim (ℕ-discrete (x .piece) i) [
     | yes q ↦ findDlPiece-here k x (filter (another i) xs) q ∙ sym (findDlPiece-here k x xs q)
     | no q ↦ findDlPiece-there k x (filter (another i) xs) q ∙ findDlPiece-drop-other i k xs m ∙ sym (findDlPiece-there k x xs q)
   ])
+]
+
+-- one replaced before is dropped as well
+pub drop-put : (i : ℕ) (d : DownloadingPiece) (ds : List DownloadingPiece) → d .piece ≡ i → filter (another i) (replaceIn d ds) ≡ filter (another i) ds
+unfolding filter replaceIn each
+drop-put i d [] p = refl
+drop-put i d (x ∷ xs) p = elim (ℕ-discrete (x .piece) i) [
+  | yes e ↦ rw (eq-eqb (x .piece) (d .piece) (e ∙ sym p), another-no i d p, another-no i x e) (drop-put i d xs p)
+  | no n ↦
+      rw (ne-eqb (x .piece) (d .piece) (λ (q : x .piece ≡ d .piece). n (q ∙ p)), another-yes i x n)
+      (ap (λ (l : List DownloadingPiece). x ∷ l) (drop-put i d xs p))
 ]
 
 -- where none stood nothing changes

@@ -9,7 +9,7 @@ use mathlib.Core.List.{[]}
 use mathlib.Core.Option.{Option, none, some, Option·some-injective, Option·none-ne-some}
 use lib.Dec.{leb}
 use borrow.Author.Tests.{leb-true, le-leb}
-use Rattle.model.specs.Lists.{every, len, nth}
+use Rattle.model.specs.Lists.{every, len}
 use Rattle.model.specs.Bep3.{numPieces}
 use Rattle.model.specs.State.{Piece, DownloadingPiece, Picker, maxPieces, maxPieceSize, maxPeers, maxPartials, isOpen, noPiece}
 use Rattle.model.specs.State.{sameQueue, pieceAt, piecesIn, pieceSizeAt, blocksInPiece, validGeometry}

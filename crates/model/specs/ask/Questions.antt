@@ -65,110 +65,112 @@ pub data Reply : Type 0 where
   staleList : Reply
 
 -- numbers, each of them there
-unfoldable pub plain : List ℕ → Reply
+unfoldable pub plain : (ns : List ℕ) → Reply
 plain ns = numbers (each (λ n. some n) ns)
 
 -- one number
-unfoldable pub one : ℕ → Reply
+unfoldable pub one : (n : ℕ) → Reply
 one n = plain (n ∷ [])
 
 -- 1 or 0
-unfoldable pub flag : Bool → Reply
-flag b = one (bit b)
+unfoldable pub flag : (truth : Bool) → Reply
+flag truth = one (bit truth)
 
 -- ---- totals
-unfoldable pub passedIn : Option DownloadingPiece → Bool
+-- a partial stands, and its hash passed
+unfoldable pub passedIn : (found : Option DownloadingPiece) → Bool
 passedIn none = false
 passedIn (some d) = d .passedHashCheck
 
--- `have_piece`: had, or passed while still a partial
-unfoldable pub havePiece : Picker → ℕ → Bool
+-- `have_piece`: flushed, or passed while still a partial
+unfoldable pub havePiece : (s : Picker) (i : ℕ) → Bool
 havePiece s i = pieceAt s i .flushed || passedIn (partialOf s i)
 
--- the piece is left out
-unfoldable pub filtered : Picker → ℕ → Bool
+-- `filtered`: the piece is left out
+unfoldable pub filtered : (s : Picker) (i : ℕ) → Bool
 filtered s i = eqb (pieceAt s i .priority) 0
 
--- the pieces that pass a test, and their pad bytes
-unfoldable pub piecesWhere : Picker → (ℕ → Bool) → List ℕ
-piecesWhere s t = filter t (from 0 (piecesIn s))
+-- the pieces that pass a test
+unfoldable pub piecesWhere : (s : Picker) (test : ℕ → Bool) → List ℕ
+piecesWhere s test = filter test (from 0 (piecesIn s))
 
 -- how many they are
-unfoldable pub countWhere : Picker → (ℕ → Bool) → ℕ
-countWhere s t = len (piecesWhere s t)
+unfoldable pub countWhere : (s : Picker) (test : ℕ → Bool) → ℕ
+countWhere s test = len (piecesWhere s test)
 
 -- of a list of numbers
-unfoldable pub sum : List ℕ → ℕ
+unfoldable pub sum : (l : List ℕ) → ℕ
 sum [] = 0
 sum (x ∷ xs) = x + sum xs
 
 -- their pad bytes
-unfoldable pub padBytesWhere : Picker → (ℕ → Bool) → ℕ
-padBytesWhere s t = sum (each (λ i. pieceAt s i .padBytes) (piecesWhere s t))
+unfoldable pub padBytesWhere : (s : Picker) (test : ℕ → Bool) → ℕ
+padBytesWhere s test = sum (each (λ i. pieceAt s i .padBytes) (piecesWhere s test))
 
 -- `num_have`
-unfoldable pub numHave : Picker → ℕ
+unfoldable pub numHave : (s : Picker) → ℕ
 numHave s = countWhere s (havePiece s)
 
--- `num_filtered`: left out and not had
-unfoldable pub numFiltered : Picker → ℕ
+-- `num_filtered`: left out, and not one that `have_piece` counts
+unfoldable pub numFiltered : (s : Picker) → ℕ
 numFiltered s = countWhere s (λ i. filtered s i && not (havePiece s i))
 
--- `num_have_filtered`: left out and had
-unfoldable pub numHaveFiltered : Picker → ℕ
+-- `num_have_filtered`: left out, and one that it counts
+unfoldable pub numHaveFiltered : (s : Picker) → ℕ
 numHaveFiltered s = countWhere s (λ i. filtered s i && havePiece s i)
 
--- pieces, their pad bytes, and whether the last piece is among them
-unfoldable pub counted : Picker → (ℕ → Bool) → Reply
-counted s t = plain (countWhere s t ∷ padBytesWhere s t ∷ bit (t (piecesIn s - 1)) ∷ [])
+-- the Rust's `PieceCount`: pieces, their pad bytes, and whether the last piece is among them
+unfoldable pub counted : (s : Picker) (test : ℕ → Bool) → Reply
+counted s test = plain (countWhere s test ∷ padBytesWhere s test ∷ bit (test (piecesIn s - 1)) ∷ [])
 
--- the lowest count of the pieces, a had one counting once more
-unfoldable pub copies : Piece → ℕ
+-- the peers of a piece, a flushed one counting once more
+unfoldable pub copies : (p : Piece) → ℕ
 copies p = p .peerCount + bit (p .flushed)
 
--- the lowest of them, and of n
-unfoldable pub lowest : ℕ → List Piece → ℕ
+-- the least of n and of the copies of these
+unfoldable pub lowest : (n : ℕ) (ps : List Piece) → ℕ
 lowest n [] = n
 lowest n (p ∷ ps) = lowest (least n (copies p)) ps
 
--- the Rust's start: no count comes near it
+-- `MAX_PEER_COUNT`, where the search for the least copies starts: no count comes near it
 abbrev pub maxPeerCount : ℕ
 maxPeerCount = 65535
 
--- whole copies with the seeds, and how many pieces are above that, in thousandths
-unfoldable pub distributed : Picker → Reply
+-- `distributed_copies`: the least copies with the seeds, and how many pieces have more, in thousandths
+unfoldable pub distributed : (s : Picker) → Reply
 distributed s =
     let k = lowest maxPeerCount (s .pieces) in
     plain ((k + s .seeds) ∷ (count (λ p. ltb k (copies p)) (s .pieces) * 1000 / piecesIn s) ∷ [])
 
 -- ---- records
 -- piece, finished, passed, writing, locked, requested, hashing
-unfoldable pub info : DownloadingPiece → List ℕ
+unfoldable pub info : (d : DownloadingPiece) → List ℕ
 info d =
     d .piece
     ∷ blocksInState Finished d
     ∷ bit (d .passedHashCheck) ∷ blocksInState Writing d ∷ bit (d .locked) ∷ blocksInState Requested d ∷ bit (d .hashing) ∷ []
 
--- `piece_info`: without a partial, all blocks of a had piece are finished
-unfoldable pub infoOf : Picker → ℕ → Option DownloadingPiece → List ℕ
+-- `piece_info`: without a partial, all blocks of a flushed piece are finished
+unfoldable pub infoOf : (s : Picker) (i : ℕ) (found : Option DownloadingPiece) → List ℕ
 infoOf s i none = i ∷ (bit (pieceAt s i .flushed) * blocksInPiece s i) ∷ 0 ∷ 0 ∷ 0 ∷ 0 ∷ 0 ∷ []
 infoOf s i (some d) = info d
 
--- the partials of the four queues
-unfoldable pub queueInfo : Picker → List ℕ
+-- `get_download_queue`: the partials of the four queues
+unfoldable pub queueInfo : (s : Picker) → List ℕ
 queueInfo s = concatMap info (inQueue Downloading s ++ (inQueue Full s ++ (inQueue FinishedQueue s ++ inQueue ZeroPrio s)))
 
--- how many each has
-unfoldable pub queueSizes : Picker → List ℕ
+-- `get_download_queue_sizes`: how many each has
+unfoldable pub queueSizes : (s : Picker) → List ℕ
 queueSizes s =
     len (inQueue Downloading s) ∷ len (inQueue Full s) ∷ len (inQueue FinishedQueue s) ∷ len (inQueue ZeroPrio s) ∷ []
 
--- peers with the seeds
-unfoldable pub availability : Picker → Piece → ℕ
+-- `get_availability`: peers with the seeds
+unfoldable pub availability : (s : Picker) (p : Piece) → ℕ
 availability s p = p .peerCount + s .seeds
 
 -- ---- the answers
-unfoldable pub replyPicker : Picker → OfPicker → Reply
+-- of the picker
+unfoldable pub replyPicker : (s : Picker) (q : OfPicker) → Reply
 replyPicker s num-pieces = one (piecesIn s)
 replyPicker s block-size = one (blockLength (s .pieceSize))
 replyPicker s blocks-per-piece = one (blocksPerPiece s)
@@ -194,42 +196,42 @@ replyPicker s full-piece-size = one (s .pieceSize)
 replyPicker s dirty? = flag (isDirty (s .listing))
 
 -- a record for each piece or partial
-unfoldable pub listPicker : Picker → ListOfPicker → Reply
+unfoldable pub listPicker : (s : Picker) (q : ListOfPicker) → Reply
 listPicker s get-availability-vec = plain (each (availability s) (s .pieces))
 listPicker s piece-priorities = plain (each (λ p. p .priority) (s .pieces))
 listPicker s get-download-queue = plain (queueInfo s)
 
 -- what a partial tells, if one stands
-unfoldable pub ofPartial : (DownloadingPiece → Reply) → Option DownloadingPiece → Reply
-ofPartial f none = nothing
-ofPartial f (some d) = f d
+unfoldable pub ofPartial : (reply : DownloadingPiece → Reply) (found : Option DownloadingPiece) → Reply
+ofPartial reply none = nothing
+ofPartial reply (some d) = reply d
 
--- a partial that is being hashed
-unfoldable pub hashingIn : Option DownloadingPiece → Bool
+-- `is_hashing`: a partial stands that is being hashed
+unfoldable pub hashingIn : (found : Option DownloadingPiece) → Bool
 hashingIn none = false
 hashingIn (some d) = d .hashing
 
--- `is_piece_finished`: every block written or on disk
-unfoldable pub finishedIn : Picker → ℕ → Option DownloadingPiece → Bool
+-- `is_piece_finished`: every block being written or on disk
+unfoldable pub finishedIn : (s : Picker) (i : ℕ) (found : Option DownloadingPiece) → Bool
 finishedIn s i none = pieceAt s i .flushed
 finishedIn s i (some d) = leb (blocksInPiece s i) (blocksInState Finished d + blocksInState Writing d)
 
--- who holds each block
-unfoldable pub peersIn : Picker → ℕ → Option DownloadingPiece → List (Option ℕ)
+-- `get_downloaders`: each block's peer
+unfoldable pub peersIn : (s : Picker) (i : ℕ) (found : Option DownloadingPiece) → List (Option ℕ)
 peersIn s i none = replicate (blocksInPiece s i) none
 peersIn s i (some d) = each (λ b. b .peer) (d .blocks)
 
 -- state, peers, peer
-unfoldable pub blockInfo : Block → List (Option ℕ)
+unfoldable pub blockInfo : (b : Block) → List (Option ℕ)
 blockInfo b = some (blockStateNumber (b .state)) ∷ some (b .numPeers) ∷ b .peer ∷ []
 
--- peers with the seeds, bucket, had, partial
-unfoldable pub stats : Picker → Piece → Reply
+-- `piece_stats`: peers with the seeds, bucket, flushed, downloading
+unfoldable pub stats : (s : Picker) (p : Piece) → Reply
 stats s p =
     numbers (some (availability s p) ∷ bucket (s .seeds) p ∷ some (bit (p .flushed)) ∷ some (bit (not (isOpen (p .state)))) ∷ [])
 
 -- of piece i
-unfoldable pub replyPiece : Picker → ℕ → OfPiece → Reply
+unfoldable pub replyPiece : (s : Picker) (i : ℕ) (q : OfPiece) → Reply
 replyPiece s i blocks-in-piece = one (blocksInPiece s i)
 replyPiece s i payload-blocks-in-piece = one (payloadBlocksInPiece s i)
 replyPiece s i piece-size = one (pieceSizeAt s i)
@@ -250,58 +252,58 @@ replyPiece s i locked? = ofPartial (λ d. flag (d .locked)) (partialOf s i)
 replyPiece s i hashing? = ofPartial (λ d. flag (d .hashing)) (partialOf s i)
 
 -- a record for each block
-unfoldable pub listPiece : Picker → ℕ → ListOfPiece → Reply
+unfoldable pub listPiece : (s : Picker) (i : ℕ) (q : ListOfPiece) → Reply
 listPiece s i get-downloaders = numbers (peersIn s i (partialOf s i))
 listPiece s i blocks-for-piece = ofPartial (λ d. numbers (concatMap blockInfo (d .blocks))) (partialOf s i)
 
 -- the block of a partial, if one stands
-unfoldable pub blockIn : Option DownloadingPiece → ℕ → Option Block
+unfoldable pub blockIn : (found : Option DownloadingPiece) (j : ℕ) → Option Block
 blockIn none j = none
 blockIn (some d) j = some (blockAt d j)
 
 -- a block stands and passes a test
-unfoldable pub blockTest : (Block → Bool) → Option Block → Bool
-blockTest t none = false
-blockTest t (some b) = t b
+unfoldable pub blockTest : (test : Block → Bool) (found : Option Block) → Bool
+blockTest test none = false
+blockTest test (some b) = test b
 
 -- what a block tells, if its partial stands
-unfoldable pub ofBlockThere : (Block → Reply) → Option Block → Reply
-ofBlockThere f none = nothing
-ofBlockThere f (some b) = f b
+unfoldable pub ofBlockThere : (reply : Block → Reply) (found : Option Block) → Reply
+ofBlockThere reply none = nothing
+ofBlockThere reply (some b) = reply b
 
--- none without a partial
-unfoldable pub numPeersOf : Option Block → ℕ
+-- `num_peers_block`: 0 without a partial
+unfoldable pub numPeersOf : (found : Option Block) → ℕ
 numPeersOf none = 0
 numPeersOf (some b) = b .numPeers
 
--- none for a free block
-unfoldable pub downloaderOf : Option Block → Option ℕ
+-- `get_downloader`: none for a free block
+unfoldable pub downloaderOf : (found : Option Block) → Option ℕ
 downloaderOf none = none
 downloaderOf (some b) = cond (sameBlockState (b .state) None) none (b .peer)
 
 -- of a block of piece i
-unfoldable pub replyBlock : Picker → ℕ → Option Block → OfBlock → Reply
-replyBlock s i b num-peers-block = one (numPeersOf b)
-replyBlock s i b is-requested = flag (blockTest (λ x. sameBlockState (x .state) Requested) b)
-replyBlock s i b is-downloaded = flag (pieceAt s i .flushed || blockTest received b)
-replyBlock s i b is-finished-block = flag (pieceAt s i .flushed || blockTest (λ x. sameBlockState (x .state) Finished) b)
-replyBlock s i b get-downloader = numbers (downloaderOf b ∷ [])
-replyBlock s i b block-state = ofBlockThere (λ x. one (blockStateNumber (x .state))) b
-replyBlock s i b block-num-peers = ofBlockThere (λ x. one (x .numPeers)) b
-replyBlock s i b block-peer = ofBlockThere (λ x. numbers (x .peer ∷ [])) b
+unfoldable pub replyBlock : (s : Picker) (i : ℕ) (found : Option Block) (q : OfBlock) → Reply
+replyBlock s i found num-peers-block = one (numPeersOf found)
+replyBlock s i found is-requested = flag (blockTest (λ x. sameBlockState (x .state) Requested) found)
+replyBlock s i found is-downloaded = flag (pieceAt s i .flushed || blockTest received found)
+replyBlock s i found is-finished-block = flag (pieceAt s i .flushed || blockTest (λ x. sameBlockState (x .state) Finished) found)
+replyBlock s i found get-downloader = numbers (downloaderOf found ∷ [])
+replyBlock s i found block-state = ofBlockThere (λ x. one (blockStateNumber (x .state))) found
+replyBlock s i found block-num-peers = ofBlockThere (λ x. one (x .numPeers)) found
+replyBlock s i found block-peer = ofBlockThere (λ x. numbers (x .peer ∷ [])) found
 
 -- what stands at a place, if anything does
-unfoldable pub placeIn : Option ℕ → Reply
+unfoldable pub placeIn : (found : Option ℕ) → Reply
 placeIn none = nothing
 placeIn (some x) = one x
 
 -- a place of the list
-unfoldable pub listPlace : Listing → ℕ → Reply
+unfoldable pub listPlace : (listing : Listing) (k : ℕ) → Reply
 listPlace dirty k = staleList
 listPlace (fresh l) k = placeIn (getElem? l k)
 
 -- every question
-unfoldable pub reply : Picker → Question → Reply
+unfoldable pub reply : (s : Picker) (q : Question) → Reply
 reply s (ofPicker q) = replyPicker s q
 reply s (listOfPicker q room) = listPicker s q
 reply s (ofPiece q i) = replyPiece s i q

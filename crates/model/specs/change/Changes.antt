@@ -15,7 +15,7 @@ use Rattle.model.specs.State.{Piece, Block, DownloadingPiece, Picker, ma
 use Rattle.model.specs.State.{hasPeer, withPeerCount, withPriority, withFlushed, withState, withPeer, withFlags, withSeeds}
 use Rattle.model.specs.State.{withCursors, withPieces, withPiece, withRecentExtents, pieceAt, piecesIn, markDirty, blocksInPiece}
 use Rattle.model.specs.State.{blocksPerPiece, extentFor, extentStart, extentEnd}
-use Rattle.model.specs.list.Order.{Drawing, drawing, noDraw, rank, changeAndUpdate}
+use Rattle.model.specs.list.Order.{Draws, Drawing, drawing, noDraw, rank, changeAndUpdate}
 use Rattle.model.specs.Options.{reverse, pieceExtentAffinity}
 use Rattle.model.specs.change.Partials.{partialOf, blockAt, blocksInState, progress, replacePartial, replaceBlock, setState}
 use Rattle.model.specs.change.Partials.{updatePieceState, addDownloadPiece, eraseDownloadPiece, eraseAndUpdate}
@@ -27,286 +27,307 @@ pub record Change : Type 0 where
   pub after : Drawing
 
 -- a change that answers nothing
-unfoldable pub quietly : Drawing → Change
+unfoldable pub quietly : (w : Drawing) → Change
 quietly w = record { answer = none; after = w }
 
 -- a change that answers true or false
-unfoldable pub saying : Bool → Drawing → Change
-saying b w = record { answer = some b; after = w }
+unfoldable pub saying : (truth : Bool) (w : Drawing) → Change
+saying truth w = record { answer = some truth; after = w }
 
 -- ---- availability
-unfoldable pub incPeerCount : Piece → Piece
+-- a peer more
+unfoldable pub incPeerCount : (p : Piece) → Piece
 incPeerCount p = withPeerCount (suc (p .peerCount)) p
 
 -- a peer less
-unfoldable pub decPeerCount : Piece → Piece
+unfoldable pub decPeerCount : (p : Piece) → Piece
 decPeerCount p = withPeerCount (p .peerCount - 1) p
 
 -- every piece changed
-unfoldable pub allPieces : (Piece → Piece) → Picker → Picker
+unfoldable pub allPieces : (f : Piece → Piece) (s : Picker) → Picker
 allPieces f s = withPieces (each f (s .pieces)) s
 
 -- `inc_refcount`: a peer has piece i
-unfoldable pub incRefcount : List ℕ → ℕ → Drawing → Drawing
-incRefcount ds i w = changeAndUpdate ds i (withPiece i incPeerCount) w
+unfoldable pub incRefcount : (draws : Draws) (i : ℕ) (w : Drawing) → Drawing
+incRefcount draws i w = changeAndUpdate draws i (withPiece i incPeerCount) w
 
--- a seed turns out to lack a piece: it counts with each piece from now on
-unfoldable pub breakOneSeed : Picker → Picker
+-- `break_one_seed`: a seed turns out to lack a piece, and counts with each piece from now on
+unfoldable pub breakOneSeed : (s : Picker) → Picker
 breakOneSeed s = markDirty (allPieces incPeerCount (withSeeds (s .seeds - 1) s))
 
 -- `dec_refcount`: a peer has it no more; where only seeds had it, one of them is broken first
-unfoldable pub decRefcount : List ℕ → ℕ → Drawing → Drawing
-decRefcount ds i w = changeAndUpdate ds i (withPiece i decPeerCount) (when (eqb (pieceAt (w .picker) i .peerCount) 0) (noDraw breakOneSeed) w)
+unfoldable pub decRefcount : (draws : Draws) (i : ℕ) (w : Drawing) → Drawing
+decRefcount draws i w =
+    changeAndUpdate draws i (withPiece i decPeerCount) (when (eqb (pieceAt (w .picker) i .peerCount) 0) (noDraw breakOneSeed) w)
 
--- a first seed, or no seed any more, changes which pieces have a bucket
-unfoldable pub incRefcountAll : Picker → Picker
+-- `inc_refcount_all`: a seed more. A first one gives a bucket to pieces without peers, so the list is dirty
+unfoldable pub incRefcountAll : (s : Picker) → Picker
 incRefcountAll s = when (eqb (s .seeds) 0) markDirty (withSeeds (suc (s .seeds)) s)
 
--- `dec_refcount_all`: a seed goes, or, without one, a peer of each piece
-unfoldable pub decRefcountAll : Picker → Picker
+-- `dec_refcount_all`: a seed goes, and with the last one the list is dirty; without a seed, a peer of each piece goes
+unfoldable pub decRefcountAll : (s : Picker) → Picker
 decRefcountAll s =
     cond (eqb (s .seeds) 0) (markDirty (allPieces decPeerCount s)) (when (eqb (s .seeds) 1) markDirty (withSeeds (s .seeds - 1) s))
 
 -- ---- cursors
 -- nothing of the piece is wanted any more
-unfoldable pub flushedOrFiltered : Piece → Bool
+unfoldable pub flushedOrFiltered : (p : Piece) → Bool
 flushedOrFiltered p = p .flushed || eqb (p .priority) 0
 
--- how many in front are settled
-unfoldable pub flushedOrFilteredRun : List Piece → ℕ
+-- how many in front are so
+unfoldable pub flushedOrFilteredRun : (ps : List Piece) → ℕ
 flushedOrFilteredRun [] = 0
 flushedOrFilteredRun (p ∷ ps) = cond (flushedOrFiltered p) (suc (flushedOrFilteredRun ps)) 0
 
--- the first piece from i on that is not settled
-unfoldable pub cursorFrom : Picker → ℕ → ℕ
+-- the first piece from i on that is not
+unfoldable pub cursorFrom : (s : Picker) (i : ℕ) → ℕ
 cursorFrom s i = i + flushedOrFilteredRun (drop i (s .pieces))
 
--- one past the last piece below i that is not settled
-unfoldable pub reverseFrom : Picker → ℕ → ℕ
+-- one past the last piece below i that is not
+unfoldable pub reverseFrom : (s : Picker) (i : ℕ) → ℕ
 reverseFrom s zero = 0
 reverseFrom s (suc i) = cond (flushedOrFiltered (pieceAt s i)) (reverseFrom s i) (suc i)
 
--- the cursors past each other
-unfoldable pub emptyRange : Picker → Picker
+-- the cursors past each other: no piece between them
+unfoldable pub emptyRange : (s : Picker) → Picker
 emptyRange s = withCursors (piecesIn s) 0 s
 
--- piece i is settled now: a cursor that stands at it moves on
-unfoldable pub advanceCursors : ℕ → Picker → Picker
+-- piece i is flushed or filtered now: a cursor that stands at it moves on
+unfoldable pub advanceCursors : (i : ℕ) (s : Picker) → Picker
 advanceCursors i s =
     cond (eqb (s .cursor) i && eqb (s .reverseCursor) (suc i)) (emptyRange s)
     (cond (eqb (s .cursor) i) (withCursors (cursorFrom s (suc i)) (s .reverseCursor) s)
     (cond (eqb (s .reverseCursor) (suc i)) (withCursors (s .cursor) (reverseFrom s i) s) s))
 
 -- ---- priorities
--- the cursors where piece i, not had, begins to be left out, or ends to be
-unfoldable pub cursorsOnFilter : ℕ → ℕ → Picker → Picker
+-- the cursors where piece i, which is not flushed, gets priority 0, or another one after it
+unfoldable pub cursorsOnFilter : (i priority : ℕ) (s : Picker) → Picker
 cursorsOnFilter i priority s = cond (eqb priority 0) (advanceCursors i s) (when (eqb (s .cursor) (s .reverseCursor)) emptyRange s)
 
 -- the priority turns from or to 0
-unfoldable pub filterChanges : ℕ → Piece → Bool
+unfoldable pub filterChanges : (priority : ℕ) (p : Piece) → Bool
 filterChanges priority p = not (eqb (bit (eqb priority 0)) (bit (eqb (p .priority) 0)))
 
 -- cursors, priority and list, then the state of a partial
-unfoldable pub prioritySet : List ℕ → ℕ → ℕ → Drawing → Drawing
-prioritySet ds i priority w =
+unfoldable pub prioritySet : (draws : Draws) (i priority : ℕ) (w : Drawing) → Drawing
+prioritySet draws i priority w =
     let p = pieceAt (w .picker) i in
     let turned = when (filterChanges priority p && not (p .flushed)) (noDraw (cursorsOnFilter i priority)) w in
-    let listed = changeAndUpdate ds i (withPiece i (withPriority priority)) turned in
-    unless (isOpen (p .state)) (updatePieceState ds i) listed
+    let listed = changeAndUpdate draws i (withPiece i (withPriority priority)) turned in
+    unless (isOpen (p .state)) (updatePieceState draws i) listed
 
 -- `set_piece_priority`: answers whether the priority turned from or to 0
-unfoldable pub setPiecePriority : List ℕ → ℕ → ℕ → Drawing → Change
-setPiecePriority ds i priority w =
+unfoldable pub setPiecePriority : (draws : Draws) (i priority : ℕ) (w : Drawing) → Change
+setPiecePriority draws i priority w =
     let p = pieceAt (w .picker) i in
-    saying (filterChanges priority p) (unless (eqb priority (p .priority)) (prioritySet ds i priority) w)
+    saying (filterChanges priority p) (unless (eqb priority (p .priority)) (prioritySet draws i priority) w)
 
 -- ---- extents
 -- the other pieces of i's extent
-unfoldable pub neighbours : Picker → ℕ → List Piece
+unfoldable pub neighbours : (s : Picker) (i : ℕ) → List Piece
 neighbours s i =
     each (pieceAt s) (filter (λ k. not (eqb k i)) (range (extentStart s (extentFor s i)) (extentEnd s (extentFor s i))))
 
--- they have this one's priority, and not all are had
-unfoldable pub worthRecording : Picker → ℕ → Bool
+-- they have this one's priority, and not all are flushed
+unfoldable pub worthRecording : (s : Picker) (i : ℕ) → Bool
 worthRecording s i =
     every (λ p. eqb (p .priority) (pieceAt s i .priority)) (neighbours s i) && not (every (λ p. p .flushed) (neighbours s i))
 
--- the extent is recorded: none at 256 blocks, none twice, no sixth
-unfoldable pub recordable : Picker → ℕ → Bool
+-- piece i's extent is to be recorded: none where a piece has 256 blocks, none twice, no sixth
+unfoldable pub recordable : (s : Picker) (i : ℕ) → Bool
 recordable s i =
     ltb (blocksPerPiece s) extentBlocks
     && (not (member (extentFor s i) (s .recentExtents)) && (ltb (len (s .recentExtents)) maxExtents && worthRecording s i))
 
--- `record_downloading_piece`
-unfoldable pub recordDownloadingPiece : ℕ → Picker → Picker
+-- `record_downloading_piece`: piece i's extent becomes the latest
+unfoldable pub recordDownloadingPiece : (i : ℕ) (s : Picker) → Picker
 recordDownloadingPiece i s = when (recordable s i) (withRecentExtents (s .recentExtents ++ (extentFor s i ∷ []))) s
 
 -- ---- marks
-unfoldable pub reverseAsked : ℕ → Bool
+-- REVERSE is asked for
+unfoldable pub reverseAsked : (options : ℕ) → Bool
 reverseAsked options = meets options reverse
 
 -- PIECE_EXTENT_AFFINITY is asked for
-unfoldable pub affinityAsked : ℕ → Bool
+unfoldable pub affinityAsked : (options : ℕ) → Bool
 affinityAsked options = meets options pieceExtentAffinity
 
 -- Open piece i becomes a partial, first in state `q`
-unfoldable pub opened : List ℕ → ℕ → DownloadQueue → Bool → Drawing → Drawing
-opened ds i q affinity w = addDownloadPiece ds i (when affinity (noDraw (recordDownloadingPiece i)) (setState ds i q w))
+unfoldable pub opened : (draws : Draws) (i : ℕ) (q : DownloadQueue) (affinity : Bool) (w : Drawing) → Drawing
+opened draws i q affinity w = addDownloadPiece draws i (when affinity (noDraw (recordDownloadingPiece i)) (setState draws i q w))
 
 -- block j of a standing partial replaced, and the piece's state after it
-unfoldable pub setBlock : List ℕ → ℕ → DownloadingPiece → ℕ → Block → Drawing → Drawing
-setBlock ds i d j b w = updatePieceState ds i (noDraw (replaceBlock d j b) w)
+unfoldable pub setBlock : (draws : Draws) (i : ℕ) (d : DownloadingPiece) (j : ℕ) (b : Block) (w : Drawing) → Drawing
+setBlock draws i d j b w = updatePieceState draws i (noDraw (replaceBlock d j b) w)
 
--- the block marked in a piece just opened, unless its pad bytes finished it
-unfoldable pub markFirst : List ℕ → ℕ → Option DownloadingPiece → ℕ → Block → Drawing → Change
-markFirst ds i none j b w = saying false w
-markFirst ds i (some d) j b w =
-    cond (sameBlockState (blockAt d j .state) Finished) (saying false w) (saying true (setBlock ds i d j b w))
+-- the block marked in a piece just opened; false where pad bytes finished it
+unfoldable pub markFirst : (draws : Draws) (i : ℕ) (found : Option DownloadingPiece) (j : ℕ) (b : Block) (w : Drawing) → Change
+markFirst draws i none j b w = saying false w
+markFirst draws i (some d) j b w =
+    cond (sameBlockState (blockAt d j .state) Finished) (saying false w) (saying true (setBlock draws i d j b w))
 
 -- a block of an Open piece marked
-unfoldable pub markOpening : List ℕ → ℕ → DownloadQueue → Bool → ℕ → Block → Drawing → Change
-markOpening ds i q affinity j b w =
-    let o = opened ds i q affinity w in
-    markFirst ds i (partialOf (o .picker) i) j b o
+unfoldable pub markOpening : (draws : Draws) (i : ℕ) (q : DownloadQueue) (affinity : Bool) (j : ℕ) (b : Block) (w : Drawing) → Change
+markOpening draws i q affinity j b w =
+    let o = opened draws i q affinity w in
+    markFirst draws i (partialOf (o .picker) i) j b o
 
 -- the piece turned reverse or back. One that gets a bucket by it is not put into the list: the list is dirty
-unfoldable pub setDirection : List ℕ → ℕ → DownloadQueue → Drawing → Drawing
-setDirection ds i q w =
+unfoldable pub setDirection : (draws : Draws) (i : ℕ) (q : DownloadQueue) (w : Drawing) → Drawing
+setDirection draws i q w =
     let s = withPiece i (withState q) (w .picker) in
-    cond (eqb (rank (w .picker) i) 0 && ltb 0 (rank s i)) (drawing (w .used) (markDirty s)) (setState ds i q w)
+    cond (eqb (rank (w .picker) i) 0 && ltb 0 (rank s i)) (drawing (w .used) (markDirty s)) (setState draws i q w)
 
--- under REVERSE a piece that nobody works on turns reverse
-unfoldable pub makePieceReverse : List ℕ → ℕ → Bool → DownloadingPiece → Drawing → Drawing
-makePieceReverse ds i back d w =
+-- under REVERSE a piece without a Requested block turns reverse
+unfoldable pub makePieceReverse : (draws : Draws) (i : ℕ) (back : Bool) (d : DownloadingPiece) (w : Drawing) → Drawing
+makePieceReverse draws i back d w =
     let q = pieceAt (w .picker) i .state in
-    when (back && (not (isReverse q) && eqb (blocksInState Requested d) 0)) (setDirection ds i (makeReverse q)) w
+    when (back && (not (isReverse q) && eqb (blocksInState Requested d) 0)) (setDirection draws i (makeReverse q)) w
 
 -- without REVERSE a reverse piece turns back
-unfoldable pub unreversePiece : List ℕ → ℕ → Bool → Drawing → Drawing
-unreversePiece ds i back w =
+unfoldable pub unreversePiece : (draws : Draws) (i : ℕ) (back : Bool) (w : Drawing) → Drawing
+unreversePiece draws i back w =
     let q = pieceAt (w .picker) i .state in
-    when (not back && isReverse q) (setDirection ds i (unreverse q)) w
+    when (not back && isReverse q) (setDirection draws i (unreverse q)) w
 
 -- a block requested by n peers, last by this one
-unfoldable pub requestedBy : Option ℕ → ℕ → Block
+unfoldable pub requestedBy : (peer : Option ℕ) (n : ℕ) → Block
 requestedBy peer n = record { state = Requested; numPeers = n; peer = peer }
 
 -- a block that this peer brought
-unfoldable pub writtenBy : Option ℕ → Block
+unfoldable pub writtenBy : (peer : Option ℕ) → Block
 writtenBy peer = record { state = Writing; numPeers = 0; peer = peer }
 
 -- a block on disk
-unfoldable pub finishedBy : Option ℕ → ℕ → Block
+unfoldable pub finishedBy : (peer : Option ℕ) (n : ℕ) → Block
 finishedBy peer n = record { state = Finished; numPeers = n; peer = peer }
 
 -- Writing or Finished
-unfoldable pub received : Block → Bool
+unfoldable pub received : (b : Block) → Bool
 received b = sameBlockState (b .state) Writing || sameBlockState (b .state) Finished
 
 -- a block of a standing partial requested once more
-unfoldable pub request : List ℕ → ℕ → DownloadingPiece → ℕ → Option ℕ → Bool → Drawing → Drawing
-request ds i d j peer back w =
-    unreversePiece ds i back
-    (setBlock ds i d j (requestedBy peer (suc (blockAt d j .numPeers))) (makePieceReverse ds i back d w))
+unfoldable pub request : (draws : Draws) (i : ℕ) (d : DownloadingPiece) (j : ℕ) (peer : Option ℕ) (back : Bool) (w : Drawing) → Drawing
+request draws i d j peer back w =
+    unreversePiece draws i back
+    (setBlock draws i d j (requestedBy peer (suc (blockAt d j .numPeers))) (makePieceReverse draws i back d w))
 
--- by whether a partial stands
-unfoldable pub markDownloadingIn : List ℕ → ℕ → Option DownloadingPiece → ℕ → Option ℕ → ℕ → Drawing → Change
-markDownloadingIn ds i none j peer options w =
-    markOpening ds i (cond (reverseAsked options) DownloadingReverse Downloading) (affinityAsked options) j (requestedBy peer 1) w
-markDownloadingIn ds i (some d) j peer options w =
-    cond (received (blockAt d j)) (saying false w) (saying true (request ds i d j peer (reverseAsked options) w))
+-- by whether a partial stands: a block that was received is not asked for again
+unfoldable pub markDownloadingIn : (draws : Draws) (i : ℕ) (found : Option DownloadingPiece) (j : ℕ) (peer : Option ℕ) (options : ℕ) (w : Drawing) → Change
+markDownloadingIn draws i none j peer options w =
+    markOpening draws i (cond (reverseAsked options) DownloadingReverse Downloading) (affinityAsked options) j (requestedBy peer 1) w
+markDownloadingIn draws i (some d) j peer options w =
+    cond (received (blockAt d j)) (saying false w) (saying true (request draws i d j peer (reverseAsked options) w))
 
 -- `mark_as_downloading`
-unfoldable pub markAsDownloading : List ℕ → ℕ → ℕ → Option ℕ → ℕ → Drawing → Change
-markAsDownloading ds i j peer options w = markDownloadingIn ds i (partialOf (w .picker) i) j peer options w
+unfoldable pub markAsDownloading : (draws : Draws) (i j : ℕ) (peer : Option ℕ) (options : ℕ) (w : Drawing) → Change
+markAsDownloading draws i j peer options w = markDownloadingIn draws i (partialOf (w .picker) i) j peer options w
 
--- a block that was received before only changes its peer
-unfoldable pub markWritingIn : List ℕ → ℕ → Option DownloadingPiece → ℕ → Option ℕ → Drawing → Change
-markWritingIn ds i none j peer w =
-    cond (pieceAt (w .picker) i .flushed) (saying false w) (markOpening ds i Downloading false j (writtenBy peer) w)
-markWritingIn ds i (some d) j peer w =
+-- by whether a partial stands: a block that was received before only changes its peer
+unfoldable pub markWritingIn : (draws : Draws) (i : ℕ) (found : Option DownloadingPiece) (j : ℕ) (peer : Option ℕ) (w : Drawing) → Change
+markWritingIn draws i none j peer w =
+    cond (pieceAt (w .picker) i .flushed) (saying false w) (markOpening draws i Downloading false j (writtenBy peer) w)
+markWritingIn draws i (some d) j peer w =
     cond (received (blockAt d j)) (saying false (noDraw (replaceBlock d j (withPeer peer (blockAt d j))) w))
-    (saying true (setBlock ds i d j (writtenBy peer) w))
+    (saying true (setBlock draws i d j (writtenBy peer) w))
 
 -- `mark_as_writing`
-unfoldable pub markAsWriting : List ℕ → ℕ → ℕ → Option ℕ → Drawing → Change
-markAsWriting ds i j peer w = markWritingIn ds i (partialOf (w .picker) i) j peer w
+unfoldable pub markAsWriting : (draws : Draws) (i j : ℕ) (peer : Option ℕ) (w : Drawing) → Change
+markAsWriting draws i j peer w = markWritingIn draws i (partialOf (w .picker) i) j peer w
 
--- the whole piece is on disk: had, its partial gone. It has no bucket before or after
-unfoldable pub pieceFlushed : ℕ → Picker → Picker
+-- `piece_flushed`: the whole piece is on disk, and its partial goes. It has no bucket before or after
+unfoldable pub pieceFlushed : (i : ℕ) (s : Picker) → Picker
 pieceFlushed i s = advanceCursors i (withPiece i withFlushed (eraseDownloadPiece i s))
 
 -- every block is on disk
-unfoldable pub allFinished : Picker → DownloadingPiece → Bool
+unfoldable pub allFinished : (s : Picker) (d : DownloadingPiece) → Bool
 allFinished s d = leb (blocksInPiece s (d .piece)) (blocksInState Finished d)
 
 -- a passed piece with all blocks finished goes, unless it is locked or being hashed
-unfoldable pub flushIf : ℕ → Option DownloadingPiece → Picker → Picker
+unfoldable pub flushIf : (i : ℕ) (found : Option DownloadingPiece) (s : Picker) → Picker
 flushIf i none s = s
 flushIf i (some d) s =
     when (allFinished s d && (d .passedHashCheck && (not (d .hashing) && not (d .locked)))) (pieceFlushed i) s
 
--- where a partial stands
-unfoldable pub flushDone : ℕ → Picker → Picker
+-- the partial of piece i, if one stands
+unfoldable pub flushDone : (i : ℕ) (s : Picker) → Picker
 flushDone i s = flushIf i (partialOf s i) s
 
 -- a Writing block keeps its peer where no peer brings the news
-unfoldable pub finishedPeer : Option ℕ → Block → Option ℕ
+unfoldable pub finishedPeer : (peer : Option ℕ) (b : Block) → Option ℕ
 finishedPeer peer b = cond (sameBlockState (b .state) Writing && not (hasPeer peer)) (b .peer) peer
 
--- by whether a partial stands
-unfoldable pub markFinishedIn : List ℕ → ℕ → Option DownloadingPiece → ℕ → Option ℕ → Drawing → Drawing
-markFinishedIn ds i none j peer w =
-    cond (pieceAt (w .picker) i .flushed) w (markOpening ds i Downloading false j (finishedBy peer 0) w .after)
-markFinishedIn ds i (some d) j peer w =
+-- by whether a partial stands: a Finished block stays as it is, and a passed piece may go
+unfoldable pub markFinishedIn : (draws : Draws) (i : ℕ) (found : Option DownloadingPiece) (j : ℕ) (peer : Option ℕ) (w : Drawing) → Drawing
+markFinishedIn draws i none j peer w =
+    cond (pieceAt (w .picker) i .flushed) w (markOpening draws i Downloading false j (finishedBy peer 0) w .after)
+markFinishedIn draws i (some d) j peer w =
     let b = blockAt d j in
-    cond (sameBlockState (b .state) Finished) w (noDraw (flushDone i) (setBlock ds i d j (finishedBy (finishedPeer peer b) (b .numPeers)) w))
+    cond (sameBlockState (b .state) Finished) w
+    (noDraw (flushDone i) (setBlock draws i d j (finishedBy (finishedPeer peer b) (b .numPeers)) w))
 
 -- `mark_as_finished`
-unfoldable pub markAsFinished : List ℕ → ℕ → ℕ → Option ℕ → Drawing → Drawing
-markAsFinished ds i j peer w = markFinishedIn ds i (partialOf (w .picker) i) j peer w
+unfoldable pub markAsFinished : (draws : Draws) (i j : ℕ) (peer : Option ℕ) (w : Drawing) → Drawing
+markAsFinished draws i j peer w = markFinishedIn draws i (partialOf (w .picker) i) j peer w
 
--- a requester less; the named peer is forgotten
-unfoldable pub released : Option ℕ → Block → Block
-released peer b =
-    record { state = Requested; numPeers = b .numPeers - 1; peer = cond (samePeer (b .peer) peer) none (b .peer) }
-
--- a free block
+-- a block free again that no peer has a part in
 unfoldable pub freed : Block
 freed = record { state = None; numPeers = 0; peer = none }
 
--- a block without peers is free; a partial without blocks at work is closed
-unfoldable pub freeBlock : List ℕ → ℕ → DownloadingPiece → ℕ → Drawing → Drawing
-freeBlock ds i d j w =
-    cond (eqb (progress d) 1 && not (d .hashing)) (eraseAndUpdate ds i w) (setBlock ds i d j freed w)
+-- a block free again that keeps its number of peers and has the named one for its peer
+unfoldable pub canceled : (peer : Option ℕ) (b : Block) → Block
+canceled peer b = record { state = None; numPeers = b .numPeers; peer = peer }
 
--- only a Requested block of a standing partial is given back
-unfoldable pub abortIn : List ℕ → ℕ → Option DownloadingPiece → ℕ → Option ℕ → Drawing → Drawing
-abortIn ds i none j peer w = w
-abortIn ds i (some d) j peer w =
+-- block j, which is at work, becomes the free block `b`; a partial without another block at work is closed, unless it is being hashed
+unfoldable pub freeBlock : (draws : Draws) (i : ℕ) (d : DownloadingPiece) (j : ℕ) (b : Block) (w : Drawing) → Drawing
+freeBlock draws i d j b w =
+    cond (eqb (progress d) 1 && not (d .hashing)) (eraseAndUpdate draws i w) (setBlock draws i d j b w)
+
+-- a Finished block stays, a Writing one is given back, and any other only gets the named peer. The Rust brings the piece's state up to date
+-- before it closes the partial, which changes nothing there
+unfoldable pub cancelIn : (draws : Draws) (i : ℕ) (found : Option DownloadingPiece) (j : ℕ) (peer : Option ℕ) (w : Drawing) → Drawing
+cancelIn draws i none j peer w = w
+cancelIn draws i (some d) j peer w =
+    let b = blockAt d j in
+    cond (sameBlockState (b .state) Finished) w
+    (cond (sameBlockState (b .state) Writing) (freeBlock draws i d j (canceled peer b) w) (noDraw (replaceBlock d j (withPeer peer b)) w))
+
+-- `mark_as_canceled`
+unfoldable pub markAsCanceled : (draws : Draws) (i j : ℕ) (peer : Option ℕ) (w : Drawing) → Drawing
+markAsCanceled draws i j peer w = cancelIn draws i (partialOf (w .picker) i) j peer w
+
+-- a requester less; the named peer is forgotten
+unfoldable pub released : (peer : Option ℕ) (b : Block) → Block
+released peer b =
+    record { state = Requested; numPeers = b .numPeers - 1; peer = cond (samePeer (b .peer) peer) none (b .peer) }
+
+-- only a Requested block of a standing partial is given back, and it is free once its last requester is gone
+unfoldable pub abortIn : (draws : Draws) (i : ℕ) (found : Option DownloadingPiece) (j : ℕ) (peer : Option ℕ) (w : Drawing) → Drawing
+abortIn draws i none j peer w = w
+abortIn draws i (some d) j peer w =
     let b = blockAt d j in
     cond (not (sameBlockState (b .state) Requested)) w
-    (cond (ltb 1 (b .numPeers)) (noDraw (replaceBlock d j (released peer b)) w) (freeBlock ds i d j w))
+    (cond (ltb 1 (b .numPeers)) (noDraw (replaceBlock d j (released peer b)) w) (freeBlock draws i d j freed w))
 
 -- `abort_download`
-unfoldable pub abortDownload : List ℕ → ℕ → ℕ → Option ℕ → Drawing → Drawing
-abortDownload ds i j peer w = abortIn ds i (partialOf (w .picker) i) j peer w
+unfoldable pub abortDownload : (draws : Draws) (i j : ℕ) (peer : Option ℕ) (w : Drawing) → Drawing
+abortDownload draws i j peer w = abortIn draws i (partialOf (w .picker) i) j peer w
 
--- where a partial stands
-unfoldable pub lockIn : Option DownloadingPiece → Picker → Picker
+-- the partial, if one stands, locked and no longer passed
+unfoldable pub lockIn : (found : Option DownloadingPiece) (s : Picker) → Picker
 lockIn none s = s
 lockIn (some d) s = replacePartial (withFlags false true d) s
 
--- `lock_piece`: no longer passed, and no block of it is picked
-unfoldable pub lockPiece : ℕ → Picker → Picker
+-- `lock_piece`: no block of the piece is picked
+unfoldable pub lockPiece : (i : ℕ) (s : Picker) → Picker
 lockPiece i s = lockIn (partialOf s i) s
 
--- where a partial stands that is not locked
-unfoldable pub passIn : ℕ → Option DownloadingPiece → Picker → Picker
+-- the partial, if one stands and is not locked, passed; flushed at once where every block is on disk
+unfoldable pub passIn : (i : ℕ) (found : Option DownloadingPiece) (s : Picker) → Picker
 passIn i none s = s
 passIn i (some d) s =
     unless (d .locked) (λ t. when (allFinished t d) (pieceFlushed i) (replacePartial (withFlags true false d) t)) s
 
--- `piece_passed`: flushed at once if every block is on disk
-unfoldable pub piecePassed : ℕ → Picker → Picker
+-- `piece_passed`
+unfoldable pub piecePassed : (i : ℕ) (s : Picker) → Picker
 piecePassed i s = passIn i (partialOf s i) s

@@ -9,57 +9,59 @@ use Rattle.types.specs.declared.queue.DownloadQueue.the-variants.{Downloading, 
 use Rattle.types.specs.declared.block.BlockState.{BlockState}
 use Rattle.types.specs.declared.block.BlockState.the-variants.{None, Requested, Finished}
 use Rattle.types.specs.Queue.{unreverse, makeReverse, isReverse}
-use Rattle.model.specs.Lists.{bit, count, filter, each, from, nth, setNth, len, unless}
+use Rattle.model.specs.Lists.{bit, count, filter, each, from, nth, setNth, len, unless, insertBy}
 use Rattle.model.specs.State.{Block, DownloadingPiece, Picker, noBlock, sameQueue, isOpen, sameBlockState, withBlocks, withPartials}
 use Rattle.model.specs.State.{withPiece, withState, pieceAt, blocksInPiece, payloadBlocksInPiece}
-use Rattle.model.specs.list.Order.{Drawing, noDraw, changeAndUpdate}
+use Rattle.model.specs.list.Order.{Draws, Drawing, noDraw, changeAndUpdate}
 
 -- ---- finding
--- the partial of a piece, if one stands
-unfoldable pub findDlPiece : ℕ → List DownloadingPiece → Option DownloadingPiece
+-- `find_dl_piece`: the partial of a piece, if one stands
+unfoldable pub findDlPiece : (i : ℕ) (ds : List DownloadingPiece) → Option DownloadingPiece
 findDlPiece i [] = none
 findDlPiece i (d ∷ ds) = cond (eqb (d .piece) i) (some d) (findDlPiece i ds)
 
 -- the same, of a picker
-unfoldable pub partialOf : Picker → ℕ → Option DownloadingPiece
+unfoldable pub partialOf : (s : Picker) (i : ℕ) → Option DownloadingPiece
 partialOf s i = findDlPiece i (s .partials)
 
 -- block j of a partial
-unfoldable pub blockAt : DownloadingPiece → ℕ → Block
+unfoldable pub blockAt : (d : DownloadingPiece) (j : ℕ) → Block
 blockAt d j = nth noBlock (d .blocks) j
 
 -- ---- counts, from the blocks
-unfoldable pub blocksInState : BlockState → DownloadingPiece → ℕ
+-- blocks in one state
+unfoldable pub blocksInState : (k : BlockState) (d : DownloadingPiece) → ℕ
 blocksInState k d = count (λ b. sameBlockState (b .state) k) (d .blocks)
 
 -- blocks that are not free
-unfoldable pub progress : DownloadingPiece → ℕ
+unfoldable pub progress : (d : DownloadingPiece) → ℕ
 progress d = len (d .blocks) - blocksInState None d
 
 -- ---- queues
 -- the partials of a queue, by rising piece; the reverse states stand with the plain ones
-unfoldable pub inQueue : DownloadQueue → Picker → List DownloadingPiece
+unfoldable pub inQueue : (q : DownloadQueue) (s : Picker) → List DownloadingPiece
 inQueue q s = filter (λ d. sameQueue (unreverse (pieceAt s (d .piece) .state)) q) (s .partials)
 
 -- ---- one partial changed
-unfoldable pub replaceIn : DownloadingPiece → List DownloadingPiece → List DownloadingPiece
+-- the partial of its piece replaced, in a list
+unfoldable pub replaceIn : (d : DownloadingPiece) (ds : List DownloadingPiece) → List DownloadingPiece
 replaceIn d ds = each (λ e. cond (eqb (e .piece) (d .piece)) d e) ds
 
--- the partial of its piece replaced
-unfoldable pub replacePartial : DownloadingPiece → Picker → Picker
+-- the same, in a picker
+unfoldable pub replacePartial : (d : DownloadingPiece) (s : Picker) → Picker
 replacePartial d s = withPartials (replaceIn d (s .partials)) s
 
 -- block j of a partial replaced
-unfoldable pub replaceBlock : DownloadingPiece → ℕ → Block → Picker → Picker
+unfoldable pub replaceBlock : (d : DownloadingPiece) (j : ℕ) (b : Block) (s : Picker) → Picker
 replaceBlock d j b s = replacePartial (withBlocks (setNth j b (d .blocks)) d) s
 
 -- ---- the state that the blocks give
 -- plain or reverse, as the piece was before
-unfoldable pub inDirection : DownloadQueue → DownloadQueue → DownloadQueue
+unfoldable pub inDirection : (current q : DownloadQueue) → DownloadQueue
 inDirection current q = cond (isReverse current) (makeReverse q) q
 
--- `update_piece_state`: the state for a piece with these blocks and this priority. Open means that the piece is left as it is
-unfoldable pub newState : DownloadingPiece → ℕ → DownloadQueue → DownloadQueue
+-- `new_state` of `update_piece_state`: the state that these blocks and this priority give. Open means that the piece is left as it is
+unfoldable pub newState : (d : DownloadingPiece) (priority : ℕ) (current : DownloadQueue) → DownloadQueue
 newState d priority current =
     cond (eqb priority 0) ZeroPrio
     (cond (eqb (progress d + bit (d .hashing)) 0) Open
@@ -67,55 +69,60 @@ newState d priority current =
     (cond (ltb 0 (blocksInState Requested d)) (inDirection current Full) FinishedQueue)))
 
 -- the piece in another state, and the list mended
-unfoldable pub setState : List ℕ → ℕ → DownloadQueue → Drawing → Drawing
-setState ds i q w = changeAndUpdate ds i (withPiece i (withState q)) w
+unfoldable pub setState : (draws : Draws) (i : ℕ) (q : DownloadQueue) (w : Drawing) → Drawing
+setState draws i q w = changeAndUpdate draws i (withPiece i (withState q)) w
 
 -- the piece goes to state `q` unless it is there, or is to be left
-unfoldable pub moveState : List ℕ → ℕ → DownloadQueue → DownloadQueue → Drawing → Drawing
-moveState ds i current q w = unless (sameQueue q current || isOpen q) (setState ds i q) w
+unfoldable pub moveState : (draws : Draws) (i : ℕ) (current q : DownloadQueue) (w : Drawing) → Drawing
+moveState draws i current q w = unless (sameQueue q current || isOpen q) (setState draws i q) w
 
--- where a partial stands
-unfoldable pub updateStateOf : List ℕ → ℕ → Option DownloadingPiece → Drawing → Drawing
-updateStateOf ds i none w = w
-updateStateOf ds i (some d) w =
+-- the state made that of the blocks, where a partial stands
+unfoldable pub updateStateOf : (draws : Draws) (i : ℕ) (found : Option DownloadingPiece) (w : Drawing) → Drawing
+updateStateOf draws i none w = w
+updateStateOf draws i (some d) w =
     let p = pieceAt (w .picker) i in
-    moveState ds i (p .state) (newState d (p .priority) (p .state)) w
+    moveState draws i (p .state) (newState d (p .priority) (p .state)) w
 
--- `update_piece_state`: the state made that of the blocks
-unfoldable pub updatePieceState : List ℕ → ℕ → Drawing → Drawing
-updatePieceState ds i w = updateStateOf ds i (partialOf (w .picker) i) w
+-- `update_piece_state`
+unfoldable pub updatePieceState : (draws : Draws) (i : ℕ) (w : Drawing) → Drawing
+updatePieceState draws i w = updateStateOf draws i (partialOf (w .picker) i) w
 
 -- ---- opening and closing
 -- block j of a piece just opened: Finished where it holds pad bytes alone
-unfoldable pub freshBlock : ℕ → ℕ → Block
+unfoldable pub freshBlock : (payload j : ℕ) → Block
 freshBlock payload j = record { state = cond (ltb j payload) None Finished; numPeers = 0; peer = none }
 
 -- the partial of a piece just opened
-unfoldable pub freshPartial : Picker → ℕ → DownloadingPiece
+unfoldable pub freshPartial : (s : Picker) (i : ℕ) → DownloadingPiece
 freshPartial s i =
-    record { piece = i; passedHashCheck = false; locked = false; hashing = false; blocks = each (freshBlock (payloadBlocksInPiece s i)) (from 0 (blocksInPiece s i)) }
+    record {
+      piece = i;
+      passedHashCheck = false;
+      locked = false;
+      hashing = false;
+      blocks = each (freshBlock (payloadBlocksInPiece s i)) (from 0 (blocksInPiece s i));
+    }
 
--- by rising piece
-unfoldable pub insertIn : DownloadingPiece → List DownloadingPiece → List DownloadingPiece
-insertIn d [] = d ∷ []
-insertIn d (e ∷ es) = cond (ltb (d .piece) (e .piece)) (d ∷ e ∷ es) (e ∷ insertIn d es)
+-- a partial put in by rising piece
+unfoldable pub insertIn : (d : DownloadingPiece) (ds : List DownloadingPiece) → List DownloadingPiece
+insertIn d ds = insertBy (λ e f. ltb (e .piece) (f .piece)) d ds
 
 -- a partial for piece i
-unfoldable pub addPartial : ℕ → Picker → Picker
+unfoldable pub addPartial : (i : ℕ) (s : Picker) → Picker
 addPartial i s = withPartials (insertIn (freshPartial s i) (s .partials)) s
 
 -- `add_download_piece`: the partial stands, and its pad blocks may move it on
-unfoldable pub addDownloadPiece : List ℕ → ℕ → Drawing → Drawing
-addDownloadPiece ds i w = updatePieceState ds i (noDraw (addPartial i) w)
+unfoldable pub addDownloadPiece : (draws : Draws) (i : ℕ) (w : Drawing) → Drawing
+addDownloadPiece draws i w = updatePieceState draws i (noDraw (addPartial i) w)
 
--- the partial gone and its piece Open; the list is not mended
-unfoldable pub dropPartial : ℕ → Picker → Picker
+-- no partial of piece i any more
+unfoldable pub dropPartial : (i : ℕ) (s : Picker) → Picker
 dropPartial i s = withPartials (filter (λ d. not (eqb (d .piece) i)) (s .partials)) s
 
--- `erase_download_piece`: the same, the piece Open
-unfoldable pub eraseDownloadPiece : ℕ → Picker → Picker
+-- `erase_download_piece`: the partial gone and its piece Open; the list is not mended
+unfoldable pub eraseDownloadPiece : (i : ℕ) (s : Picker) → Picker
 eraseDownloadPiece i s = withPiece i (withState Open) (dropPartial i s)
 
 -- the same, and the list mended
-unfoldable pub eraseAndUpdate : List ℕ → ℕ → Drawing → Drawing
-eraseAndUpdate ds i w = changeAndUpdate ds i (eraseDownloadPiece i) w
+unfoldable pub eraseAndUpdate : (draws : Draws) (i : ℕ) (w : Drawing) → Drawing
+eraseAndUpdate draws i w = changeAndUpdate draws i (eraseDownloadPiece i) w

@@ -5,9 +5,10 @@ use mathlib.Core.List.{List, []}
 use mathlib.Core.Option.{Option}
 use lib.ListN.{replicate}
 use lib.Dec.{leb}
+use Rattle.types.specs.declared.refusal.Refusal.the-variants.{ShortMemory, IllFormedImage}
 use Rattle.model.specs.Lists.{len}
 use Rattle.model.specs.Bep3.{bitfieldBytes}
-use Rattle.model.specs.State.{Picker, minDraws, piecesIn, blocksPerPiece}
+use Rattle.model.specs.State.{Picker, maxWanted, maxContiguous, spareOutput, minDraws, piecesIn, blocksPerPiece}
 use Rattle.model.specs.pick.Blocks.{PickRequest}
 use Rattle.model.specs.image.Image.{pickKind, Reader, ret, _>>=_, field, judged, obeying, peerFits, peerOf, Read, accepted, faultAt}
 use Rattle.model.specs.image.Image.{whole, getPicker}
@@ -15,7 +16,7 @@ use Rattle.model.specs.Calls.{Action, pick-pieces, Answer, refused, unle
 
 -- ---- the pick record
 -- options, N, P, peers, peer; the bitfield has a one for each of n pieces
-unfoldable pub requestOf : ℕ → List ℕ → PickRequest
+unfoldable pub requestOf : (n : ℕ) (b : List ℕ) → PickRequest
 requestOf n b =
     record {
       options = field 0 2 b;
@@ -29,7 +30,7 @@ requestOf n b =
     }
 
 -- has-peer and peer must fit
-unfoldable pub readRequest : ℕ → List ℕ → Option PickRequest
+unfoldable pub readRequest : (n : ℕ) (b : List ℕ) → Option PickRequest
 readRequest n b = obeying (peerFits (field 8 1 b) (field 9 8 b)) (requestOf n b)
 
 -- an image and a pick record
@@ -44,28 +45,31 @@ getJob = do
   a ← judged pickKind (readRequest (piecesIn s))
   ret (record { picker = s; ask = a })
 
--- ---- what the program prints
--- a pick's answer, or the number of a refusal with, for 13, the place of the fault
-pub data Printed : Type 0 where
-  shown : Answer → Printed
-  refusedAt : ℕ → Printed
+-- ---- what the program answers
+-- it lends what the largest pick needs
+unfoldable pub pickOf : (a : PickRequest) → Action
+pickOf a = pick-pieces a (maxWanted + maxContiguous + spareOutput) (replicate minDraws 0)
 
--- the program lends what the largest pick needs, to 64 pieces of 16 blocks
-unfoldable pub pickOf : PickRequest → Action
-pickOf a = pick-pieces a (2048 + 2048 + 255) (replicate minDraws 0)
+-- the program's own limits, of pieces and of the blocks of one
+abbrev pub programPieces : ℕ
+programPieces = 64
 
--- 2 past its sizes, then what the pick answers
-unfoldable pub jobAnswer : Job → Answer
+abbrev pub programBlocks : ℕ
+programBlocks = 16
+
+-- 2 past them, then what the pick answers
+unfoldable pub jobAnswer : (x : Job) → Answer
 jobAnswer x =
-    cond (leb (piecesIn (x .picker)) 64 && leb (blocksPerPiece (x .picker)) 16)
+    cond (leb (piecesIn (x .picker)) programPieces && leb (blocksPerPiece (x .picker)) programBlocks)
     (unlessRefused (refusal (x .picker) (pickOf (x .ask))) (x .picker) (pickOf (x .ask)) .answer)
-    (refused 2)
+    (refused ShortMemory)
 
 -- what was read, or a fault
-unfoldable pub printed : Read Job → Printed
-printed (accepted x) = shown (jobAnswer x)
-printed (faultAt k) = refusedAt k
+unfoldable pub programAnswer : (read : Read Job) → Answer
+programAnswer (accepted x) = jobAnswer x
+programAnswer (faultAt k) = refused (IllFormedImage k)
 
--- from the bytes on standard input
-unfoldable pub program : List ℕ → Printed
-program bs = printed (whole (len bs) (getJob bs))
+-- the answer to the bytes on standard input. A refusal is printed as its number, with the place of the fault for 13: `refusalNumber` and
+-- `refusalValues`
+unfoldable pub program : (bs : List ℕ) → Answer
+program bs = programAnswer (whole (len bs) (getJob bs))

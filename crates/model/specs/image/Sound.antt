@@ -13,7 +13,7 @@ use Rattle.model.specs.image.WellFormed.{headOk, pieceOk, blockOk, state
 use Rattle.model.specs.list.Listed.{ListingOk}
 
 -- the pieces of the partials rise, and none is below lo
-unfoldable pub partialsFrom : ℕ → List DownloadingPiece → Bool
+unfoldable pub partialsFrom : (lo : ℕ) (ds : List DownloadingPiece) → Bool
 partialsFrom lo [] = true
 partialsFrom lo (d ∷ ds) = ltb lo (suc (d .piece)) && partialsFrom (suc (d .piece)) ds
 

@@ -166,9 +166,9 @@ shuffled draws used first zero l = l
 shuffled draws used first (suc n) l = shuffled draws (suc used) first n (swap l (first + suc n) (first + draw draws used (suc n)))
 
 -- how many in front have rank k
-unfoldable pub runLength : (k : Rank) (ranks : List Rank) → ℕ
-runLength k [] = 0
-runLength k (first ∷ ranks) = cond (eqb first k) (suc (runLength k ranks)) 0
+unfoldable pub runLength : (old : Rank) (ranks : List Rank) → ℕ
+runLength old [] = 0
+runLength old (first ∷ ranks) = cond (eqb first old) (suc (runLength old ranks)) 0
 
 -- each group from place k on shuffled, group by group; `ranks` are those from k on, the first `skip` of the group that is done
 unfoldable pub groupsShuffled : (draws : Draws) (used k skip : ℕ) (ranks : List Rank) (l : List ℕ) → List ℕ

@@ -3,21 +3,22 @@ use Prim.Native.Nat.{ℕ, zero, suc, _+_, _-_, _/_, _%_}
 use mathlib.Core.Bool.{Bool, true, false, cond, not, _&&_, _||_}
 use mathlib.Core.List.{List, [], _∷_, _++_}
 use mathlib.Core.Option.{Option, none, some}
-use lib.ListN.{take, drop, replicate}
+use lib.ListN.{take, replicate}
 use lib.Dec.{eqb, ltb, leb}
 use Rattle.types.specs.declared.queue.DownloadQueue.the-variants.{Downloading}
 use Rattle.types.specs.declared.block.BlockState.the-variants.{None, Requested}
 use Rattle.types.specs.Queue.{unreverse}
 use Rattle.types.specs.Bits.{meets, union}
-use Rattle.model.specs.Lists.{least, from, range, filter, each, any, nth, setNth, len, unless, when, walk, walkUntil}
+use Rattle.model.specs.Lists.{least, from, range, filter, each, any, nth, setNth, len, unless, when, branch, walk, walkUntil, forEach}
 use Rattle.model.specs.Bep3.{bitAt}
 use Rattle.model.specs.State.{Block, DownloadingPiece, Picker, maxPieces, sameQueue, isOpen, sameBlockState, samePeer, hasPeer}
 use Rattle.model.specs.State.{pieceAt, piecesIn, blocksPerPiece, payloadBlocksInPiece}
-use Rattle.model.specs.Options.{onParole, prioritizePartials, alignExpandedPieces}
+use Rattle.model.specs.Options.{numCounters, onParole, prioritizePartials, alignExpandedPieces}
 use Rattle.model.specs.change.Partials.{partialOf, blockAt}
 
 -- ---- what a pick is asked
--- `run` is document 01's P, the blocks wanted in a row; `bits` and `bytes` are the peer's bitfield
+-- the arguments of `pick_pieces`: `wanted` is document 01's N, `contiguous` its P, the blocks wanted in a row; `peers` is how many peers
+-- there are, `peer` the one that is asked; `bits` and `bytes` are its bitfield
 pub record PickRequest : Type 0 where
   pub options : ℕ
   pub wanted : ℕ
@@ -29,15 +30,15 @@ pub record PickRequest : Type 0 where
   pub suggestions : List ℕ
 
 -- an option is asked for
-unfoldable pub option : ℕ → PickRequest → Bool
-option f a = meets (a .options) f
+unfoldable pub option : (bit : ℕ) (a : PickRequest) → Bool
+option bit a = meets (a .options) bit
 
 -- the peer has piece i
-unfoldable pub hasBit : PickRequest → ℕ → Bool
+unfoldable pub hasBit : (a : PickRequest) (i : ℕ) → Bool
 hasBit a i = ltb i (a .bits) && bitAt (a .bytes) i
 
 -- ---- what a pick has come to
--- a run and the blocks that went towards it. The Rust keeps the difference, which may fall below 0
+-- a run and the blocks that went towards it: the Rust's `prefer_contiguous_blocks` is the difference, which may fall below 0
 pub record Contiguous : Type 0 where
   pub asked : ℕ
   pub given : ℕ
@@ -47,8 +48,8 @@ pub record PieceBlock : Type 0 where
   pub piece : ℕ
   pub block : ℕ
 
--- `left` are the blocks still wanted: of a difference below 0 the Rust only asks whether it is 0 or less.
--- `ignored` has a mark for each of 4,096 pieces, `backup` the blocks set aside
+-- `used` are the draws used so far, `left` the blocks still wanted: of a difference below 0 the Rust only asks whether it is 0 or less.
+-- `out` are the blocks picked, `backup` the blocks set aside; `ignored` has a mark for each of 4,096 pieces, `loops` the seven counters
 pub record PickState : Type 0 where
   pub picker : Picker
   pub used : ℕ
@@ -61,7 +62,7 @@ pub record PickState : Type 0 where
   pub loops : List ℕ
 
 -- nothing picked yet
-unfoldable pub startState : Picker → PickRequest → PickState
+unfoldable pub startState : (s : Picker) (a : PickRequest) → PickState
 startState s a =
     record {
       picker = s;
@@ -72,22 +73,23 @@ startState s a =
       backup = [];
       ignored = replicate maxPieces false;
       flags = 0;
-      loops = replicate 7 0;
+      loops = replicate numCounters 0;
     }
 
 -- no block is wanted any more
-unfoldable pub spent : PickState → Bool
+unfoldable pub spent : (w : PickState) → Bool
 spent w = eqb (w .left) 0
 
 -- ---- a field changed
-unfoldable pub withOut : ℕ → Contiguous → List PieceBlock → PickState → PickState
-withOut n r bs w =
+-- other blocks picked, with so many still wanted and another run
+unfoldable pub withOut : (n : ℕ) (r : Contiguous) (blocks : List PieceBlock) (w : PickState) → PickState
+withOut n r picked w =
     record {
       picker = w .picker;
       used = w .used;
       left = n;
       contiguous = r;
-      out = bs;
+      out = picked;
       backup = w .backup;
       ignored = w .ignored;
       flags = w .flags;
@@ -95,30 +97,30 @@ withOut n r bs w =
     }
 
 -- another run
-unfoldable pub withContiguous : Contiguous → PickState → PickState
+unfoldable pub withContiguous : (r : Contiguous) (w : PickState) → PickState
 withContiguous r w = withOut (w .left) r (w .out) w
 
 -- other blocks set aside
-unfoldable pub withBackup : List PieceBlock → PickState → PickState
-withBackup bs w =
+unfoldable pub withBackup : (aside : List PieceBlock) (w : PickState) → PickState
+withBackup aside w =
     record {
       picker = w .picker;
       used = w .used;
       left = w .left;
       contiguous = w .contiguous;
       out = w .out;
-      backup = bs;
+      backup = aside;
       ignored = w .ignored;
       flags = w .flags;
       loops = w .loops;
     }
 
 -- another picker, with so many draws used
-unfoldable pub withPicker : Picker → ℕ → PickState → PickState
-withPicker s t w =
+unfoldable pub withPicker : (s : Picker) (used : ℕ) (w : PickState) → PickState
+withPicker s used w =
     record {
       picker = s;
-      used = t;
+      used = used;
       left = w .left;
       contiguous = w .contiguous;
       out = w .out;
@@ -129,7 +131,7 @@ withPicker s t w =
     }
 
 -- piece i is ignored from here on
-unfoldable pub ignore : ℕ → PickState → PickState
+unfoldable pub ignore : (i : ℕ) (w : PickState) → PickState
 ignore i w =
     record {
       picker = w .picker;
@@ -144,8 +146,8 @@ ignore i w =
     }
 
 -- a flag set
-unfoldable pub flagged : ℕ → PickState → PickState
-flagged f w =
+unfoldable pub flagged : (flag : ℕ) (w : PickState) → PickState
+flagged flag w =
     record {
       picker = w .picker;
       used = w .used;
@@ -154,12 +156,12 @@ flagged f w =
       out = w .out;
       backup = w .backup;
       ignored = w .ignored;
-      flags = union (w .flags) f;
+      flags = union (w .flags) flag;
       loops = w .loops;
     }
 
--- n steps more on a counter
-unfoldable pub steps : ℕ → ℕ → PickState → PickState
+-- n steps more on a counter: the Rust's `inc`, n times
+unfoldable pub steps : (n counter : ℕ) (w : PickState) → PickState
 steps n counter w =
     record {
       picker = w .picker;
@@ -173,42 +175,43 @@ steps n counter w =
       loops = setNth counter (nth 0 (w .loops) counter + n) (w .loops);
     }
 
--- the piece is passed over
-unfoldable pub isIgnored : ℕ → PickState → Bool
+-- piece i is ignored
+unfoldable pub isIgnored : (i : ℕ) (w : PickState) → Bool
 isIgnored i w = nth false (w .ignored) i
 
 -- ---- runs
-unfoldable pub contiguousIsZero : Contiguous → Bool
+-- nothing is left of the run, and no more was given
+unfoldable pub contiguousIsZero : (r : Contiguous) → Bool
 contiguousIsZero r = eqb (r .asked) (r .given)
 
 -- more than n are left of the run
-unfoldable pub contiguousAbove : ℕ → Contiguous → Bool
+unfoldable pub contiguousAbove : (n : ℕ) (r : Contiguous) → Bool
 contiguousAbove n r = ltb (r .given + n) (r .asked)
 
 -- a block more towards the run
-unfoldable pub shorter : Contiguous → Contiguous
+unfoldable pub shorter : (r : Contiguous) → Contiguous
 shorter r = record { asked = r .asked; given = suc (r .given) }
 
--- pieces of b blocks that hold the run; none below 0, since it falls by less than b
-unfoldable pub wholePieces : ℕ → Contiguous → ℕ
-wholePieces b r = (r .asked - r .given + b - 1) / b
+-- pieces of n blocks that hold what is left of the run; none below 0, since it falls by less than n below
+unfoldable pub wholePieces : (n : ℕ) (r : Contiguous) → ℕ
+wholePieces n r = (r .asked - r .given + n - 1) / n
 
 -- ---- which pieces
--- the peer has it, it is not had, and it is wished for
-unfoldable pub isPieceFree : PickRequest → Picker → ℕ → Bool
+-- `is_piece_free`: the peer has it, it is not flushed, and it is not filtered
+unfoldable pub isPieceFree : (a : PickRequest) (s : Picker) (i : ℕ) → Bool
 isPieceFree a s i = hasBit a i && (not (pieceAt s i .flushed) && not (eqb (pieceAt s i .priority) 0))
 
--- and no partial stands for it
-unfoldable pub canPick : PickRequest → Picker → ℕ → Bool
+-- `can_pick`: and no partial stands for it
+unfoldable pub canPick : (a : PickRequest) (s : Picker) (i : ℕ) → Bool
 canPick a s i = isPieceFree a s i && isOpen (pieceAt s i .state)
 
--- down from piece i, by n at most, while pieces can be picked
-unfoldable pub downBy : PickRequest → Picker → ℕ → ℕ → ℕ
+-- down from piece i, by n at most, while the piece below can be picked
+unfoldable pub downBy : (a : PickRequest) (s : Picker) (n i : ℕ) → ℕ
 downBy a s zero i = i
 downBy a s (suc n) i = cond (canPick a s (i - 1)) (downBy a s n (i - 1)) i
 
--- up from piece k, by n at most
-unfoldable pub upBy : PickRequest → Picker → ℕ → ℕ → ℕ
+-- up from piece k, by n at most, while pieces can be picked
+unfoldable pub upBy : (a : PickRequest) (s : Picker) (n k : ℕ) → ℕ
 upBy a s zero k = k
 upBy a s (suc n) k = cond (canPick a s k) (upBy a s n (suc k)) k
 
@@ -218,110 +221,102 @@ pub record Span : Type 0 where
   pub end : ℕ
 
 -- the piece alone
-unfoldable pub alone : ℕ → Span
+unfoldable pub alone : (i : ℕ) → Span
 alone i = record { first = i; end = suc i }
 
--- the lowest piece that a run of n pieces around piece i may start at
-unfoldable pub lowestStart : PickRequest → ℕ → ℕ → ℕ
+-- the lowest piece that a span of n pieces around piece i may start at
+unfoldable pub lowestStart : (a : PickRequest) (i n : ℕ) → ℕ
 lowestStart a i n = cond (option alignExpandedPieces a) (i - i % n) (suc i - n)
 
--- from `first` up, to no more than n pieces and no further than the last
-unfoldable pub spanFrom : PickRequest → Picker → ℕ → ℕ → ℕ → ℕ → Span
+-- from `first` past piece i, to no more than n pieces and no further than the last
+unfoldable pub spanFrom : (a : PickRequest) (s : Picker) (i n lowest first : ℕ) → Span
 spanFrom a s i n lowest first =
     let end = least (cond (option alignExpandedPieces a) lowest first + n) (piecesIn s) in
     record { first = first; end = upBy a s (end - suc i) (suc i) }
 
--- a run of n pieces around piece i, as far as pieces can be picked; of no pieces, the piece alone
-unfoldable pub spanOf : PickRequest → Picker → ℕ → ℕ → Span
+-- a span of n pieces around piece i, as far as pieces can be picked; of no pieces, the piece alone
+unfoldable pub spanOf : (a : PickRequest) (s : Picker) (i n : ℕ) → Span
 spanOf a s i zero = alone i
 spanOf a s i (suc n) =
     let lowest = lowestStart a i (suc n) in
     spanFrom a s i (suc n) lowest (downBy a s (i - lowest) i)
 
--- `expand_piece`
-unfoldable pub expandPiece : PickRequest → ℕ → PickState → Span
+-- `expand_piece`: the span around piece i that holds the run
+unfoldable pub expandPiece : (a : PickRequest) (i : ℕ) (w : PickState) → Span
 expandPiece a i w = spanOf a (w .picker) i (wholePieces (blocksPerPiece (w .picker)) (w .contiguous))
 
 -- its pieces
-unfoldable pub piecesOf : Span → List ℕ
-piecesOf x = range (x .first) (x .end)
+unfoldable pub piecesOf : (span : Span) → List ℕ
+piecesOf span = range (span .first) (span .end)
 
 -- ---- blocks taken
-unfoldable pub pieceBlock : ℕ → ℕ → PieceBlock
+-- block j of piece i
+unfoldable pub pieceBlock : (i j : ℕ) → PieceBlock
 pieceBlock i j = record { piece = i; block = j }
 
--- block j of piece i, towards the run
-unfoldable pub took : ℕ → ℕ → PickState → PickState
+-- the block picked, towards the run
+unfoldable pub took : (i j : ℕ) (w : PickState) → PickState
 took i j w = withOut (w .left - 1) (shorter (w .contiguous)) (w .out ++ (pieceBlock i j ∷ [])) w
 
--- the same, past the run
-unfoldable pub tookPast : ℕ → ℕ → PickState → PickState
-tookPast i j w = withOut (w .left - 1) (w .contiguous) (w .out ++ (pieceBlock i j ∷ [])) w
-
 -- exactly the run has been given, and no block is wanted
-unfoldable pub contiguousMet : PickState → Bool
+unfoldable pub contiguousMet : (w : PickState) → Bool
 contiguousMet w = contiguousIsZero (w .contiguous) && spent w
 
 -- the same, or more than the run
-unfoldable pub contiguousOver : PickState → Bool
+unfoldable pub contiguousOver : (w : PickState) → Bool
 contiguousOver w = not (contiguousAbove 0 (w .contiguous)) && spent w
 
--- the first n blocks of piece i, up to where `ends` holds
-unfoldable pub takePiece : (PickState → Bool) → ℕ → ℕ → PickState → PickState
-takePiece ends i n w = walk (took i) ends (from 0 n) w
+-- piece k of a span: an ignored one only shortens the run; another is ignored from here on, and its blocks are taken
+unfoldable pub spanStep : (takes : ℕ → PickState → PickState) (k : ℕ) (w : PickState) → PickState
+spanStep takes k w = branch (isIgnored k w) (λ v. withContiguous (shorter (v .contiguous)) v) (λ v. takes k (ignore k v)) w
 
--- a piece of a run: an ignored one only shortens it; another is ignored from here on, and its blocks are taken
-unfoldable pub spanStep : (ℕ → PickState → PickState) → ℕ → PickState → PickState
-spanStep takes k w = cond (isIgnored k w) (withContiguous (shorter (w .contiguous)) w) (takes k (ignore k w))
-
--- at an ignored piece the run may end
-unfoldable pub spanHalt : ℕ → PickState → Bool
-spanHalt k w = isIgnored k w && contiguousMet (withContiguous (shorter (w .contiguous)) w)
-
--- the pieces of a run in turn
-unfoldable pub takeSpan : (ℕ → PickState → PickState) → List ℕ → PickState → PickState
-takeSpan takes ks w = walkUntil (spanStep takes) spanHalt ks w
+-- the pieces of a span in turn. The Rust leaves it at an ignored piece where run and N are met: that can only be the last
+unfoldable pub takeSpan : (takes : ℕ → PickState → PickState) (ks : List ℕ) (w : PickState) → PickState
+takeSpan takes ks w = forEach (spanStep takes) ks w
 
 -- ---- new pieces
-unfoldable pub takePayload : ℕ → PickState → PickState
-takePayload k w = takePiece contiguousMet k (payloadBlocksInPiece (w .picker) k) w
+-- the blocks of piece k that hold more than pad bytes, up to where run and N are met
+unfoldable pub takePayload : (k : ℕ) (w : PickState) → PickState
+takePayload k w = walk (took k) contiguousMet (from 0 (payloadBlocksInPiece (w .picker) k)) w
 
--- blocks of an Open piece: without a run as many as are wanted, else the whole run around it
-unfoldable pub addNewPiece : PickRequest → ℕ → PickState → PickState
+-- blocks of an Open piece: without a run as many as are wanted, else the whole span around it
+unfoldable pub addNewPiece : (a : PickRequest) (i : ℕ) (w : PickState) → PickState
 addNewPiece a i w =
-    cond (contiguousIsZero (w .contiguous))
-    (takePiece (λ t. false) i (least (payloadBlocksInPiece (w .picker) i) (w .left)) w)
-    (takeSpan takePayload (piecesOf (expandPiece a i w)) w)
+    branch (contiguousIsZero (w .contiguous))
+    (forEach (took i) (from 0 (least (payloadBlocksInPiece (w .picker) i) (w .left))))
+    (takeSpan takePayload (piecesOf (expandPiece a i w))) w
 
 -- ---- partials
--- who works on a partial: `exclusive`, only this peer; `active`, another peer has a request; the longest run of free blocks, and its start
+-- who works on a partial, as `requested_from` answers: `exclusive`, no other peer's block; `active`, another peer has a request (the Rust
+-- has the opposite, `exclusive_active`); the longest run of free blocks, and its first
 pub record RequestedFrom : Type 0 where
   pub exclusive : Bool
   pub active : Bool
   pub longest : ℕ
   pub first : ℕ
 
--- the longest run of free blocks from block j on, where `now` free ones stand before j; the first of equals
+-- a run of free blocks: how long it is, and its first block
 pub record FreeRun : Type 0 where
   pub longest : ℕ
   pub first : ℕ
 
--- a stretch that ends before j, if it is longer
-unfoldable pub longer : ℕ → ℕ → FreeRun → FreeRun
+-- the run of `now` free blocks that ends before block j, where it is longer than x; so the first of equals stays
+unfoldable pub longer : (j now : ℕ) (x : FreeRun) → FreeRun
 longer j now x = cond (ltb (x .longest) now) (record { longest = now; first = j - now }) x
 
--- the longest stretch of free blocks
-unfoldable pub longestFree : ℕ → ℕ → FreeRun → List Block → FreeRun
+-- the longest run of free blocks, from block j on: x is the longest so far, and `now` free ones stand right before j
+unfoldable pub longestFree : (j now : ℕ) (x : FreeRun) (bs : List Block) → FreeRun
 longestFree j now x [] = longer j now x
 longestFree j now x (b ∷ bs) =
-    cond (sameBlockState (b .state) None) (longestFree (suc j) (suc now) x bs) (longestFree (suc j) 0 (longer j now x) bs)
+    let free = sameBlockState (b .state) None in
+    longestFree (suc j) (cond free (suc now) 0) (cond free x (longer j now x)) bs
 
--- a block at work that another peer value holds
-unfoldable pub byAnother : Option ℕ → Block → Bool
+-- a block that is not free, and that not this peer asked for last
+unfoldable pub byAnother : (peer : Option ℕ) (b : Block) → Bool
 byAnother peer b = not (sameBlockState (b .state) None) && not (samePeer (b .peer) peer)
 
 -- `requested_from`
-unfoldable pub requestedFrom : Option ℕ → DownloadingPiece → RequestedFrom
+unfoldable pub requestedFrom : (peer : Option ℕ) (d : DownloadingPiece) → RequestedFrom
 requestedFrom peer d =
     let x = longestFree 0 0 (record { longest = 0; first = 0 }) (d .blocks) in
     record {
@@ -332,64 +327,68 @@ requestedFrom peer d =
     }
 
 -- the free blocks, from `first` round the piece
-unfoldable pub freeFrom : DownloadingPiece → ℕ → List ℕ
+unfoldable pub freeFrom : (d : DownloadingPiece) (first : ℕ) → List ℕ
 freeFrom d first =
     filter (λ j. sameBlockState (blockAt d j .state) None) (each (λ k. (k + first) % len (d .blocks)) (from 0 (len (d .blocks))))
 
--- the free blocks kept as backup, unless as many as are wanted are there already
-unfoldable pub setAside : DownloadingPiece → ℕ → PickState → PickState
-setAside d first w =
-    cond (leb (w .left) (len (w .backup))) w
-    (withBackup (w .backup ++ each (pieceBlock (d .piece)) (freeFrom d first)) w)
+-- as many blocks are set aside as are wanted, or more
+unfoldable pub enoughAside : (w : PickState) → Bool
+enoughAside w = leb (w .left) (len (w .backup))
 
--- a free block taken: towards the run while it lasts
-unfoldable pub freeStep : ℕ → ℕ → PickState → PickState
-freeStep i j w = cond (contiguousAbove 0 (w .contiguous)) (took i j w) (tookPast i j w)
+-- block j of piece i set aside
+unfoldable pub putAside : (i j : ℕ) (w : PickState) → PickState
+putAside i j w = withBackup (w .backup ++ (pieceBlock i j ∷ [])) w
 
--- past the run the last wanted block ends it
-unfoldable pub freeHalt : ℕ → ℕ → PickState → Bool
-freeHalt i j w = not (contiguousAbove 0 (w .contiguous)) && spent (tookPast i j w)
+-- the free blocks set aside, unless enough are there already
+unfoldable pub setAside : (d : DownloadingPiece) (first : ℕ) (w : PickState) → PickState
+setAside d first w = unless (enoughAside w) (forEach (putAside (d .piece)) (freeFrom d first)) w
 
--- the free blocks taken
-unfoldable pub takeFree : DownloadingPiece → ℕ → PickState → PickState
-takeFree d first w = walkUntil (freeStep (d .piece)) (freeHalt (d .piece)) (freeFrom d first) w
+-- the last wanted block ends the walk, once the run is over
+unfoldable pub freeHalt : (i j : ℕ) (w : PickState) → Bool
+freeHalt i j w = not (contiguousAbove 0 (w .contiguous)) && spent (took i j w)
 
--- the pick's own run stays as it is
-unfoldable pub keepingContiguous : (PickState → PickState) → PickState → PickState
+-- the free blocks taken. The Rust's copy of the run stays at 0 once it is there, and all that it asks is whether it is above
+unfoldable pub takeFree : (d : DownloadingPiece) (first : ℕ) (w : PickState) → PickState
+takeFree d first w = walkUntil (took (d .piece)) (freeHalt (d .piece)) (freeFrom d first) w
+
+-- work on a copy of the run: the pick's own stays as it is
+unfoldable pub keepingContiguous : (f : PickState → PickState) (w : PickState) → PickState
 keepingContiguous f w = withContiguous (w .contiguous) (f w)
 
--- set aside where the run does not fit and another peer is at work; else taken
-unfoldable pub useFree : PickRequest → DownloadingPiece → RequestedFrom → PickState → PickState
-useFree a d h w =
+-- set aside where the run does not fit and another peer is at work; else taken. The Rust asks here for a peer on parole, too:
+-- such a peer comes here only where no other is at work
+unfoldable pub useFree : (d : DownloadingPiece) (h : RequestedFrom) (w : PickState) → PickState
+useFree d h w =
     let first = cond (contiguousIsZero (w .contiguous)) 0 (h .first) in
-    cond (contiguousAbove (h .longest) (w .contiguous) && (h .active && not (option onParole a))) (setAside d first w)
-    (keepingContiguous (takeFree d first) w)
+    branch (contiguousAbove (h .longest) (w .contiguous) && h .active) (setAside d first) (keepingContiguous (takeFree d first)) w
 
--- what a partial adds: none that the peer lacks, that is locked or, on parole, that another touched
-unfoldable pub addBlocksDownloading : PickRequest → DownloadingPiece → PickState → PickState
+-- `add_blocks_downloading`: what a partial adds; nothing where the peer lacks it, it is locked or, on parole, another touched it
+unfoldable pub addBlocksDownloading : (a : PickRequest) (d : DownloadingPiece) (w : PickState) → PickState
 addBlocksDownloading a d w =
     let h = requestedFrom (a .peer) d in
-    when (hasBit a (d .piece) && (not (d .locked) && (not (option onParole a) || h .exclusive))) (useFree a d h) w
+    when (hasBit a (d .piece) && (not (d .locked) && (not (option onParole a) || h .exclusive))) (useFree d h) w
 
 -- ---- a piece
-unfoldable pub addPartialOf : PickRequest → Option DownloadingPiece → PickState → PickState
+-- what its partial adds, where one stands
+unfoldable pub addPartialOf : (a : PickRequest) (found : Option DownloadingPiece) (w : PickState) → PickState
 addPartialOf a none w = w
 addPartialOf a (some d) w = addBlocksDownloading a d w
 
--- partials were walked before under PRIORITIZE_PARTIALS
-unfoldable pub addStanding : PickRequest → ℕ → PickState → PickState
+-- what a Downloading piece adds: nothing under PRIORITIZE_PARTIALS, since partials were walked before
+unfoldable pub addStanding : (a : PickRequest) (i : ℕ) (w : PickState) → PickState
 addStanding a i w = unless (option prioritizePartials a) (addPartialOf a (partialOf (w .picker) i)) w
 
--- what piece i adds: Open or Downloading, and not ignored
-unfoldable pub addBlocks : PickRequest → ℕ → PickState → PickState
+-- `add_blocks`: what piece i adds, where it is Open or Downloading, and not ignored
+unfoldable pub addBlocks : (a : PickRequest) (i : ℕ) (w : PickState) → PickState
 addBlocks a i w =
     let q = pieceAt (w .picker) i .state in
     unless (isIgnored i w)
-    (λ t. when (isOpen q) (keepingContiguous (addNewPiece a i)) (when (sameQueue (unreverse q) Downloading) (addStanding a i) t)) w
+    (branch (isOpen q) (keepingContiguous (addNewPiece a i)) (when (sameQueue (unreverse q) Downloading) (addStanding a i))) w
 
 -- ---- backup blocks
--- as many as are wanted of the blocks set aside
-unfoldable pub appendBlocks : PickState → PickState
+-- `append_blocks`: as many as are wanted of the blocks set aside, and none is set aside from here on. The Rust leaves there those that
+-- are not wanted: then N is spent, and the pick is over
+unfoldable pub appendBlocks : (w : PickState) → PickState
 appendBlocks w =
     let n = least (len (w .backup)) (w .left) in
-    withBackup (drop n (w .backup)) (withOut (w .left - n) (w .contiguous) (w .out ++ take n (w .backup)) w)
+    withBackup [] (withOut (w .left - n) (w .contiguous) (w .out ++ take n (w .backup)) w)

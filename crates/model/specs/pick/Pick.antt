@@ -8,32 +8,32 @@ use lib.Dec.{eqb, ltb, leb}
 use Rattle.types.specs.declared.queue.DownloadQueue.the-variants.{Downloading, Full}
 use Rattle.types.specs.declared.block.BlockState.the-variants.{Requested}
 use Rattle.types.specs.Bits.{union}
-use Rattle.model.specs.Lists.{count, from, range, rangeDown, filter, each, every, nth, setNth, len, removeNth, lastOr, reversed}
-use Rattle.model.specs.Lists.{unless, when, repeat, walk}
-use Rattle.model.specs.State.{DownloadingPiece, Picker, isOpen, sameBlockState, samePeer, listOf, withRecentExtents, pieceAt}
-use Rattle.model.specs.State.{piecesIn, blocksPerPiece, blocksInPiece, extentStart, extentEnd}
+use Rattle.model.specs.Lists.{count, from, range, rangeDown, filter, every, nth, setNth, len, removeNth, lastOr, reversed, unless}
+use Rattle.model.specs.Lists.{when, branch, repeat, walk, forEach, sortBy}
+use Rattle.model.specs.State.{DownloadingPiece, Picker, maxPieces, topPriority, maxPartialBlocks, isOpen, sameBlockState, samePeer}
+use Rattle.model.specs.State.{listOf, withRecentExtents, pieceAt, piecesIn, blocksPerPiece, blocksInPiece, extentStart, extentEnd}
 use Rattle.model.specs.Options.{rarestFirst, reverse, onParole, prioritizePartials, sequential, pieceExtentAffinity, partialRatio}
 use Rattle.model.specs.Options.{prioritizedPartials, rarestFirstPartials, rarestFirstPieces, reverseRarestFirst, suggestedPieces}
 use Rattle.model.specs.Options.{prioSequentialPieces, sequentialPieces, randomPieces, preferContiguous, reverseSequential, backup1}
 use Rattle.model.specs.Options.{endGame, extentAffinity, partialLoops, suggestLoops, reverseRareLoops, rareLoops, randStartLoops}
 use Rattle.model.specs.Options.{randLoops, busyLoops}
-use Rattle.model.specs.list.Order.{drawing, draw, updatePieces}
+use Rattle.model.specs.list.Order.{Draws, drawing, draw, updatePieces}
 use Rattle.model.specs.change.Partials.{blockAt, progress, inQueue}
 use Rattle.model.specs.pick.Blocks.{PickRequest, option, hasBit, PickState, startState, spent, withOut, withPicker, ignore, flagged}
 use Rattle.model.specs.pick.Blocks.{steps, isIgnored, contiguousAbove, isPieceFree, expandPiece, piecesOf, pieceBlock, took}
-use Rattle.model.specs.pick.Blocks.{contiguousOver, takeSpan, addBlocksDownloading, addBlocks, appendBlocks}
+use Rattle.model.specs.pick.Blocks.{contiguousOver, takeSpan, addBlocksDownloading, addBlocks, appendBlocks, enoughAside}
 
 -- ---- the forcing rule
--- too many partials for the peers, or too many blocks in them
-unfoldable pub forced : ℕ → ℕ → ℕ → Bool
-forced partials b peers = ltb (peers * 3 / 2) partials || ltb 2048 (partials * b)
+-- too many partials for the peers, or too many blocks in them; a piece has `blocks`
+unfoldable pub forced : (partials blocks peers : ℕ) → Bool
+forced partials blocks peers = ltb (peers * 3 / 2) partials || ltb maxPartialBlocks (partials * blocks)
 
 -- the same, of a picker and what is asked
-unfoldable pub isForced : Picker → PickRequest → Bool
+unfoldable pub isForced : (s : Picker) (a : PickRequest) → Bool
 isForced s a = forced (len (inQueue Downloading s)) (blocksPerPiece s) (a .peers)
 
 -- PRIORITIZE_PARTIALS set, and no run
-unfoldable pub forcedRequest : PickRequest → PickRequest
+unfoldable pub forcedRequest : (a : PickRequest) → PickRequest
 forcedRequest a =
     record {
       options = union (a .options) prioritizePartials;
@@ -47,120 +47,122 @@ forcedRequest a =
     }
 
 -- what is asked after the forcing rule
-unfoldable pub effectiveRequest : Picker → PickRequest → PickRequest
+unfoldable pub effectiveRequest : (s : Picker) (a : PickRequest) → PickRequest
 effectiveRequest s a = cond (isForced s a) (forcedRequest a) a
 
--- the flags of the start
-unfoldable pub startPick : Picker → PickRequest → PickState
+-- the work at the start, with its flags
+unfoldable pub startPick : (s : Picker) (a : PickRequest) → PickState
 startPick s a =
     when (isForced s a) (flagged partialRatio)
     (when (ltb 0 (effectiveRequest s a .contiguous)) (flagged preferContiguous) (startState s (effectiveRequest s a)))
 
 -- ---- partials
-unfoldable pub usable : PickRequest → Picker → DownloadingPiece → Bool
+-- a partial to pick from: its piece is free for the peer, and it is not locked
+unfoldable pub usable : (a : PickRequest) (s : Picker) (d : DownloadingPiece) → Bool
 usable a s d = isPieceFree a s (d .piece) && not (d .locked)
 
--- d before e: smaller count first, then more progress
-unfoldable pub rarestFirstBefore : Picker → DownloadingPiece → DownloadingPiece → Bool
-rarestFirstBefore s d e =
-    let m = pieceAt s (d .piece) .peerCount in
-    let n = pieceAt s (e .piece) .peerCount in
-    ltb m n || (eqb m n && ltb (progress e) (progress d))
+-- the walk that finds them: what the pick has come to, and those found, by rising piece
+pub record PartialScan : Type 0 where
+  pub work : PickState
+  pub partials : List DownloadingPiece
 
--- d behind all that it does not go before
-unfoldable pub insertRarest : Picker → DownloadingPiece → List DownloadingPiece → List DownloadingPiece
-insertRarest s d [] = d ∷ []
-insertRarest s d (e ∷ es) = cond (rarestFirstBefore s d e) (d ∷ e ∷ es) (e ∷ insertRarest s d es)
+-- one partial: a step is counted, and it is kept where it can be picked from
+unfoldable pub scanStep : (a : PickRequest) (d : DownloadingPiece) (scan : PartialScan) → PartialScan
+scanStep a d scan =
+    let s = scan .work .picker in
+    record { work = steps 1 partialLoops (scan .work); partials = cond (usable a s d) (scan .partials ++ (d ∷ [])) (scan .partials) }
 
--- equals stay by rising piece
-unfoldable pub sortRarest : Picker → List DownloadingPiece → List DownloadingPiece → List DownloadingPiece
-sortRarest s [] es = es
-sortRarest s (d ∷ ds) es = sortRarest s ds (insertRarest s d es)
+-- the whole Downloading queue
+unfoldable pub scanPartials : (a : PickRequest) (w : PickState) → PartialScan
+scanPartials a w = forEach (scanStep a) (inQueue Downloading (w .picker)) (record { work = w; partials = [] })
+
+-- `partial_compare_rarest_first`, as a test: d goes before d′ where fewer peers have it or, of as many, where it is closer to complete
+unfoldable pub partialCompareRarestFirst : (s : Picker) (d d′ : DownloadingPiece) → Bool
+partialCompareRarestFirst s d d′ =
+    let n = pieceAt s (d .piece) .peerCount in
+    let n′ = pieceAt s (d′ .piece) .peerCount in
+    ltb n n′ || (eqb n n′ && ltb (progress d′) (progress d))
 
 -- RAREST_FIRST, and not on parole
-unfoldable pub byRarity : PickRequest → Bool
+unfoldable pub byRarity : (a : PickRequest) → Bool
 byRarity a = option rarestFirst a && not (option onParole a)
 
--- the partials that may be picked from, in their order
-unfoldable pub orderedPartials : PickRequest → Picker → List DownloadingPiece
-orderedPartials a s =
-    let ds = filter (usable a s) (inQueue Downloading s) in
-    cond (byRarity a) (sortRarest s ds []) ds
+-- the partials found in the order of the pick; equals stay by rising piece
+unfoldable pub orderedPartials : (a : PickRequest) (s : Picker) (ds : List DownloadingPiece) → List DownloadingPiece
+orderedPartials a s ds = cond (byRarity a) (sortBy (partialCompareRarestFirst s) ds) ds
 
--- one partial
-unfoldable pub partialStep : PickRequest → DownloadingPiece → PickState → PickState
+-- a partial adds its blocks
+unfoldable pub partialStep : (a : PickRequest) (d : DownloadingPiece) (w : PickState) → PickState
 partialStep a d w = addBlocksDownloading a d (flagged prioritizedPartials w)
 
--- N spent, or as many blocks set aside as are wanted
-unfoldable pub partialsDone : PickState → Bool
-partialsDone w = leb (w .left) (len (w .backup))
-
--- the partials in turn, then the blocks set aside
-unfoldable pub walkPartials : PickRequest → PickState → PickState
-walkPartials a w =
-    let v = walk (partialStep a) partialsDone (orderedPartials a (w .picker)) w in
+-- partials in turn, until N is spent or enough blocks are set aside; then these
+unfoldable pub walkPartials : (a : PickRequest) (ds : List DownloadingPiece) (w : PickState) → PickState
+walkPartials a ds w =
+    let v = walk (partialStep a) enoughAside ds w in
     unless (spent v) appendBlocks v
 
+-- those found, in their order
+unfoldable pub pickScanned : (a : PickRequest) (scan : PartialScan) → PickState
+pickScanned a scan =
+    walkPartials a (orderedPartials a (scan .work .picker) (scan .partials)) (when (byRarity a) (flagged rarestFirstPartials) (scan .work))
+
 -- the first phase, where partials come first
-unfoldable pub pickPartials : PickRequest → PickState → PickState
-pickPartials a w =
-    when (option prioritizePartials a)
-    (λ v. walkPartials a
-    (when (byRarity a) (flagged rarestFirstPartials) (steps (len (inQueue Downloading (v .picker))) partialLoops v)))
-    w
+unfoldable pub pickPartials : (a : PickRequest) (w : PickState) → PickState
+pickPartials a w = when (option prioritizePartials a) (λ v. pickScanned a (scanPartials a v)) w
 
 -- ---- walks over pieces
--- a free piece adds its blocks
-unfoldable pub visit : PickRequest → ℕ → ℕ → PickState → PickState
-visit a f i w = when (isPieceFree a (w .picker) i) (λ v. addBlocks a i (flagged f v)) w
+-- a free piece adds its blocks, and the flag of the walk is set
+unfoldable pub visit : (a : PickRequest) (flag i : ℕ) (w : PickState) → PickState
+visit a flag i w = when (isPieceFree a (w .picker) i) (λ v. addBlocks a i (flagged flag v)) w
 
 -- ---- suggestions
-unfoldable pub suggest : PickRequest → ℕ → PickState → PickState
-suggest a i w = when (isPieceFree a (w .picker) i) (λ v. ignore i (visit a suggestedPieces i v)) (steps 1 suggestLoops w)
+-- a suggested piece is counted; a free one adds its blocks, and is ignored from here on
+unfoldable pub suggest : (a : PickRequest) (i : ℕ) (w : PickState) → PickState
+suggest a i w = when (isPieceFree a (w .picker) i) (λ v. ignore i (addBlocks a i (flagged suggestedPieces v))) (steps 1 suggestLoops w)
 
 -- the second phase
-unfoldable pub pickSuggested : PickRequest → PickState → PickState
+unfoldable pub pickSuggested : (a : PickRequest) (w : PickState) → PickState
 pickSuggested a w = walk (suggest a) spent (a .suggestions) w
 
 -- ---- sequential
--- the list up to the first priority that is not 7, `TOP`
-unfoldable pub leadingTop : Picker → List ℕ → List ℕ
+-- the list up to the first piece that is not of the top priority
+unfoldable pub leadingTop : (s : Picker) (l : List ℕ) → List ℕ
 leadingTop s [] = []
-leadingTop s (i ∷ is) = cond (eqb (pieceAt s i .priority) 7) (i ∷ leadingTop s is) []
+leadingTop s (i ∷ is) = cond (eqb (pieceAt s i .priority) topPriority) (i ∷ leadingTop s is) []
 
--- pieces of priority 7 were walked before
-unfoldable pub visitBelowTop : PickRequest → ℕ → ℕ → PickState → PickState
-visitBelowTop a f i w = unless (eqb (pieceAt (w .picker) i .priority) 7) (visit a f i) w
+-- a piece below the top priority; the others were walked before
+unfoldable pub visitBelowTop : (a : PickRequest) (flag i : ℕ) (w : PickState) → PickState
+visitBelowTop a flag i w = unless (eqb (pieceAt (w .picker) i .priority) topPriority) (visit a flag i) w
 
--- the stretch from cursor to reverse cursor, backwards under REVERSE
-unfoldable pub pickRange : PickRequest → PickState → PickState
+-- the range from cursor to reverse cursor, backwards under REVERSE
+unfoldable pub pickRange : (a : PickRequest) (w : PickState) → PickState
 pickRange a w =
     let s = w .picker in
-    cond (option reverse a)
-    (walk (visitBelowTop a reverseSequential) spent (rangeDown (s .cursor) (s .reverseCursor)) w)
-    (walk (visitBelowTop a sequentialPieces) spent (range (s .cursor) (s .reverseCursor)) w)
+    branch (option reverse a)
+    (walk (visitBelowTop a reverseSequential) spent (rangeDown (s .cursor) (s .reverseCursor)))
+    (walk (visitBelowTop a sequentialPieces) spent (range (s .cursor) (s .reverseCursor))) w
 
--- top pieces of the list, then the stretch
-unfoldable pub pickSequential : PickRequest → PickState → PickState
+-- the pieces of the top priority in the list's order, then the range
+unfoldable pub pickSequential : (a : PickRequest) (w : PickState) → PickState
 pickSequential a w =
     let v = walk (visit a prioSequentialPieces) spent (leadingTop (w .picker) (listOf (w .picker .listing))) w in
     unless (spent v) (pickRange a) v
 
 -- ---- rarest first
 -- a sequential pick has walked over piece i
-unfoldable pub inRange : PickRequest → Picker → ℕ → Bool
+unfoldable pub inRange : (a : PickRequest) (s : Picker) (i : ℕ) → Bool
 inRange a s i = option sequential a && (leb (s .cursor) i && ltb i (s .reverseCursor))
 
--- a piece outside that stretch
-unfoldable pub visitOutside : PickRequest → ℕ → ℕ → PickState → PickState
-visitOutside a f i w = unless (inRange a (w .picker) i) (visit a f i) w
+-- a piece outside that range
+unfoldable pub visitOutside : (a : PickRequest) (flag i : ℕ) (w : PickState) → PickState
+visitOutside a flag i w = unless (inRange a (w .picker) i) (visit a flag i) w
 
--- one piece of the list
-unfoldable pub rareStep : PickRequest → ℕ → PickState → PickState
+-- a piece of the list is counted, and visited
+unfoldable pub rareStep : (a : PickRequest) (i : ℕ) (w : PickState) → PickState
 rareStep a i w = visitOutside a rarestFirstPieces i (steps 1 rareLoops w)
 
--- the same, backwards
-unfoldable pub reverseRareStep : PickRequest → ℕ → PickState → PickState
+-- the same, in the walk backwards
+unfoldable pub reverseRareStep : (a : PickRequest) (i : ℕ) (w : PickState) → PickState
 reverseRareStep a i w = visitOutside a reverseRarestFirst i (steps 1 reverseRareLoops w)
 
 -- a walk over extents: what the pick has come to, and the place of the last extent found finished
@@ -168,50 +170,51 @@ pub record ExtentWalk : Type 0 where
   pub work : PickState
   pub finished : Option ℕ
 
--- every piece of an extent is had
-unfoldable pub allFlushed : Picker → ℕ → Bool
+-- every piece of extent e is flushed
+unfoldable pub allFlushed : (s : Picker) (e : ℕ) → Bool
 allFlushed s e = every (λ i. pieceAt s i .flushed) (range (extentStart s e) (extentEnd s e))
 
--- a finished extent replaces the one found before
-unfoldable pub foundFinished : PickState → ℕ → Option ℕ → Option ℕ
+-- a finished extent at place k replaces the one found before; where N is spent none is looked at
+unfoldable pub foundFinished : (w : PickState) (k : ℕ) (found : Option ℕ) → Option ℕ
 foundFinished w k found = cond (not (spent w) && allFlushed (w .picker) (nth 0 (w .picker .recentExtents) k)) (some k) found
 
--- the extent at place k
-unfoldable pub extentStep : PickRequest → ℕ → ExtentWalk → ExtentWalk
-extentStep a k x =
-    let s = x .work .picker in
+-- the pieces of the extent at place k
+unfoldable pub extentStep : (a : PickRequest) (k : ℕ) (walked : ExtentWalk) → ExtentWalk
+extentStep a k walked =
+    let s = walked .work .picker in
     let e = nth 0 (s .recentExtents) k in
-    let w = walk (visitOutside a extentAffinity) spent (range (extentStart s e) (extentEnd s e)) (x .work) in
-    record { work = w; finished = foundFinished w k (x .finished) }
+    let w = walk (visitOutside a extentAffinity) spent (range (extentStart s e) (extentEnd s e)) (walked .work) in
+    record { work = w; finished = foundFinished w k (walked .finished) }
 
 -- the extent at place k goes
-unfoldable pub forgetExtent : Option ℕ → PickState → PickState
+unfoldable pub forgetExtent : (place : Option ℕ) (w : PickState) → PickState
 forgetExtent none w = w
 forgetExtent (some k) w = withPicker (withRecentExtents (removeNth k (w .picker .recentExtents)) (w .picker)) (w .used) w
 
--- one finished extent is forgotten, the last found
-unfoldable pub pickExtents : PickRequest → PickState → PickState
+-- the recent extents in turn; one finished extent is forgotten, the last found
+unfoldable pub pickExtents : (a : PickRequest) (w : PickState) → PickState
 pickExtents a w =
     let x = walk (extentStep a) (λ y. spent (y .work)) (from 0 (len (w .picker .recentExtents))) (record { work = w; finished = none }) in
     forgetExtent (x .finished) (x .work)
 
 -- recent extents where asked for, then the list
-unfoldable pub pickForward : PickRequest → PickState → PickState
+unfoldable pub pickForward : (a : PickRequest) (w : PickState) → PickState
 pickForward a w =
     let v = when (option pieceExtentAffinity a) (pickExtents a) w in
     unless (spent v) (λ u. walk (rareStep a) spent (listOf (u .picker .listing)) u) v
 
 -- the list, backwards under REVERSE
-unfoldable pub pickRarest : PickRequest → PickState → PickState
+unfoldable pub pickRarest : (a : PickRequest) (w : PickState) → PickState
 pickRarest a w =
-    cond (option reverse a) (walk (reverseRareStep a) spent (reversed (listOf (w .picker .listing))) w) (pickForward a w)
+    branch (option reverse a) (walk (reverseRareStep a) spent (reversed (listOf (w .picker .listing)))) (pickForward a) w
 
 -- ---- random: round the torrent from a drawn piece
-unfoldable pub standsOpen : PickRequest → ℕ → PickState → Bool
+-- piece i may be visited: it is free, and not ignored
+unfoldable pub standsOpen : (a : PickRequest) (i : ℕ) (w : PickState) → Bool
 standsOpen a i w = isPieceFree a (w .picker) i && not (isIgnored i w)
 
 -- the piece after i, round the torrent
-unfoldable pub onward : Picker → ℕ → ℕ
+unfoldable pub onward : (s : Picker) (i : ℕ) → ℕ
 onward s i = cond (leb (piecesIn s) (suc i)) 0 (suc i)
 
 -- what tells whether a lap did anything: blocks appended, blocks set aside, pieces ignored
@@ -221,12 +224,12 @@ pub record Trace : Type 0 where
   pub ignored : ℕ
 
 -- of a pick
-unfoldable pub trace : PickState → Trace
+unfoldable pub trace : (w : PickState) → Trace
 trace w = record { taken = len (w .out); aside = len (w .backup); ignored = count (λ b. b) (w .ignored) }
 
 -- nothing was done in between
-unfoldable pub sameTrace : Trace → Trace → Bool
-sameTrace x y = eqb (x .taken) (y .taken) && (eqb (x .aside) (y .aside) && eqb (x .ignored) (y .ignored))
+unfoldable pub sameTrace : (before now : Trace) → Bool
+sameTrace before now = eqb (before .taken) (now .taken) && (eqb (before .aside) (now .aside) && eqb (before .ignored) (now .ignored))
 
 -- where the walk stands; whether skipping brought it back to the start; what it had come to when it last stood there; whether it is over
 pub record RandomWalk : Type 0 where
@@ -236,94 +239,105 @@ pub record RandomWalk : Type 0 where
   pub seen : Trace
   pub over : Bool
 
--- one piece passed over
-unfoldable pub skipStep : ℕ → RandomWalk → RandomWalk
+-- one piece passed over, and counted
+unfoldable pub skipStep : (start : ℕ) (x : RandomWalk) → RandomWalk
 skipStep start x =
     let i = onward (x .work .picker) (x .place) in
     record { work = steps 1 randStartLoops (x .work); place = i; back = eqb i start; seen = x .seen; over = x .over }
 
--- at a piece that may be picked, or back at the start
-unfoldable pub skipDone : PickRequest → RandomWalk → Bool
+-- at a piece that may be visited, or back at the start
+unfoldable pub skipDone : (a : PickRequest) (x : RandomWalk) → Bool
 skipDone a x = x .back || standsOpen a (x .place) (x .work)
 
--- on to the next piece that may be picked, or round to the start
-unfoldable pub skip : PickRequest → ℕ → RandomWalk → RandomWalk
+-- on to the next piece that may be visited, or round to the start
+unfoldable pub skip : (a : PickRequest) (start : ℕ) (x : RandomWalk) → RandomWalk
 skip a start x =
     repeat (piecesIn (x .work .picker)) (skipStep start) (skipDone a)
     (record { work = x .work; place = x .place; back = false; seen = x .seen; over = x .over })
 
--- all blocks of a piece, pads too, up to where run and N are over
-unfoldable pub randStep : ℕ → ℕ → PickState → PickState
+-- block j of piece k counted, and taken
+unfoldable pub randStep : (k j : ℕ) (w : PickState) → PickState
 randStep k j w = took k j (steps 1 randLoops w)
 
--- those of piece k
-unfoldable pub takeAll : ℕ → PickState → PickState
+-- all blocks of piece k, pads too, up to where run and N are over
+unfoldable pub takeAll : (k : ℕ) (w : PickState) → PickState
 takeAll k w = walk (randStep k) contiguousOver (from 0 (blocksInPiece (w .picker) k)) (flagged randomPieces w)
 
 -- the walk goes on at piece i; onto the start ends it
-unfoldable pub arrive : ℕ → ℕ → RandomWalk → PickState → RandomWalk
+unfoldable pub arrive : (start i : ℕ) (x : RandomWalk) (w : PickState) → RandomWalk
 arrive start i x w = record { work = w; place = i; back = false; seen = x .seen; over = eqb i start }
 
--- a whole run from an Open piece where one is wanted, else the piece
-unfoldable pub randomVisit : PickRequest → ℕ → RandomWalk → RandomWalk
+-- the whole span around the piece, and on behind it
+unfoldable pub randomSpan : (a : PickRequest) (start : ℕ) (x : RandomWalk) → RandomWalk
+randomSpan a start x =
+    let w = x .work in
+    let span = expandPiece a (x .place) w in
+    arrive start (onward (w .picker) (span .end - 1)) x (takeSpan takeAll (piecesOf span) w)
+
+-- what the piece adds, and on to the next
+unfoldable pub randomPiece : (a : PickRequest) (start : ℕ) (x : RandomWalk) → RandomWalk
+randomPiece a start x =
+    let w = x .work in
+    arrive start (onward (w .picker) (x .place)) x (addBlocks a (x .place) (flagged randomPieces w))
+
+-- the span around an Open piece where a run is wanted, else the piece
+unfoldable pub randomVisit : (a : PickRequest) (start : ℕ) (x : RandomWalk) → RandomWalk
 randomVisit a start x =
     let w = x .work in
-    let s = w .picker in
-    let i = x .place in
-    let span = expandPiece a i w in
-    cond (contiguousAbove 1 (w .contiguous) && isOpen (pieceAt s i .state))
-    (arrive start (onward s (span .end - 1)) x (takeSpan takeAll (piecesOf span) w))
-    (arrive start (onward s i) x (addBlocks a i (flagged randomPieces w)))
+    let whole = contiguousAbove 1 (w .contiguous) && isOpen (pieceAt (w .picker) (x .place) .state) in
+    branch whole (randomSpan a start) (randomPiece a start) x
 
 -- the walk is over
-unfoldable pub ended : RandomWalk → RandomWalk
+unfoldable pub ended : (x : RandomWalk) → RandomWalk
 ended x = record { work = x .work; place = x .place; back = x .back; seen = x .seen; over = true }
 
--- at the start a new lap begins
-unfoldable pub marked : RandomWalk → RandomWalk
-marked x = record { work = x .work; place = x .place; back = x .back; seen = cond (x .back) (trace (x .work)) (x .seen); over = x .over }
+-- back at the start a new lap begins: what the pick has come to is seen anew
+unfoldable pub marked : (x : RandomWalk) → RandomWalk
+marked x =
+    let seen = cond (x .back) (trace (x .work)) (x .seen) in
+    record { work = x .work; place = x .place; back = x .back; seen = seen; over = x .over }
 
--- no piece may be picked, or a lap did nothing
-unfoldable pub lapEnds : PickRequest → RandomWalk → Bool
+-- no piece may be visited, or a lap did nothing
+unfoldable pub lapEnds : (a : PickRequest) (x : RandomWalk) → Bool
 lapEnds a x = not (standsOpen a (x .place) (x .work)) || (x .back && sameTrace (trace (x .work)) (x .seen))
 
 -- the end, or a visit
-unfoldable pub lapFrom : PickRequest → ℕ → RandomWalk → RandomWalk
-lapFrom a start x = elim (lapEnds a x) [ true ↦ ended x | false ↦ randomVisit a start (marked x) ]
+unfoldable pub lapFrom : (a : PickRequest) (start : ℕ) (x : RandomWalk) → RandomWalk
+lapFrom a start x = branch (lapEnds a x) ended (λ y. randomVisit a start (marked y)) x
 
 -- skipping, then a visit
-unfoldable pub lapStep : PickRequest → ℕ → RandomWalk → RandomWalk
+unfoldable pub lapStep : (a : PickRequest) (start : ℕ) (x : RandomWalk) → RandomWalk
 lapStep a start x = lapFrom a start (skip a start x)
 
 -- it is over, or N is spent
-unfoldable pub walkOver : RandomWalk → Bool
+unfoldable pub walkOver : (x : RandomWalk) → Bool
 walkOver x = x .over || spent (x .work)
 
 -- more visits than a walk can make: each lap but the last takes, sets aside or ignores something
 abbrev pub ringFuel : ℕ
-ringFuel = 4096 * 8200
+ringFuel = maxPieces * 8200
 
 -- the whole walk
-unfoldable pub ring : PickRequest → ℕ → PickState → PickState
+unfoldable pub ring : (a : PickRequest) (start : ℕ) (w : PickState) → PickState
 ring a start w =
     repeat ringFuel (lapStep a start) walkOver (record { work = w; place = start; back = false; seen = trace w; over = false }) .work
 
--- from a drawn piece
-unfoldable pub pickRandom : List ℕ → PickRequest → PickState → PickState
-pickRandom ds a w = ring a (draw ds (w .used) (piecesIn (w .picker) - 1)) (withPicker (w .picker) (suc (w .used)) w)
+-- the walk from a drawn piece
+unfoldable pub pickRandom : (draws : Draws) (a : PickRequest) (w : PickState) → PickState
+pickRandom draws a w = ring a (draw draws (w .used) (piecesIn (w .picker) - 1)) (withPicker (w .picker) (suc (w .used)) w)
 
 -- ---- end game
--- blocks requested, and held by another peer value than this one
-unfoldable pub busyBlocks : PickRequest → DownloadingPiece → List ℕ
+-- the blocks that are requested, and that not this peer asked for last
+unfoldable pub busyBlocks : (a : PickRequest) (d : DownloadingPiece) → List ℕ
 busyBlocks a d =
     filter (λ j. sameBlockState (blockAt d j .state) Requested && not (samePeer (blockAt d j .peer) (a .peer))) (from 0 (len (d .blocks)))
 
--- the Rust's cap
+-- the Rust's `cap`: of the pieces that the end game tries
 abbrev pub maxEndGamePieces : ℕ
 maxEndGamePieces = 200
 
--- the Full pieces that the peer has
-unfoldable pub fullPartials : PickRequest → Picker → List DownloadingPiece
+-- the first of the Full pieces that the peer has
+unfoldable pub fullPartials : (a : PickRequest) (s : Picker) → List DownloadingPiece
 fullPartials a s = take maxEndGamePieces (filter (λ d. hasBit a (d .piece)) (inQueue Full s))
 
 -- what the end game has come to, and the pieces it has not tried
@@ -336,70 +350,69 @@ pub record EndGame : Type 0 where
 unfoldable pub noPartial : DownloadingPiece
 noPartial = record { piece = 0; passedHashCheck = false; locked = false; hashing = false; blocks = [] }
 
--- the last takes the place of the one that goes
-unfoldable pub swapRemove : ℕ → List DownloadingPiece → List DownloadingPiece
+-- `swap_remove`: the last takes the place of the one that goes
+unfoldable pub swapRemove : (k : ℕ) (ds : List DownloadingPiece) → List DownloadingPiece
 swapRemove k ds = take (len ds - 1) (setNth k (lastOr noPartial ds) ds)
 
--- by whether the piece has a block for this peer
-unfoldable pub endGameTry : List ℕ → ℕ → DownloadingPiece → List ℕ → EndGame → EndGame
-endGameTry ds k d [] x = record { work = x .work; pieces = swapRemove k (x .pieces); found = false }
-endGameTry ds k d (j ∷ js) x =
-    let w = x .work in
-    let b = nth 0 (j ∷ js) (draw ds (w .used) (len js)) in
-    record {
-      work = flagged endGame (withPicker (w .picker) (suc (w .used)) (withOut (w .left) (w .contiguous) (w .out ++ (pieceBlock (d .piece) b ∷ [])) w));
-      pieces = x .pieces;
-      found = true;
-    }
+-- partial d at place k, by its blocks for this peer: one of them is drawn and picked; where there is none the partial goes
+unfoldable pub endGameTry : (draws : Draws) (k : ℕ) (d : DownloadingPiece) (js : List ℕ) (game : EndGame) → EndGame
+endGameTry draws k d [] game = record { work = game .work; pieces = swapRemove k (game .pieces); found = false }
+endGameTry draws k d (j ∷ js) game =
+    let w = game .work in
+    let chosen = nth 0 (j ∷ js) (draw draws (w .used) (len js)) in
+    let v = withOut (w .left) (w .contiguous) (w .out ++ (pieceBlock (d .piece) chosen ∷ [])) w in
+    record { work = flagged endGame (withPicker (w .picker) (suc (w .used)) v); pieces = game .pieces; found = true }
 
--- one block of a drawn Full piece; a piece with none for this peer is dropped
-unfoldable pub endGameStep : List ℕ → PickRequest → EndGame → EndGame
-endGameStep ds a x =
-    let w = x .work in
-    let k = draw ds (w .used) (len (x .pieces) - 1) in
-    let d = nth noPartial (x .pieces) k in
-    endGameTry ds k d (busyBlocks a d)
-    (record { work = withPicker (w .picker) (suc (w .used)) (steps 1 busyLoops w); pieces = x .pieces; found = false })
+-- a Full piece is drawn, counted and tried
+unfoldable pub endGameStep : (draws : Draws) (a : PickRequest) (game : EndGame) → EndGame
+endGameStep draws a game =
+    let w = game .work in
+    let k = draw draws (w .used) (len (game .pieces) - 1) in
+    let d = nth noPartial (game .pieces) k in
+    endGameTry draws k d (busyBlocks a d)
+    (record { work = withPicker (w .picker) (suc (w .used)) (steps 1 busyLoops w); pieces = game .pieces; found = false })
 
 -- a block was found, or no piece is left
-unfoldable pub endGameDone : EndGame → Bool
-endGameDone x = x .found || eqb (len (x .pieces)) 0
+unfoldable pub endGameDone : (game : EndGame) → Bool
+endGameDone game = game .found || eqb (len (game .pieces)) 0
 
 -- the end game
-unfoldable pub pickEndGame : List ℕ → PickRequest → PickState → PickState
-pickEndGame ds a w =
-    repeat maxEndGamePieces (endGameStep ds a) endGameDone (record { work = w; pieces = fullPartials a (w .picker); found = false }) .work
+unfoldable pub pickEndGame : (draws : Draws) (a : PickRequest) (w : PickState) → PickState
+pickEndGame draws a w =
+    repeat maxEndGamePieces (endGameStep draws a) endGameDone
+    (record { work = w; pieces = fullPartials a (w .picker); found = false }) .work
 
 -- ---- the pick
-unfoldable pub withListUpdated : List ℕ → PickState → PickState
-withListUpdated ds w =
-    let x = updatePieces ds (drawing (w .used) (w .picker)) in
+-- `update_pieces`, where the list is dirty
+unfoldable pub withListUpdated : (draws : Draws) (w : PickState) → PickState
+withListUpdated draws w =
+    let x = updatePieces draws (drawing (w .used) (w .picker)) in
     withPicker (x .picker) (x .used) w
 
 -- the phases that go by the list
-unfoldable pub pickListed : List ℕ → PickRequest → PickState → PickState
-pickListed ds a w =
-    let v = when (option sequential a) (pickSequential a) (withListUpdated ds w) in
+unfoldable pub pickListed : (draws : Draws) (a : PickRequest) (w : PickState) → PickState
+pickListed draws a w =
+    let v = when (option sequential a) (pickSequential a) (withListUpdated draws w) in
     unless (spent v) (pickRarest a) v
 
 -- sequential and rarest, or random
-unfoldable pub pickMain : List ℕ → PickRequest → PickState → PickState
-pickMain ds a w = elim (option sequential a || option rarestFirst a) [ true ↦ pickListed ds a w | false ↦ pickRandom ds a w ]
+unfoldable pub pickMain : (draws : Draws) (a : PickRequest) (w : PickState) → PickState
+pickMain draws a w = branch (option sequential a || option rarestFirst a) (pickListed draws a) (pickRandom draws a) w
 
 -- backup blocks, then the end game
-unfoldable pub pickRest : List ℕ → PickRequest → PickState → PickState
-pickRest ds a w =
+unfoldable pub pickRest : (draws : Draws) (a : PickRequest) (w : PickState) → PickState
+pickRest draws a w =
     let v = appendBlocks (flagged backup1 w) in
-    unless (spent v || option onParole a) (pickEndGame ds a) v
+    unless (spent v || option onParole a) (pickEndGame draws a) v
 
 -- partials, suggestions, the main phase and the rest, up to where N is spent
-unfoldable pub phases : List ℕ → PickRequest → PickState → PickState
-phases ds a w =
-    let p = pickPartials a w in
-    let g = unless (spent p) (pickSuggested a) p in
-    let m = unless (spent g) (pickMain ds a) g in
-    unless (spent m) (pickRest ds a) m
+unfoldable pub phases : (draws : Draws) (a : PickRequest) (w : PickState) → PickState
+phases draws a w =
+    let w₁ = pickPartials a w in
+    let w₂ = unless (spent w₁) (pickSuggested a) w₁ in
+    let w₃ = unless (spent w₂) (pickMain draws a) w₂ in
+    unless (spent w₃) (pickRest draws a) w₃
 
--- what the pick has come to; its picker is the next state
-unfoldable pub pickPieces : List ℕ → Picker → PickRequest → PickState
-pickPieces ds s a = phases ds (effectiveRequest s a) (startPick s a)
+-- `pick_pieces`: what the pick has come to; its picker is the next state
+unfoldable pub pickPieces : (draws : Draws) (s : Picker) (a : PickRequest) → PickState
+pickPieces draws s a = phases draws (effectiveRequest s a) (startPick s a)

@@ -11,8 +11,8 @@ mul-n c = search needs
 element-copy-out-n : tie.Need-element-copy-out-n
 element-copy-out-n c = search needs
 
-cast-rows : tie.Need-cast-rows
-cast-rows c = search needs
+usize-to-u32-requires : tie.Need-usize-to-u32-requires
+usize-to-u32-requires c κs = search needs
 
 mul-rows : tie.Need-mul-rows
 mul-rows c = search needs
@@ -26,7 +26,7 @@ index-1-rows c = search needs
 
 index-2-rows : tie.Need-index-2-rows
 unfolding nth
-index-2-rows c = c .before .pre .1 .0
+index-2-rows c = c .before .before .pre .1 .0
 
 add-sizes : tie.Need-add-sizes
 unfolding nth
@@ -40,7 +40,7 @@ element-write-sizes c = search needs
 
 returns : tie.Need-returns
 unfolding nth setNth
-returns c = (refl, refl)
+returns c = (rw (c .usize-to-u32 .ensures) refl, refl)
 
 pub enter-spec : {M : Type 1} → statement M
 enter-spec =
@@ -48,7 +48,7 @@ enter-spec =
     (tie.spec
     mul-n
     element-copy-out-n
-    cast-rows
+    usize-to-u32-requires
     mul-rows
     mul-rows-2
     index-1-rows

@@ -24,15 +24,15 @@ plain-state-requires c κs =
     let a = c .before .before .before .args in
     state-range (decode (a .mem .now)) (a .k) _ _ (c .before .partial-piece .ensures .1) (c .get-state .ensures)
 
-idx-requires : tie.Need-idx-requires
-idx-requires c κs = search needs
+u64-to-usize-requires : tie.Need-u64-to-usize-requires
+u64-to-usize-requires c κs = search needs
 
 returns : tie.Need-returns
 returns c =
     let a = c .before .before .before .before .before .args in
-    c .idx .ensures ∙ c .before .plain-state .ensures ∙ queue-plain (decode (a .mem .now)) (a .k) _ _ (c .before .before .before .partial-piece .ensures .1) (c .before .before .get-state .ensures)
+    c .u64-to-usize .ensures ∙ c .before .plain-state .ensures ∙ queue-plain (decode (a .mem .now)) (a .k) _ _ (c .before .before .before .partial-piece .ensures .1) (c .before .before .get-state .ensures)
 
 pub queue-of-spec : {M : Type 1} → statement M
 queue-of-spec =
     tie.close
-    (tie.spec partial-piece-requires get-state-requires plain-state-requires idx-requires returns)
+    (tie.spec partial-piece-requires get-state-requires plain-state-requires u64-to-usize-requires returns)

@@ -1,4 +1,5 @@
-use mathlib.Core.Path.{sym, _∙_}
+use mathlib.Core.Path.{sym, ap, _∙_}
+use lib.Dec.{leb}
 use native.Mathlib.Omega.{arith}
 use borrow.Author.Tests.{not-true, not-false}
 use Rattle.geometry.proofs.ValidLaws.{small}
@@ -13,47 +14,36 @@ use Rattle.geometry.proofs.words_needed.Reads as words-needed-reads
 use Rattle.geometry.proofs.num_pieces.Reads as num-pieces-reads
 use Rattle.geometry.proofs.valid_geometry.Reads as valid-geometry-reads
 
--- src/lib.rt:24:9
 returns : tie.Need-returns
 returns c = no-head _ (omega arith)
 
--- src/lib.rt:26:24
 shared-slice-read-valid-geometry : tie.Need-shared-slice-read-valid-geometry
 shared-slice-read-valid-geometry c = search needs
 
--- src/lib.rt:26:32
 shared-slice-read-valid-geometry-2 : tie.Need-shared-slice-read-valid-geometry-2
 shared-slice-read-valid-geometry-2 c = search needs
 
--- src/lib.rt:26:9
 valid-geometry-requires : tie.Need-valid-geometry-requires
 valid-geometry-requires c κs = search needs
 
--- src/lib.rt:27:9
 returns-2 : tie.Need-returns-2
 returns-2 c = no-geometry _ (omega arith) (sym (c .before .valid-geometry .ensures) ∙ not-true _ (c .if2 .taken))
 
--- src/lib.rt:29:29
 shared-slice-read-num-pieces : tie.Need-shared-slice-read-num-pieces
 shared-slice-read-num-pieces c = search needs
 
--- src/lib.rt:29:37
 shared-slice-read-num-pieces-2 : tie.Need-shared-slice-read-num-pieces-2
 shared-slice-read-num-pieces-2 c = search needs
 
--- src/lib.rt:29:18
 num-pieces-requires : tie.Need-num-pieces-requires
 num-pieces-requires c κs = search needs
 
--- src/lib.rt:29:63
 shared-slice-read-blocks-per-piece : tie.Need-shared-slice-read-blocks-per-piece
 shared-slice-read-blocks-per-piece c = search needs
 
--- src/lib.rt:29:46
 blocks-per-piece-requires : tie.Need-blocks-per-piece-requires
 blocks-per-piece-requires c κs = search needs
 
--- src/lib.rt:29:5
 words-needed-requires : tie.Need-words-needed-requires
 words-needed-requires c κs =
     rw (c .before .before .num-pieces .ensures, c .blocks-per-piece .ensures)
@@ -61,13 +51,16 @@ words-needed-requires c κs =
     (sym (c .before .before .before .before .before .before .valid-geometry .ensures)
     ∙ not-false _ (c .before .before .before .before .before .if2 .left)))
 
--- src/lib.rt:20:1
+usize-to-u64-requires : tie.Need-usize-to-u64-requires
+usize-to-u64-requires c κs = search needs
+
 returns-3 : tie.Need-returns-3
 returns-3 c =
-    long-enough _ (omega arith)
-    (sym (c .before .before .before .before .before .before .before .valid-geometry .ensures)
-    ∙ not-false _ (c .before .before .before .before .before .before .if2 .left))
-    _ _ _ (c .before .before .before .num-pieces .ensures) (c .before .blocks-per-piece .ensures) (c .words-needed .ensures)
+    ap (leb (c .before .words-needed .result)) (c .usize-to-u64 .ensures)
+    ∙ long-enough _ (omega arith)
+    (sym (c .before .before .before .before .before .before .before .before .valid-geometry .ensures)
+    ∙ not-false _ (c .before .before .before .before .before .before .before .if2 .left))
+    _ _ _ (c .before .before .before .before .num-pieces .ensures) (c .before .before .blocks-per-piece .ensures) (c .before .words-needed .ensures)
 
 pub fits-spec : {M : Type 1} → statement M
 fits-spec =
@@ -84,4 +77,5 @@ fits-spec =
     shared-slice-read-blocks-per-piece
     blocks-per-piece-requires
     words-needed-requires
+    usize-to-u64-requires
     returns-3)

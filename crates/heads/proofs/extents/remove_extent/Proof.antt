@@ -18,14 +18,14 @@ abbrev μ-loop : tie.MeasureT-loop
 head-word-requires : tie.Need-head-word-requires Inv-loop μ-loop
 head-word-requires c κs = search needs
 
-idx-requires : tie.Need-idx-requires Inv-loop μ-loop
-idx-requires c κs = search needs
+u64-to-usize-requires : tie.Need-u64-to-usize-requires Inv-loop μ-loop
+u64-to-usize-requires c κs = search needs
 
 loop-holds : tie.Need-loop-holds Inv-loop μ-loop
 loop-holds c =
     let a = c .before .before .before .before .args in
     let p = c .before .before .before .before .pre in
-    closing-start (a .s) (a .mem .now) (a .p) (c .idx .result) (p .0) (c .idx .ensures ∙ c .before .head-word .ensures) (omega (arith, extents-number (a .s) (a .mem .now) (p .0), c .idx .ensures, c .before .head-word .ensures))
+    closing-start (a .s) (a .mem .now) (a .p) (c .u64-to-usize .result) (p .0) (c .u64-to-usize .ensures ∙ c .before .head-word .ensures) (omega (arith, extents-number (a .s) (a .mem .now) (p .0), c .u64-to-usize .ensures, c .before .head-word .ensures))
 
 add-loop : tie.Need-add-loop Inv-loop μ-loop
 add-loop c = search needs
@@ -52,23 +52,23 @@ loop-again : tie.Need-loop-again Inv-loop μ-loop
 loop-again c =
     closing-again _ _ _ (c .before .before .before .before .before .before .before .loop .j) (c .before .before .before .before .before .before .before .loop .mem) (c .before .before .before .before .before .before .before .loop .inv) (omega arith) (c .before .before .before .before .head-word2 .result) _ (c .before .before .before .before .head-word2 .ensures) (c .before .before .set-head-word .ensures)
 
-sub-word : tie.Need-sub-word Inv-loop μ-loop
-sub-word c = search needs
+sub-usize-to-u64 : tie.Need-sub-usize-to-u64 Inv-loop μ-loop
+sub-usize-to-u64 c = search needs
 
-word-requires : tie.Need-word-requires Inv-loop μ-loop
-word-requires c κs = search needs
+usize-to-u64-requires : tie.Need-usize-to-u64-requires Inv-loop μ-loop
+usize-to-u64-requires c κs = search needs
 
 set-head-word-requires-2 : tie.Need-set-head-word-requires-2 Inv-loop μ-loop
 set-head-word-requires-2 c κs = omega arith
 
 same-length : tie.Need-same-length Inv-loop μ-loop
-same-length c = ap length (c .before .before .set-head-word2 .ensures) ∙ length-set (c .before .before .before .before .before .before .loop .mem) 8 (c .before .before .before .before .word .result) ∙ c .before .before .before .before .before .before .loop .inv .behind (c .before .before .before .before .before .before .before .before .before .before .before .args .s) .long
+same-length c = ap length (c .before .before .set-head-word2 .ensures) ∙ length-set (c .before .before .before .before .before .before .loop .mem) 8 (c .before .before .before .before .usize-to-u64 .result) ∙ c .before .before .before .before .before .before .loop .inv .behind (c .before .before .before .before .before .before .before .before .before .before .before .args .s) .long
 
 returns : tie.Need-returns Inv-loop μ-loop
 returns c =
     let a = c .before .before .before .before .before .before .before .before .before .before .before .args in
-    extent-gone (a .s) (a .mem .now) (c .before .before .before .before .before .before .before .before .before .before .before .pre .0) (a .p) (c .before .before .before .before .before .before .before .idx .result) (c .before .before .before .before .before .before .loop .j) (c .before .before .before .before .before .before .loop .mem) (c .before .before .before .before .before .before .loop .inv) (c .before .before .before .before .before .before .before .idx .ensures ∙ c .before .before .before .before .before .before .before .before .head-word .ensures)
-    (omega arith) (c .before .before .before .before .word .result) _ (c .before .before .before .before .word .ensures) (c .before .before .set-head-word2 .ensures)
+    extent-gone (a .s) (a .mem .now) (c .before .before .before .before .before .before .before .before .before .before .before .pre .0) (a .p) (c .before .before .before .before .before .before .before .u64-to-usize .result) (c .before .before .before .before .before .before .loop .j) (c .before .before .before .before .before .before .loop .mem) (c .before .before .before .before .before .before .loop .inv) (c .before .before .before .before .before .before .before .u64-to-usize .ensures ∙ c .before .before .before .before .before .before .before .before .head-word .ensures)
+    (omega arith) (c .before .before .before .before .usize-to-u64 .result) _ (c .before .before .before .before .usize-to-u64 .ensures) (c .before .before .set-head-word2 .ensures)
 
 pub remove-extent-spec : {M : Type 1} → statement M
 remove-extent-spec =
@@ -77,7 +77,7 @@ remove-extent-spec =
     Inv-loop
     μ-loop
     head-word-requires
-    idx-requires
+    u64-to-usize-requires
     loop-holds
     add-loop
     add-head-word
@@ -87,8 +87,8 @@ remove-extent-spec =
     add-j
     loop-less
     loop-again
-    sub-word
-    word-requires
+    sub-usize-to-u64
+    usize-to-u64-requires
     set-head-word-requires-2
     same-length
     returns)

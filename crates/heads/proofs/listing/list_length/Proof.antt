@@ -8,11 +8,11 @@ use Rattle.heads.proofs.listing.list_length.Tie as tie
 head-word-requires : tie.Need-head-word-requires
 head-word-requires c κs = search needs
 
-idx-requires : tie.Need-idx-requires
-idx-requires c κs = search needs
+u64-to-usize-requires : tie.Need-u64-to-usize-requires
+u64-to-usize-requires c κs = search needs
 
 returns : tie.Need-returns
-returns c = c .idx .ensures ∙ c .before .head-word .ensures ∙ length-is (c .before .before .before .args .s) (c .before .before .before .args .mem .now) (c .before .before .before .pre)
+returns c = c .u64-to-usize .ensures ∙ c .before .head-word .ensures ∙ length-is (c .before .before .before .args .s) (c .before .before .before .args .mem .now) (c .before .before .before .pre)
 
 pub list-length-spec : {M : Type 1} → statement M
-list-length-spec = tie.close (tie.spec head-word-requires idx-requires returns)
+list-length-spec = tie.close (tie.spec head-word-requires u64-to-usize-requires returns)

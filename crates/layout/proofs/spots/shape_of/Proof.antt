@@ -9,7 +9,7 @@ use Rattle.layout.proofs.spots.shape_of.Reads as reads
 use Rattle.layout.proofs.spots.shape_of.Lts as lts
 use Rattle.geometry.proofs.blocks_per_piece.Reads as blocks-per-piece-reads
 use Rattle.geometry.proofs.num_pieces.Reads as num-pieces-reads
-use Rattle.layout.proofs.spots.idx.Reads as idx-reads
+use Rattle.types.proofs.u64_to_usize.Reads as u64-to-usize-reads
 use Rattle.layout.proofs.spots.lesser.Reads as lesser-reads
 
 -- src/spots.rt:47:33
@@ -25,8 +25,8 @@ num-pieces-requires : tie.Need-num-pieces-requires
 num-pieces-requires c κs = search needs
 
 -- src/spots.rt:47:9
-idx-requires : tie.Need-idx-requires
-idx-requires c κs = search needs
+u64-to-usize-requires : tie.Need-u64-to-usize-requires
+u64-to-usize-requires c κs = search needs
 
 -- src/spots.rt:48:39
 shared-slice-read-blocks-per-piece : tie.Need-shared-slice-read-blocks-per-piece
@@ -37,8 +37,8 @@ blocks-per-piece-requires : tie.Need-blocks-per-piece-requires
 blocks-per-piece-requires c κs = search needs
 
 -- src/spots.rt:48:9
-idx-requires-2 : tie.Need-idx-requires-2
-idx-requires-2 c κs = search needs
+u64-to-usize-requires-2 : tie.Need-u64-to-usize-requires-2
+u64-to-usize-requires-2 c κs = search needs
 
 -- src/spots.rt:49:9
 lesser-requires : tie.Need-lesser-requires
@@ -49,8 +49,8 @@ returns : tie.Need-returns
 unfolding headWord
 returns c =
     shape-is _ _ (c .before .before .before .before .before .before .before .before .before .pre .1)
-    (c .before .before .before .before .idx .ensures ∙ c .before .before .before .before .before .num-pieces .ensures)
-    (c .before .idx2 .ensures ∙ c .before .before .blocks-per-piece .ensures)
+    (c .before .before .before .before .u64-to-usize .ensures ∙ c .before .before .before .before .before .num-pieces .ensures)
+    (c .before .u64-to-usize2 .ensures ∙ c .before .before .blocks-per-piece .ensures)
     (c .lesser .ensures)
 
 pub shape-of-spec : {M : Type 1} → statement M
@@ -60,9 +60,9 @@ shape-of-spec =
     shared-slice-read-num-pieces
     shared-slice-read-num-pieces-2
     num-pieces-requires
-    idx-requires
+    u64-to-usize-requires
     shared-slice-read-blocks-per-piece
     blocks-per-piece-requires
-    idx-requires-2
+    u64-to-usize-requires-2
     lesser-requires
     returns)

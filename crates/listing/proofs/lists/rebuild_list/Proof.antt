@@ -2,7 +2,7 @@
 use borrow.Author.Needs.{needs}
 use native.Mathlib.Omega.{arith}
 use Rattle.listing.proofs.Regions.{part-fits, part-long}
-use Rattle.listing.proofs.Renewals.{zeros, keys-rank, renewed-ready, renewed}
+use Rattle.listing.proofs.Rebuilds.{zeros, rank-in-is, rebuilt-ready, list-rebuilt}
 use Rattle.listing.proofs.lists.rebuild_list.Statement.{statement}
 use Rattle.listing.proofs.lists.rebuild_list.Tie as tie
 
@@ -51,8 +51,8 @@ set-list-length-requires c κs =
     let u = c .before .before .before .update-pieces in
     let k = c .before .before .before .before .before .before .before .rank-pieces in
     let a = c .before .before .before .before .before .before .list-start in
-    renewed-ready (t .args .s) (t .args .mem .now) (k .last .1 .1 .0) (t .pre .0)
-    (keys-rank (t .args .s) (t .args .mem .now) (k .last .1 .1 .0) _ (t .pre .0) (k .ensures) (zeros 4096)) (t .args .draws .now) (t .args .t)
+    rebuilt-ready (t .args .s) (t .args .mem .now) (k .last .1 .1 .0) (t .pre .0)
+    (rank-in-is (t .args .s) (t .args .mem .now) (k .last .1 .1 .0) _ (t .pre .0) (k .ensures) (zeros 4096)) (t .args .draws .now) (t .args .t)
     (a .result) (a .ensures) (u .last .0) (u .result .len) (u .result .used) (c .before .before .mem .given .0) (u .ensures)
 
 same-length : tie.Need-same-length
@@ -64,8 +64,8 @@ returns c =
     let u = c .before .before .before .before .before .before .update-pieces in
     let k = c .before .before .before .before .before .before .before .before .before .before .rank-pieces in
     let a = c .before .before .before .before .before .before .before .before .before .list-start in
-    renewed (t .args .s) (t .args .mem .now) (k .last .1 .1 .0) (t .pre .0)
-    (keys-rank (t .args .s) (t .args .mem .now) (k .last .1 .1 .0) _ (t .pre .0) (k .ensures) (zeros 4096)) (t .args .draws .now) (t .args .t)
+    list-rebuilt (t .args .s) (t .args .mem .now) (k .last .1 .1 .0) (t .pre .0)
+    (rank-in-is (t .args .s) (t .args .mem .now) (k .last .1 .1 .0) _ (t .pre .0) (k .ensures) (zeros 4096)) (t .args .draws .now) (t .args .t)
     (a .result) (a .ensures) (u .last .0) (u .result .len) (u .result .used) (c .before .before .before .before .before .mem .given .0) (u .ensures)
     (c .before .before .set-list-length .last .0) (c .before .before .set-list-length .ensures)
 

@@ -13,8 +13,8 @@ partial-count-requires c κs = search needs
 partial-word-requires : tie.Need-partial-word-requires
 partial-word-requires c κs = let p = c .before .before .before .before .pre in (p .0 .spans, (omega arith, omega (arith, c .before .partial-count .ensures, p .1 .0)))
 
-idx-requires : tie.Need-idx-requires
-idx-requires c κs = search needs
+u64-to-usize-requires : tie.Need-u64-to-usize-requires
+u64-to-usize-requires c κs = search needs
 
 fill-requires : tie.Need-fill-requires
 fill-requires c κs =
@@ -22,7 +22,7 @@ fill-requires c κs =
     let p = c .before .before .before .before .before .before .before .pre in
     let n = c .before .before .before .before .partial-count .result in
     let w = p .0 .placed n (omega (arith, c .before .before .before .before .partial-count .ensures, p .1 .0)) in
-    (p .0, (omega (arith, c .before .idx .ensures, c .before .before .partial-word .ensures), omega (arith, p .1 .1 .0, blocks-at-most (a .s) (a .mem .now) (p .0) (indexOf (a .piece .0)))))
+    (p .0, (omega (arith, c .before .u64-to-usize .ensures, c .before .before .partial-word .ensures), omega (arith, p .1 .1 .0, blocks-at-most (a .s) (a .mem .now) (p .0) (indexOf (a .piece .0)))))
 
 position-requires : tie.Need-position-requires
 position-requires c κs = search needs
@@ -30,14 +30,14 @@ position-requires c κs = search needs
 get-requires : tie.Need-get-requires
 get-requires c κs = search needs
 
-word-requires : tie.Need-word-requires
-word-requires c κs = search needs
+usize-to-u64-requires : tie.Need-usize-to-u64-requires
+usize-to-u64-requires c κs = search needs
 
 open-at-requires : tie.Need-open-at-requires
 open-at-requires c κs =
     let a = c .before .before .before .before .before .before .before .before .before .before .before .before .before .before .before .args in
     let p = c .before .before .before .before .before .before .before .before .before .before .before .before .before .before .before .pre in
-    filled-ready (a .s) (a .mem .now) _ (p .0) (c .before .before .before .before .before .before .before .before .before .idx .result) (a .count) (a .payload) (indexOf (a .piece .0)) _ (c .before .before .before .before .before .before .before .fill .ensures) (p .1 .0) (c .before .before .before .position .ensures)
+    filled-ready (a .s) (a .mem .now) _ (p .0) (c .before .before .before .before .before .before .before .before .before .u64-to-usize .result) (a .count) (a .payload) (indexOf (a .piece .0)) _ (c .before .before .before .before .before .before .before .fill .ensures) (p .1 .0) (c .before .before .before .position .ensures)
 
 same-length : tie.Need-same-length
 same-length c = search needs
@@ -48,10 +48,10 @@ returns c =
     let p = c .before .before .before .before .before .before .before .before .before .before .before .before .before .before .before .before .before .before .pre in
     let n = c .before .before .before .before .before .before .before .before .before .before .before .before .before .before .before .partial-count in
     let v = c .before .before .before .before .before .before .before .before .before .before .before .before .before .partial-word in
-    let w = c .before .before .before .before .before .before .before .before .before .before .before .before .idx in
+    let w = c .before .before .before .before .before .before .before .before .before .before .before .before .u64-to-usize in
     let f = c .before .before .before .before .before .before .before .before .before .before .fill in
     let q = c .before .before .before .before .before .before .position in
-    let m = c .before .before .before .before .word in
+    let m = c .before .before .before .before .usize-to-u64 in
     inserted (a .s) (a .mem .now) (f .last .0) _ (p .0) (n .result) (v .result) (w .result) (indexOf (a .piece .0)) (m .result) (q .result) (a .count) (a .payload)
     (n .ensures) (p .1 .0) (v .ensures) (w .ensures) (m .ensures ∙ c .before .before .before .before .before .get .ensures) (p .1 .1 .0) (p .1 .1 .1) (f .ensures) (q .ensures) (c .before .before .open-at .ensures)
 
@@ -61,11 +61,11 @@ insert-spec =
     (tie.spec
     partial-count-requires
     partial-word-requires
-    idx-requires
+    u64-to-usize-requires
     fill-requires
     position-requires
     get-requires
-    word-requires
+    usize-to-u64-requires
     open-at-requires
     same-length
     returns)

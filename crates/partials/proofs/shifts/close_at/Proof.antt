@@ -18,17 +18,17 @@ abbrev μ-loop : tie.MeasureT-loop
 head-word-requires : tie.Need-head-word-requires Inv-loop μ-loop
 head-word-requires c κs = search needs
 
-idx-requires : tie.Need-idx-requires Inv-loop μ-loop
-idx-requires c κs = search needs
+u64-to-usize-requires : tie.Need-u64-to-usize-requires Inv-loop μ-loop
+u64-to-usize-requires c κs = search needs
 
 sub-last : tie.Need-sub-last Inv-loop μ-loop
-sub-last c = omega (arith, c .idx .ensures, c .before .head-word .ensures)
+sub-last c = omega (arith, c .u64-to-usize .ensures, c .before .head-word .ensures)
 
 get-record-requires : tie.Need-get-record-requires Inv-loop μ-loop
 get-record-requires c κs = (c .before .before .before .before .before .pre .0 .spans, omega (arith, c .before .before .before .before .before .pre .0 .partials))
 
 loop-holds : tie.Need-loop-holds Inv-loop μ-loop
-loop-holds c = falling-start (c .before .before .before .before .before .before .args .s) (c .before .before .before .before .before .before .args .mem .now) (c .before .before .before .before .before .before .args .q) (c .before .before .idx .result - 1) (c .before .before .before .before .before .before .pre .0) (omega (arith, c .before .before .idx .ensures, c .before .before .before .head-word .ensures)) (omega (arith, c .before .before .idx .ensures, c .before .before .before .head-word .ensures, c .before .before .before .before .before .before .pre .0 .partials))
+loop-holds c = falling-start (c .before .before .before .before .before .before .args .s) (c .before .before .before .before .before .before .args .mem .now) (c .before .before .before .before .before .before .args .q) (c .before .before .u64-to-usize .result - 1) (c .before .before .before .before .before .before .pre .0) (omega (arith, c .before .before .u64-to-usize .ensures, c .before .before .before .head-word .ensures)) (omega (arith, c .before .before .u64-to-usize .ensures, c .before .before .before .head-word .ensures, c .before .before .before .before .before .before .pre .0 .partials))
 
 add-get-record : tie.Need-add-get-record Inv-loop μ-loop
 add-get-record c = search needs
@@ -54,21 +54,21 @@ loop-again c =
 put-record-requires-2 : tie.Need-put-record-requires-2 Inv-loop μ-loop
 put-record-requires-2 c κs = (c .before .before .loop .inv .spans, c .before .before .loop .inv .room)
 
-word-requires : tie.Need-word-requires Inv-loop μ-loop
-word-requires c κs = search needs
+usize-to-u64-requires : tie.Need-usize-to-u64-requires Inv-loop μ-loop
+usize-to-u64-requires c κs = search needs
 
 set-head-word-requires : tie.Need-set-head-word-requires Inv-loop μ-loop
 set-head-word-requires c κs = omega (arith, c .before .before .before .before .put-record2 .ensures .beside .long, c .before .before .before .before .before .before .before .loop .inv .spans .head)
 
 same-length : tie.Need-same-length Inv-loop μ-loop
-same-length c = ap length (c .before .before .set-head-word .ensures) ∙ length-set (c .before .before .before .before .before .before .before .put-record2 .last .0) 7 (c .before .before .before .before .word .result) ∙ c .before .before .before .before .before .before .before .put-record2 .ensures .beside .long ∙ c .before .before .before .before .before .before .before .before .before .before .loop .inv .beside .long
+same-length c = ap length (c .before .before .set-head-word .ensures) ∙ length-set (c .before .before .before .before .before .before .before .put-record2 .last .0) 7 (c .before .before .before .before .usize-to-u64 .result) ∙ c .before .before .before .before .before .before .before .put-record2 .ensures .beside .long ∙ c .before .before .before .before .before .before .before .before .before .before .loop .inv .beside .long
 
 returns : tie.Need-returns Inv-loop μ-loop
 returns c =
     let a = c .before .before .before .before .before .before .before .before .before .before .before .before .before .before .before .before .before .args in
     let l = c .before .before .before .before .before .before .before .before .before .before .loop in
-    became-at _ _ _ _ _ (c .before .before .set-head-word .ensures ∙ ap (λ (v : ℕ). set (c .before .before .before .before .before .before .before .put-record2 .last .0) 7 v) (c .before .before .before .before .word .ensures))
-    (shut-became (a .s) (a .mem .now) (c .before .before .before .before .before .before .before .before .before .before .before .before .before .before .before .before .before .pre .0) (a .q) (c .before .before .before .before .before .before .before .before .before .before .before .before .before .idx .result - 1) (l .k) (l .mem) (c .before .before .before .before .before .before .before .put-record2 .last .0) (l .inv) (omega (arith, c .before .before .before .before .before .before .before .before .before .before .before .before .before .idx .ensures, c .before .before .before .before .before .before .before .before .before .before .before .before .before .before .head-word .ensures, c .before .before .before .before .before .before .before .before .before .before .before .before .before .before .before .before .before .pre .1)) (omega arith) _
+    became-at _ _ _ _ _ (c .before .before .set-head-word .ensures ∙ ap (λ (v : ℕ). set (c .before .before .before .before .before .before .before .put-record2 .last .0) 7 v) (c .before .before .before .before .usize-to-u64 .ensures))
+    (shut-became (a .s) (a .mem .now) (c .before .before .before .before .before .before .before .before .before .before .before .before .before .before .before .before .before .pre .0) (a .q) (c .before .before .before .before .before .before .before .before .before .before .before .before .before .u64-to-usize .result - 1) (l .k) (l .mem) (c .before .before .before .before .before .before .before .put-record2 .last .0) (l .inv) (omega (arith, c .before .before .before .before .before .before .before .before .before .before .before .before .before .u64-to-usize .ensures, c .before .before .before .before .before .before .before .before .before .before .before .before .before .before .head-word .ensures, c .before .before .before .before .before .before .before .before .before .before .before .before .before .before .before .before .before .pre .1)) (omega arith) _
     (c .before .before .before .before .before .before .before .before .before .before .before .get-record .ensures) (c .before .before .before .before .before .before .before .put-record2 .ensures))
 
 pub close-at-spec : {M : Type 1} → statement M
@@ -78,7 +78,7 @@ close-at-spec =
     Inv-loop
     μ-loop
     head-word-requires
-    idx-requires
+    u64-to-usize-requires
     sub-last
     get-record-requires
     loop-holds
@@ -89,7 +89,7 @@ close-at-spec =
     loop-less
     loop-again
     put-record-requires-2
-    word-requires
+    usize-to-u64-requires
     set-head-word-requires
     same-length
     returns)

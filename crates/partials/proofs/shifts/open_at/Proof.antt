@@ -19,14 +19,14 @@ abbrev μ-loop : tie.MeasureT-loop
 head-word-requires : tie.Need-head-word-requires Inv-loop μ-loop
 head-word-requires c κs = search needs
 
-idx-requires : tie.Need-idx-requires Inv-loop μ-loop
-idx-requires c κs = search needs
+u64-to-usize-requires : tie.Need-u64-to-usize-requires Inv-loop μ-loop
+u64-to-usize-requires c κs = search needs
 
 partial-word-requires : tie.Need-partial-word-requires Inv-loop μ-loop
-partial-word-requires c κs = (c .before .before .before .before .before .pre .0 .spans, (omega arith, omega (arith, c .before .idx .ensures, c .before .before .head-word .ensures)))
+partial-word-requires c κs = (c .before .before .before .before .before .pre .0 .spans, (omega arith, omega (arith, c .before .u64-to-usize .ensures, c .before .before .head-word .ensures)))
 
 loop-holds : tie.Need-loop-holds Inv-loop μ-loop
-loop-holds c = rising-start (c .before .before .before .before .before .before .args .s) (c .before .before .before .before .before .before .args .mem .now) (c .before .before .before .before .before .before .args .q) (c .before .before .idx .result) (c .before .before .before .before .before .before .pre .0) (omega (arith, c .before .before .idx .ensures, c .before .before .before .head-word .ensures)) (omega (arith, c .before .before .idx .ensures, c .before .before .before .head-word .ensures))
+loop-holds c = rising-start (c .before .before .before .before .before .before .args .s) (c .before .before .before .before .before .before .args .mem .now) (c .before .before .before .before .before .before .args .q) (c .before .before .u64-to-usize .result) (c .before .before .before .before .before .before .pre .0) (omega (arith, c .before .before .u64-to-usize .ensures, c .before .before .before .head-word .ensures)) (omega (arith, c .before .before .u64-to-usize .ensures, c .before .before .before .head-word .ensures))
 
 sub-get-record : tie.Need-sub-get-record Inv-loop μ-loop
 sub-get-record c = search needs
@@ -47,29 +47,29 @@ loop-again : tie.Need-loop-again Inv-loop μ-loop
 loop-again c =
     let a = c .before .before .before .before .before .before .before .before .before .before .before .before .before .before .args in
     let l = c .before .before .before .before .before .before .before .loop in
-    rising-next (a .s) (a .mem .now) (a .q) (c .before .before .before .before .before .before .before .before .before .before .idx .result) (l .k) (l .mem) _ _ (l .inv) (omega arith) (c .before .before .before .before .get-record .ensures) (c .before .before .put-record .ensures)
+    rising-next (a .s) (a .mem .now) (a .q) (c .before .before .before .before .before .before .before .before .before .before .u64-to-usize .result) (l .k) (l .mem) _ _ (l .inv) (omega arith) (c .before .before .before .before .get-record .ensures) (c .before .before .put-record .ensures)
 
 put-record-requires-2 : tie.Need-put-record-requires-2 Inv-loop μ-loop
 put-record-requires-2 c κs = (c .before .before .loop .inv .spans, omega (arith, c .before .before .loop .inv .from, c .before .before .loop .inv .to, c .before .before .loop .inv .room))
 
-add-word : tie.Need-add-word Inv-loop μ-loop
-add-word c = omega (arith, c .before .before .before .before .before .loop .inv .room, c .before .before .before .before .before .loop .inv .spans .sizes .places, places-min (c .before .before .before .before .before .before .before .before .before .before .before .before .args .s .pieces))
+add-usize-to-u64 : tie.Need-add-usize-to-u64 Inv-loop μ-loop
+add-usize-to-u64 c = omega (arith, c .before .before .before .before .before .loop .inv .room, c .before .before .before .before .before .loop .inv .spans .sizes .places, places-min (c .before .before .before .before .before .before .before .before .before .before .before .before .args .s .pieces))
 
-word-requires : tie.Need-word-requires Inv-loop μ-loop
-word-requires c κs = search needs
+usize-to-u64-requires : tie.Need-usize-to-u64-requires Inv-loop μ-loop
+usize-to-u64-requires c κs = search needs
 
 set-head-word-requires : tie.Need-set-head-word-requires Inv-loop μ-loop
 set-head-word-requires c κs = omega (arith, c .before .before .before .before .put-record2 .ensures .beside .long, c .before .before .before .before .before .before .before .loop .inv .spans .head)
 
 same-length : tie.Need-same-length Inv-loop μ-loop
-same-length c = ap length (c .before .before .set-head-word .ensures) ∙ length-set (c .before .before .before .before .before .before .before .put-record2 .last .0) 7 (c .before .before .before .before .word .result) ∙ c .before .before .before .before .before .before .before .put-record2 .ensures .beside .long ∙ c .before .before .before .before .before .before .before .before .before .before .loop .inv .beside .long
+same-length c = ap length (c .before .before .set-head-word .ensures) ∙ length-set (c .before .before .before .before .before .before .before .put-record2 .last .0) 7 (c .before .before .before .before .usize-to-u64 .result) ∙ c .before .before .before .before .before .before .before .put-record2 .ensures .beside .long ∙ c .before .before .before .before .before .before .before .before .before .before .loop .inv .beside .long
 
 returns : tie.Need-returns Inv-loop μ-loop
 returns c =
     let a = c .before .before .before .before .before .before .before .before .before .before .before .before .before .before .before .before .before .args in
     let l = c .before .before .before .before .before .before .before .before .before .before .loop in
-    became-at _ _ _ _ _ (c .before .before .set-head-word .ensures ∙ ap (λ (v : ℕ). set (c .before .before .before .before .before .before .before .put-record2 .last .0) 7 v) (c .before .before .before .before .word .ensures))
-    (opened-became (a .s) (a .mem .now) (c .before .before .before .before .before .before .before .before .before .before .before .before .before .before .before .before .before .pre .0) (a .q) (c .before .before .before .before .before .before .before .before .before .before .before .before .before .idx .result) (l .k) (l .mem) (c .before .before .before .before .before .before .before .put-record2 .last .0) (l .inv) (c .before .before .before .before .before .before .before .before .before .before .before .before .before .idx .ensures ∙ c .before .before .before .before .before .before .before .before .before .before .before .before .before .before .head-word .ensures) (omega arith) (a .piece) _ refl refl
+    became-at _ _ _ _ _ (c .before .before .set-head-word .ensures ∙ ap (λ (v : ℕ). set (c .before .before .before .before .before .before .before .put-record2 .last .0) 7 v) (c .before .before .before .before .usize-to-u64 .ensures))
+    (opened-became (a .s) (a .mem .now) (c .before .before .before .before .before .before .before .before .before .before .before .before .before .before .before .before .before .pre .0) (a .q) (c .before .before .before .before .before .before .before .before .before .before .before .before .before .u64-to-usize .result) (l .k) (l .mem) (c .before .before .before .before .before .before .before .put-record2 .last .0) (l .inv) (c .before .before .before .before .before .before .before .before .before .before .before .before .before .u64-to-usize .ensures ∙ c .before .before .before .before .before .before .before .before .before .before .before .before .before .before .head-word .ensures) (omega arith) (a .piece) _ refl refl
     (c .before .before .before .before .before .before .before .before .before .before .before .partial-word .ensures) (c .before .before .before .before .before .before .before .put-record2 .ensures))
 
 pub open-at-spec : {M : Type 1} → statement M
@@ -79,7 +79,7 @@ open-at-spec =
     Inv-loop
     μ-loop
     head-word-requires
-    idx-requires
+    u64-to-usize-requires
     partial-word-requires
     loop-holds
     sub-get-record
@@ -89,8 +89,8 @@ open-at-spec =
     loop-less
     loop-again
     put-record-requires-2
-    add-word
-    word-requires
+    add-usize-to-u64
+    usize-to-u64-requires
     set-head-word-requires
     same-length
     returns)

@@ -14,11 +14,11 @@ Inv-loop mem limit many k₀ k = Extending mem k
 abbrev μ-loop : tie.MeasureT-loop
 μ-loop mem limit many k₀ k = many - k
 
-word-requires : tie.Need-word-requires Inv-loop μ-loop
-word-requires c κs = search needs
+usize-to-u64-requires : tie.Need-usize-to-u64-requires Inv-loop μ-loop
+usize-to-u64-requires c κs = search needs
 
-word-requires-2 : tie.Need-word-requires-2 Inv-loop μ-loop
-word-requires-2 c κs = search needs
+usize-to-u64-requires-2 : tie.Need-usize-to-u64-requires-2 Inv-loop μ-loop
+usize-to-u64-requires-2 c κs = search needs
 
 num-extents-requires : tie.Need-num-extents-requires Inv-loop μ-loop
 num-extents-requires c κs = search needs
@@ -26,8 +26,8 @@ num-extents-requires c κs = search needs
 head-word-requires : tie.Need-head-word-requires Inv-loop μ-loop
 head-word-requires c κs = (c .before .before .before .before .pre .0 .spans .head, omega arith)
 
-idx-requires : tie.Need-idx-requires Inv-loop μ-loop
-idx-requires c κs = search needs
+u64-to-usize-requires : tie.Need-u64-to-usize-requires Inv-loop μ-loop
+u64-to-usize-requires c κs = search needs
 
 loop-holds : tie.Need-loop-holds Inv-loop μ-loop
 loop-holds c = extending-start _
@@ -40,16 +40,16 @@ head-word-requires-2 c κs = (c .before .before .before .before .before .before 
 
 returns : tie.Need-returns Inv-loop μ-loop
 returns c =
-    far-extent _ _ (c .before .before .before .before .before .before .before .before .before .before .pre .0) (headed _ (c .before .before .before .before .before .before .before .before .before .before .pre .1) .recentExtents) (c .before .before .before .loop .k) (c .before .before .before .loop .inv) (omega arith) _ (c .before .before .before .before .before .before .before .before .word .result) (c .before .before .before .before .before .before .before .word2 .result) _
-    (c .before .before .before .before .before .before .num-extents .ensures) (c .before .before .before .before .before .before .before .before .word .ensures) (c .before .before .before .before .before .before .before .word2 .ensures) (c .before .head-word2 .ensures) (c .if1 .taken)
+    far-extent _ _ (c .before .before .before .before .before .before .before .before .before .before .pre .0) (headed _ (c .before .before .before .before .before .before .before .before .before .before .pre .1) .recentExtents) (c .before .before .before .loop .k) (c .before .before .before .loop .inv) (omega arith) _ (c .before .before .before .before .before .before .before .before .usize-to-u64 .result) (c .before .before .before .before .before .before .before .usize-to-u642 .result) _
+    (c .before .before .before .before .before .before .num-extents .ensures) (c .before .before .before .before .before .before .before .before .usize-to-u64 .ensures) (c .before .before .before .before .before .before .before .usize-to-u642 .ensures) (c .before .head-word2 .ensures) (c .if1 .taken)
 
 among-requires : tie.Need-among-requires Inv-loop μ-loop
 among-requires c κs = (c .before .before .before .before .before .before .before .before .before .before .pre .0 .spans .head, omega (arith, headed _ (c .before .before .before .before .before .before .before .before .before .before .pre .1) .recentExtents))
 
 returns-2 : tie.Need-returns-2 Inv-loop μ-loop
 returns-2 c =
-    twice-extent _ _ (c .before .before .before .before .before .before .before .before .before .before .before .before .pre .0) (headed _ (c .before .before .before .before .before .before .before .before .before .before .before .before .pre .1) .recentExtents) (c .before .before .before .before .before .loop .k) (c .before .before .before .before .before .loop .inv) (omega arith) _ (c .before .before .before .before .before .before .before .before .before .before .word .result) (c .before .before .before .before .before .before .before .before .before .word2 .result) _
-    (c .before .before .before .before .before .before .before .before .num-extents .ensures) (c .before .before .before .before .before .before .before .before .before .before .word .ensures) (c .before .before .before .before .before .before .before .before .before .word2 .ensures) (c .before .before .before .head-word2 .ensures) (omega arith)
+    twice-extent _ _ (c .before .before .before .before .before .before .before .before .before .before .before .before .pre .0) (headed _ (c .before .before .before .before .before .before .before .before .before .before .before .before .pre .1) .recentExtents) (c .before .before .before .before .before .loop .k) (c .before .before .before .before .before .loop .inv) (omega arith) _ (c .before .before .before .before .before .before .before .before .before .before .usize-to-u64 .result) (c .before .before .before .before .before .before .before .before .before .usize-to-u642 .result) _
+    (c .before .before .before .before .before .before .before .before .num-extents .ensures) (c .before .before .before .before .before .before .before .before .before .before .usize-to-u64 .ensures) (c .before .before .before .before .before .before .before .before .before .usize-to-u642 .ensures) (c .before .before .before .head-word2 .ensures) (omega arith)
     (sym (c .before .among .ensures) ∙ c .if2 .taken)
 
 add-k : tie.Need-add-k Inv-loop μ-loop
@@ -60,8 +60,8 @@ loop-less c = search needs
 
 loop-again : tie.Need-loop-again Inv-loop μ-loop
 loop-again c =
-    next-extent _ _ (c .before .before .before .before .before .before .before .before .before .before .before .before .pre .0) (headed _ (c .before .before .before .before .before .before .before .before .before .before .before .before .pre .1) .recentExtents) (c .before .before .before .before .before .loop .k) (c .before .before .before .before .before .loop .inv) (omega arith) _ (c .before .before .before .before .before .before .before .before .before .before .word .result) (c .before .before .before .before .before .before .before .before .before .word2 .result) _
-    (c .before .before .before .before .before .before .before .before .num-extents .ensures) (c .before .before .before .before .before .before .before .before .before .before .word .ensures) (c .before .before .before .before .before .before .before .before .before .word2 .ensures) (c .before .before .before .head-word2 .ensures) (omega arith)
+    next-extent _ _ (c .before .before .before .before .before .before .before .before .before .before .before .before .pre .0) (headed _ (c .before .before .before .before .before .before .before .before .before .before .before .before .pre .1) .recentExtents) (c .before .before .before .before .before .loop .k) (c .before .before .before .before .before .loop .inv) (omega arith) _ (c .before .before .before .before .before .before .before .before .before .before .usize-to-u64 .result) (c .before .before .before .before .before .before .before .before .before .usize-to-u642 .result) _
+    (c .before .before .before .before .before .before .before .before .num-extents .ensures) (c .before .before .before .before .before .before .before .before .before .before .usize-to-u64 .ensures) (c .before .before .before .before .before .before .before .before .before .usize-to-u642 .ensures) (c .before .before .before .head-word2 .ensures) (omega arith)
     (sym (c .before .among .ensures) ∙ c .if2 .left)
 
 returns-3 : tie.Need-returns-3 Inv-loop μ-loop
@@ -73,11 +73,11 @@ extents-ok-spec =
     (tie.spec
     Inv-loop
     μ-loop
-    word-requires
-    word-requires-2
+    usize-to-u64-requires
+    usize-to-u64-requires-2
     num-extents-requires
     head-word-requires
-    idx-requires
+    u64-to-usize-requires
     loop-holds
     add-head-word
     head-word-requires-2

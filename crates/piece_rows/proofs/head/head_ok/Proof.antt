@@ -9,11 +9,11 @@ use Rattle.piece_rows.proofs.head.head_ok.Tie as tie
 shape-of-requires : tie.Need-shape-of-requires
 shape-of-requires c κs = search needs
 
-word-requires : tie.Need-word-requires
-word-requires c κs = search needs
+usize-to-u64-requires : tie.Need-usize-to-u64-requires
+usize-to-u64-requires c κs = search needs
 
-word-requires-2 : tie.Need-word-requires-2
-word-requires-2 c κs = search needs
+usize-to-u64-requires-2 : tie.Need-usize-to-u64-requires-2
+usize-to-u64-requires-2 c κs = search needs
 
 head-word-requires : tie.Need-head-word-requires
 head-word-requires c κs = search needs
@@ -32,7 +32,7 @@ lengths-ok-requires c κs = search needs
 
 returns : tie.Need-returns
 returns c =
-    head-bad _ (c .before .before .before .before .before .before .before .before .before .before .pre .1) _ (c .before .before .before .before .before .before .before .before .shape-of .ensures) _ _ _ _ _ _ (c .before .before .before .before .before .before .before .word .ensures) (c .before .before .before .before .before .before .word2 .ensures) (c .before .before .before .before .before .head-word .ensures) (c .before .before .before .before .head-word2 .ensures) (c .before .before .before .head-word3 .ensures) (c .before .before .head-word4 .ensures)
+    head-bad _ (c .before .before .before .before .before .before .before .before .before .before .pre .1) _ (c .before .before .before .before .before .before .before .before .shape-of .ensures) _ _ _ _ _ _ (c .before .before .before .before .before .before .before .usize-to-u64 .ensures) (c .before .before .before .before .before .before .usize-to-u642 .ensures) (c .before .before .before .before .before .head-word .ensures) (c .before .before .before .before .head-word2 .ensures) (c .before .before .before .head-word3 .ensures) (c .before .before .head-word4 .ensures)
     (sym (c .before .lengths-ok .ensures) ∙ not-true _ (c .if1 .taken))
 
 head-word-requires-5 : tie.Need-head-word-requires-5
@@ -50,7 +50,7 @@ ranges-ok-requires c κs = search needs
 returns-2 : tie.Need-returns-2
 returns-2 c =
     c .ranges-ok .ensures
-    ∙ head-rest _ (c .before .before .before .before .before .before .before .before .before .before .before .before .before .before .pre .1) _ (c .before .before .before .before .before .before .before .before .before .before .before .before .shape-of .ensures) _ _ _ _ _ _ (c .before .before .before .before .before .before .before .before .before .before .before .word .ensures) (c .before .before .before .before .before .before .before .before .before .before .word2 .ensures) (c .before .before .before .before .before .before .before .before .before .head-word .ensures) (c .before .before .before .before .before .before .before .before .head-word2 .ensures) (c .before .before .before .before .before .before .before .head-word3 .ensures) (c .before .before .before .before .before .before .head-word4 .ensures)
+    ∙ head-rest _ (c .before .before .before .before .before .before .before .before .before .before .before .before .before .before .pre .1) _ (c .before .before .before .before .before .before .before .before .before .before .before .before .shape-of .ensures) _ _ _ _ _ _ (c .before .before .before .before .before .before .before .before .before .before .before .usize-to-u64 .ensures) (c .before .before .before .before .before .before .before .before .before .before .usize-to-u642 .ensures) (c .before .before .before .before .before .before .before .before .before .head-word .ensures) (c .before .before .before .before .before .before .before .before .head-word2 .ensures) (c .before .before .before .before .before .before .before .head-word3 .ensures) (c .before .before .before .before .before .before .head-word4 .ensures)
     (sym (c .before .before .before .before .before .lengths-ok .ensures) ∙ not-false _ (c .before .before .before .before .if1 .left))
     _ _ _ (c .before .before .before .head-word5 .ensures) (c .before .before .head-word6 .ensures) (c .before .head-word7 .ensures)
 
@@ -59,8 +59,8 @@ head-ok-spec =
     tie.close
     (tie.spec
     shape-of-requires
-    word-requires
-    word-requires-2
+    usize-to-u64-requires
+    usize-to-u64-requires-2
     head-word-requires
     head-word-requires-2
     head-word-requires-3

@@ -15,8 +15,8 @@ returns c = dirty-list _ _ _ (c .before .before .before .before .pre) (c .before
 head-word-requires-2 : tie.Need-head-word-requires-2
 head-word-requires-2 c κs = search needs
 
-idx-requires : tie.Need-idx-requires
-idx-requires c κs = search needs
+u64-to-usize-requires : tie.Need-u64-to-usize-requires
+u64-to-usize-requires c κs = search needs
 
 ranked-requires : tie.Need-ranked-requires
 ranked-requires c κs = search needs
@@ -25,7 +25,7 @@ same-length : tie.Need-same-length
 same-length c = search needs
 
 returns-2 : tie.Need-returns-2
-returns-2 c = other-many _ _ _ (c .before .before .before .before .before .before .before .before .before .pre) (c .before .before .before .before .before .before .head-word .result) (c .before .before .before .before .before .before .head-word .ensures) (c .before .before .before .before .before .if1 .left) (c .before .before .before .idx .result) _ (c .before .ranked .result) (c .before .before .before .before .head-word2 .ensures) (c .before .before .before .idx .ensures) (c .before .ranked .ensures) (c .if2 .taken)
+returns-2 c = other-many _ _ _ (c .before .before .before .before .before .before .before .before .before .pre) (c .before .before .before .before .before .before .head-word .result) (c .before .before .before .before .before .before .head-word .ensures) (c .before .before .before .before .before .if1 .left) (c .before .before .before .u64-to-usize .result) _ (c .before .ranked .result) (c .before .before .before .before .head-word2 .ensures) (c .before .before .before .u64-to-usize .ensures) (c .before .ranked .ensures) (c .if2 .taken)
 
 places-ok-requires : tie.Need-places-ok-requires
 places-ok-requires c κs = search needs
@@ -34,7 +34,7 @@ same-length-2 : tie.Need-same-length-2
 same-length-2 c = search needs
 
 returns-3 : tie.Need-returns-3
-returns-3 c = c .before .before .places-ok .ensures ∙ as-many _ _ _ (c .before .before .before .before .before .before .before .before .before .before .before .before .before .pre) (c .before .before .before .before .before .before .before .before .before .before .head-word .result) (c .before .before .before .before .before .before .before .before .before .before .head-word .ensures) (c .before .before .before .before .before .before .before .before .before .if1 .left) (c .before .before .before .before .before .before .before .idx .result) _ (c .before .before .before .before .before .ranked .result) (c .before .before .before .before .before .before .before .before .head-word2 .ensures) (c .before .before .before .before .before .before .before .idx .ensures) (c .before .before .before .before .before .ranked .ensures) (omega arith)
+returns-3 c = c .before .before .places-ok .ensures ∙ as-many _ _ _ (c .before .before .before .before .before .before .before .before .before .before .before .before .before .pre) (c .before .before .before .before .before .before .before .before .before .before .head-word .result) (c .before .before .before .before .before .before .before .before .before .before .head-word .ensures) (c .before .before .before .before .before .before .before .before .before .if1 .left) (c .before .before .before .before .before .before .before .u64-to-usize .result) _ (c .before .before .before .before .before .ranked .result) (c .before .before .before .before .before .before .before .before .head-word2 .ensures) (c .before .before .before .before .before .before .before .u64-to-usize .ensures) (c .before .before .before .before .before .ranked .ensures) (omega arith)
 
 pub order-ok-spec : {M : Type 1} → statement M
 order-ok-spec =
@@ -43,7 +43,7 @@ order-ok-spec =
     head-word-requires
     returns
     head-word-requires-2
-    idx-requires
+    u64-to-usize-requires
     ranked-requires
     same-length
     returns-2

@@ -17,8 +17,8 @@ abbrev μ-loop : tie.MeasureT-loop
 head-word-requires : tie.Need-head-word-requires Inv-loop μ-loop
 head-word-requires c κs = (c .before .before .pre .house .spans .head, omega arith)
 
-idx-requires : tie.Need-idx-requires Inv-loop μ-loop
-idx-requires c κs = search needs
+u64-to-usize-requires : tie.Need-u64-to-usize-requires Inv-loop μ-loop
+u64-to-usize-requires c κs = search needs
 
 loop-holds : tie.Need-loop-holds Inv-loop μ-loop
 loop-holds c = ordering-start _ _ _ (c .before .before .before .before .pre)
@@ -26,14 +26,14 @@ loop-holds c = ordering-start _ _ _ (c .before .before .before .before .pre)
 piece-word-requires : tie.Need-piece-word-requires Inv-loop μ-loop
 piece-word-requires c κs = (c .before .before .before .before .before .before .pre .house .spans, (omega arith, omega (arith, headed _ (c .before .before .before .before .before .before .pre .head) .list, c .before .before .before .before .before .before .pre .house .pieces)))
 
-idx-requires-2 : tie.Need-idx-requires-2 Inv-loop μ-loop
-idx-requires-2 c κs = search needs
+u64-to-usize-requires-2 : tie.Need-u64-to-usize-requires-2 Inv-loop μ-loop
+u64-to-usize-requires-2 c κs = search needs
 
 same-length : tie.Need-same-length Inv-loop μ-loop
 same-length c = search needs
 
 returns : tie.Need-returns Inv-loop μ-loop
-returns c = bad-range _ _ _ (c .before .before .before .before .before .before .before .before .before .pre) _ _ (c .before .before .before .before .loop .last) (c .before .before .before .before .loop .k) (c .before .before .before .before .loop .inv) (omega arith) _ (c .before .idx2 .result) (c .before .before .piece-word .ensures) (c .before .idx2 .ensures) (c .if1 .taken)
+returns c = bad-range _ _ _ (c .before .before .before .before .before .before .before .before .before .pre) _ _ (c .before .before .before .before .loop .last) (c .before .before .before .before .loop .k) (c .before .before .before .before .loop .inv) (omega arith) _ (c .before .u64-to-usize2 .result) (c .before .before .piece-word .ensures) (c .before .u64-to-usize2 .ensures) (c .if1 .taken)
 
 mul-key : tie.Need-mul-key Inv-loop μ-loop
 mul-key c = omega (arith, c .before .before .before .before .before .before .before .before .before .pre .house .spans .sizes .many)
@@ -45,7 +45,7 @@ same-length-2 : tie.Need-same-length-2 Inv-loop μ-loop
 same-length-2 c = search needs
 
 returns-2 : tie.Need-returns-2 Inv-loop μ-loop
-returns-2 c = bad-key _ _ _ (c .before .before .before .before .before .before .before .before .before .before .before .pre) _ _ (c .before .before .before .before .before .before .loop .last) (c .before .before .before .before .before .before .loop .k) (c .before .before .before .before .before .before .loop .inv) (omega arith) _ (c .before .before .before .idx2 .result) (c .before .before .before .before .piece-word .ensures) (c .before .before .before .idx2 .ensures) (omega arith) (omega arith)
+returns-2 c = bad-key _ _ _ (c .before .before .before .before .before .before .before .before .before .before .before .pre) _ _ (c .before .before .before .before .before .before .loop .last) (c .before .before .before .before .before .before .loop .k) (c .before .before .before .before .before .before .loop .inv) (omega arith) _ (c .before .before .before .u64-to-usize2 .result) (c .before .before .before .before .piece-word .ensures) (c .before .before .before .u64-to-usize2 .ensures) (omega arith) (omega arith)
 
 mul-keys : tie.Need-mul-keys Inv-loop μ-loop
 mul-keys c = omega (arith, c .before .before .before .before .before .before .before .before .before .before .before .pre .house .spans .sizes .many)
@@ -60,7 +60,7 @@ loop-less : tie.Need-loop-less Inv-loop μ-loop
 loop-less c = search needs
 
 loop-again : tie.Need-loop-again Inv-loop μ-loop
-loop-again c = next-place _ _ _ (c .before .before .before .before .before .before .before .before .before .before .before .pre) _ _ (c .before .before .before .before .before .before .loop .last) (c .before .before .before .before .before .before .loop .k) (c .before .before .before .before .before .before .loop .inv) (omega arith) _ (c .before .before .before .idx2 .result) (c .before .before .before .before .piece-word .ensures) (c .before .before .before .idx2 .ensures) (omega arith) (omega arith)
+loop-again c = next-place _ _ _ (c .before .before .before .before .before .before .before .before .before .before .before .pre) _ _ (c .before .before .before .before .before .before .loop .last) (c .before .before .before .before .before .before .loop .k) (c .before .before .before .before .before .before .loop .inv) (omega arith) _ (c .before .before .before .u64-to-usize2 .result) (c .before .before .before .before .piece-word .ensures) (c .before .before .before .u64-to-usize2 .ensures) (omega arith) (omega arith)
 
 same-length-3 : tie.Need-same-length-3 Inv-loop μ-loop
 same-length-3 c = search needs
@@ -75,10 +75,10 @@ places-ok-spec =
     Inv-loop
     μ-loop
     head-word-requires
-    idx-requires
+    u64-to-usize-requires
     loop-holds
     piece-word-requires
-    idx-requires-2
+    u64-to-usize-requires-2
     same-length
     returns
     mul-key

@@ -1,4 +1,5 @@
 -- `piece_rows::ranked` meets its contract. The loop's invariant: those counted and those that are left are all.
+use mathlib.Core.Path.{_∙_}
 use mathlib.Core.Logic.{⊎-elim}
 use Prim.Native.Nat.{_-_}
 use native.Mathlib.Omega.{arith}
@@ -38,11 +39,11 @@ loop-again c =
     (λ w. count-none _ _ (c .before .before .before .loop .many) (c .before .before .before .loop .i) (c .before .before .before .loop .inv) (omega arith) (w .0 .left) _ (w .1))
     (c .if1 .came)
 
-cast-result : tie.Need-cast-result Inv-loop μ-loop
-cast-result c = search needs
+u16-to-usize-requires : tie.Need-u16-to-usize-requires Inv-loop μ-loop
+u16-to-usize-requires c κs = search needs
 
 returns : tie.Need-returns Inv-loop μ-loop
-returns c = count-end _ _ _ (c .before .loop .i) (c .before .loop .inv) (omega arith)
+returns c = c .u16-to-usize .ensures ∙ count-end _ _ _ (c .before .before .loop .i) (c .before .before .loop .inv) (omega arith)
 
 pub ranked-spec : {M : Type 1} → statement M
 ranked-spec =
@@ -57,5 +58,5 @@ ranked-spec =
     add-i
     loop-less
     loop-again
-    cast-result
+    u16-to-usize-requires
     returns)

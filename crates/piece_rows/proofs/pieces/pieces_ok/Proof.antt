@@ -48,11 +48,11 @@ piece-word-requires c κs = (c .before .before .before .before .before .before .
 head-word-requires-3 : tie.Need-head-word-requires-3
 head-word-requires-3 c κs = (c .before .before .before .before .before .before .before .before .before .before .before .before .before .before .before .before .pre .0 .spans .head, omega arith)
 
-word-requires : tie.Need-word-requires
-word-requires c κs = search needs
+usize-to-u64-requires : tie.Need-usize-to-u64-requires
+usize-to-u64-requires c κs = search needs
 
 piece-length-requires : tie.Need-piece-length-requires
-piece-length-requires c κs = piece-there _ _ (c .before .before .before .before .before .before .before .before .before .before .before .before .before .before .before .before .before .before .pre .0) _ _ _ _ (omega (arith, some-piece _ _ (c .before .before .before .before .before .before .before .before .before .before .before .before .before .before .before .before .before .before .pre .0))) (c .word .ensures) (c .before .head-word3 .ensures) (c .before .before .before .before .before .before .before .before .before .before .before .before .before .before .before .head-word .ensures)
+piece-length-requires c κs = piece-there _ _ (c .before .before .before .before .before .before .before .before .before .before .before .before .before .before .before .before .before .before .pre .0) _ _ _ _ (omega (arith, some-piece _ _ (c .before .before .before .before .before .before .before .before .before .before .before .before .before .before .before .before .before .before .pre .0))) (c .usize-to-u64 .ensures) (c .before .head-word3 .ensures) (c .before .before .before .before .before .before .before .before .before .before .before .before .before .before .before .head-word .ensures)
 
 same-length-2 : tie.Need-same-length-2
 same-length-2 c = search needs
@@ -61,7 +61,7 @@ returns-2 : tie.Need-returns-2
 returns-2 c =
     rows-good _ _ (c .before .before .before .before .before .before .before .before .before .before .before .before .before .before .before .before .before .before .before .pre .0) _ _ _ _ _ (c .before .before .before .before .before .before .before .before .before .before .before .before .before .before .piece-column .ensures) (c .before .before .before .before .before .before .before .before .before .before .before .before .before .piece-column2 .ensures) (c .before .before .before .before .before .before .before .before .before .before .before .before .piece-column3 .ensures) (c .before .before .before .before .before .before .before .before .before .before .before .piece-column4 .ensures) (c .before .before .before .before .before .before .before .before .before .before .piece-column5 .ensures) _ _ (c .before .before .before .before .before .before .before .before .before .before .before .before .before .before .before .head-word2 .ensures) (c .before .before .before .before .before .before .before .before .before .before .before .before .before .before .before .before .head-word .ensures) _ _ (c .before .before .before .before .before .before .before .before .rows-pass .ensures) (not-false _ (c .before .before .before .before .before .if1 .left))
     _ _ _ (omega (arith, some-piece _ _ (c .before .before .before .before .before .before .before .before .before .before .before .before .before .before .before .before .before .before .before .pre .0))) (c .before .before .before .piece-word .ensures)
-    (c .piece-length .ensures ∙ (λ k. pieceLength (c .before .before .head-word3 .ensures k) (c .before .before .before .before .before .before .before .before .before .before .before .before .before .before .before .before .head-word .ensures k) (c .before .word .ensures k)))
+    (c .piece-length .ensures ∙ (λ k. pieceLength (c .before .before .head-word3 .ensures k) (c .before .before .before .before .before .before .before .before .before .before .before .before .before .before .before .before .head-word .ensures k) (c .before .usize-to-u64 .ensures k)))
 
 pub pieces-ok-spec : {M : Type 1} → statement M
 pieces-ok-spec =
@@ -80,7 +80,7 @@ pieces-ok-spec =
     sub-last
     piece-word-requires
     head-word-requires-3
-    word-requires
+    usize-to-u64-requires
     piece-length-requires
     same-length-2
     returns-2)

@@ -3,7 +3,7 @@ use mathlib.Core.Path.{_∙_}
 use mathlib.Core.List.{[]}
 use native.Mathlib.Omega.{arith}
 use lib.ListN.{getD}
-use Rattle.piece_rows.proofs.WeightLaws.{weight-small, flushed-none, peers-none, weighed}
+use Rattle.piece_rows.proofs.WeightLaws.{flushed-none, peers-none, weighed}
 use borrow.Author.Needs.{needs}
 use Rattle.piece_rows.proofs.weights.key_of.Statement.{statement}
 use Rattle.piece_rows.proofs.weights.key_of.Tie as tie
@@ -14,41 +14,41 @@ returns c = flushed-none _ _ _ _ _ (c .before .pre .0) (c .if1 .taken)
 returns-2 : tie.Need-returns-2
 returns-2 c = peers-none _ _ _ _ _ (c .before .before .pre .0) (c .if2 .taken)
 
-idx-requires : tie.Need-idx-requires
-idx-requires c κs = search needs
+u64-to-usize-requires : tie.Need-u64-to-usize-requires
+u64-to-usize-requires c κs = search needs
 
-idx-requires-2 : tie.Need-idx-requires-2
-idx-requires-2 c κs = search needs
+u64-to-usize-requires-2 : tie.Need-u64-to-usize-requires-2
+u64-to-usize-requires-2 c κs = search needs
 
-mul-weight : tie.Need-mul-weight
-mul-weight c = search needs
+mul-u16-to-u64 : tie.Need-mul-u16-to-u64
+mul-u16-to-u64 c = search needs
 
-mul-weight-2 : tie.Need-mul-weight-2
-mul-weight-2 c = search needs
+mul-u16-to-u64-2 : tie.Need-mul-u16-to-u64-2
+mul-u16-to-u64-2 c = search needs
 
-index-1-weight : tie.Need-index-1-weight
-index-1-weight c = search needs
+index-1-u16-to-u64 : tie.Need-index-1-u16-to-u64
+index-1-u16-to-u64 c = search needs
 
-index-2-weight : tie.Need-index-2-weight
-index-2-weight c = search needs
+index-2-u16-to-u64 : tie.Need-index-2-u16-to-u64
+index-2-u16-to-u64 c = search needs
 
-cast-weight : tie.Need-cast-weight
-cast-weight c = omega (arith, weight-small _ _ _ (c .before .before .before .before .before .pre .0 .state-most) (c .before .before .before .before .before .pre .0 .priority-most) (λ k. getD (getD (c .before .before .before .before .before .pre .1 k) (c .before .before .idx .ensures k) []) (c .before .idx2 .ensures k) 0))
+u16-to-u64-requires : tie.Need-u16-to-u64-requires
+u16-to-u64-requires c κs = search needs
 
-add-short : tie.Need-add-short
-add-short c = search needs
+add-u64-to-u16 : tie.Need-add-u64-to-u16
+add-u64-to-u16 c = search needs
 
-mul-short : tie.Need-mul-short
-mul-short c = omega (arith, weighed (c .before .before .before .before .before .args .seeds) _ _ _ _ (c .before .before .before .before .before .pre .0) (omega (c .before .before .before .before .if1 .left, arith)) (c .before .before .before .if2 .left) _ (λ k. getD (getD (c .before .before .before .before .before .pre .1 k) (c .before .before .idx .ensures k) []) (c .before .idx2 .ensures k) 0) .low)
+mul-u64-to-u16 : tie.Need-mul-u64-to-u16
+mul-u64-to-u16 c = omega (arith, weighed (c .before .before .before .before .before .before .args .seeds) _ _ _ _ (c .before .before .before .before .before .before .pre .0) (omega (c .before .before .before .before .before .if1 .left, arith)) (c .before .before .before .before .if2 .left) _ (c .u16-to-u64 .ensures ∙ λ k. getD (getD (c .before .before .before .before .before .before .pre .1 k) (c .before .before .before .u64-to-usize .ensures k) []) (c .before .before .u64-to-usize2 .ensures k) 0) .low)
 
-sub-short : tie.Need-sub-short
-sub-short c = weighed (c .before .before .before .before .before .args .seeds) _ _ _ _ (c .before .before .before .before .before .pre .0) (omega (c .before .before .before .before .if1 .left, arith)) (c .before .before .before .if2 .left) _ (λ k. getD (getD (c .before .before .before .before .before .pre .1 k) (c .before .before .idx .ensures k) []) (c .before .idx2 .ensures k) 0) .enough
+sub-u64-to-u16 : tie.Need-sub-u64-to-u16
+sub-u64-to-u16 c = weighed (c .before .before .before .before .before .before .args .seeds) _ _ _ _ (c .before .before .before .before .before .before .pre .0) (omega (c .before .before .before .before .before .if1 .left, arith)) (c .before .before .before .before .if2 .left) _ (c .u16-to-u64 .ensures ∙ λ k. getD (getD (c .before .before .before .before .before .before .pre .1 k) (c .before .before .before .u64-to-usize .ensures k) []) (c .before .before .u64-to-usize2 .ensures k) 0) .enough
 
-short-requires : tie.Need-short-requires
-short-requires c κs = omega (arith, weighed (c .before .before .before .before .before .args .seeds) _ _ _ _ (c .before .before .before .before .before .pre .0) (omega (c .before .before .before .before .if1 .left, arith)) (c .before .before .before .if2 .left) _ (λ k. getD (getD (c .before .before .before .before .before .pre .1 k) (c .before .before .idx .ensures k) []) (c .before .idx2 .ensures k) 0) .low)
+u64-to-u16-requires : tie.Need-u64-to-u16-requires
+u64-to-u16-requires c κs = omega (arith, weighed (c .before .before .before .before .before .before .args .seeds) _ _ _ _ (c .before .before .before .before .before .before .pre .0) (omega (c .before .before .before .before .before .if1 .left, arith)) (c .before .before .before .before .if2 .left) _ (c .u16-to-u64 .ensures ∙ λ k. getD (getD (c .before .before .before .before .before .before .pre .1 k) (c .before .before .before .u64-to-usize .ensures k) []) (c .before .before .u64-to-usize2 .ensures k) 0) .low)
 
 returns-3 : tie.Need-returns-3
-returns-3 c = c .short .ensures ∙ weighed (c .before .before .before .before .before .before .args .seeds) _ _ _ _ (c .before .before .before .before .before .before .pre .0) (omega (c .before .before .before .before .before .if1 .left, arith)) (c .before .before .before .before .if2 .left) _ (λ k. getD (getD (c .before .before .before .before .before .before .pre .1 k) (c .before .before .before .idx .ensures k) []) (c .before .before .idx2 .ensures k) 0) .is
+returns-3 c = c .u64-to-u16 .ensures ∙ weighed (c .before .before .before .before .before .before .before .args .seeds) _ _ _ _ (c .before .before .before .before .before .before .before .pre .0) (omega (c .before .before .before .before .before .before .if1 .left, arith)) (c .before .before .before .before .before .if2 .left) _ (c .before .u16-to-u64 .ensures ∙ λ k. getD (getD (c .before .before .before .before .before .before .before .pre .1 k) (c .before .before .before .before .u64-to-usize .ensures k) []) (c .before .before .before .u64-to-usize2 .ensures k) 0) .is
 
 pub key-of-spec : {M : Type 1} → statement M
 key-of-spec =
@@ -56,15 +56,15 @@ key-of-spec =
     (tie.spec
     returns
     returns-2
-    idx-requires
-    idx-requires-2
-    mul-weight
-    mul-weight-2
-    index-1-weight
-    index-2-weight
-    cast-weight
-    add-short
-    mul-short
-    sub-short
-    short-requires
+    u64-to-usize-requires
+    u64-to-usize-requires-2
+    mul-u16-to-u64
+    mul-u16-to-u64-2
+    index-1-u16-to-u64
+    index-2-u16-to-u64
+    u16-to-u64-requires
+    add-u64-to-u16
+    mul-u64-to-u16
+    sub-u64-to-u16
+    u64-to-u16-requires
     returns-3)
