@@ -1,0 +1,3 @@
+pub mod OffsetLaws
+pub mod ColumnLaws
+pub mod Geometry
