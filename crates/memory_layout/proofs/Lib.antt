@@ -5,3 +5,5 @@ pub mod ColumnLaws
 pub mod Geometry
 pub mod Same
 pub mod Parts
+pub mod BoundsLaws
+pub mod Meanings

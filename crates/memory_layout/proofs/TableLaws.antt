@@ -7,21 +7,23 @@ use native.Mathlib.Nat.{not-suc-le-zero, le-of-suc-le-suc}
 use native.Mathlib.Decide.{ℕ-discrete}
 use native.Mathlib.Omega.{arith}
 use borrow.Author.Tests.{eq-eqb, ne-eqb}
-use lib.ListN.{length, getD, take}
+use lib.ListN.{length, getD}
 use Rattle.model.specs.Lists.{nth, len, setNth, removeNth, each}
 use Rattle.memory_layout.specs.Tables.{tabulate, front, choose}
 
 module _ {A : Type 0} where
-  pub tabulate-lenulate : (n : ℕ) (f : ℕ → A) → len (tabulate n f) ≡ n
+  -- as long as it was asked for
+  pub tabulate-len : (n : ℕ) (f : ℕ → A) → len (tabulate n f) ≡ n
   unfolding tabulate len
-  tabulate-lenulate zero f = refl
-  tabulate-lenulate (suc n) f = ap suc (tabulate-lenulate n (λ k. f (suc k)))
+  tabulate-len zero f = refl
+  tabulate-len (suc n) f = ap suc (tabulate-len n (λ k. f (suc k)))
 
-  pub tabulate-nthulate : (n : ℕ) (f : ℕ → A) (i : ℕ) (d : A) → i < n → nth d (tabulate n f) i ≡ f i
+  -- its elements
+  pub tabulate-nth : (n : ℕ) (f : ℕ → A) (i : ℕ) (d : A) → i < n → nth d (tabulate n f) i ≡ f i
   unfolding tabulate nth
-  tabulate-nthulate zero f i d h = absurd (not-suc-le-zero h)
-  tabulate-nthulate (suc n) f zero d h = refl
-  tabulate-nthulate (suc n) f (suc i) d h = tabulate-nthulate n (λ k. f (suc k)) i d (le-of-suc-le-suc h)
+  tabulate-nth zero f i d h = absurd (not-suc-le-zero h)
+  tabulate-nth (suc n) f zero d h = refl
+  tabulate-nth (suc n) f (suc i) d h = tabulate-nth n (λ k. f (suc k)) i d (le-of-suc-le-suc h)
 
   -- equal functions, equal lists
   pub tabulate-ext : (n : ℕ) (f g : ℕ → A) → ((i : ℕ) → i < n → f i ≡ g i) → tabulate n f ≡ tabulate n g
@@ -31,14 +33,14 @@ module _ {A : Type 0} where
       λ k. h zero (omega arith) k ∷ tabulate-ext n (λ j. f (suc j)) (λ j. g (suc j)) (λ j l. h (suc j) (omega arith)) k
 
   -- one place changed
-  pub tabulate-put : (n : ℕ) (f g : ℕ → A) (i : ℕ) → i < n → ((j : ℕ) → j < n → j ≢ i → g j ≡ f j) → tabulate n g ≡ setNth i (g i) (tabulate n f)
+  pub tabulate-set : (n : ℕ) (f g : ℕ → A) (i : ℕ) → i < n → ((j : ℕ) → j < n → j ≢ i → g j ≡ f j) → tabulate n g ≡ setNth i (g i) (tabulate n f)
   unfolding tabulate setNth
-  tabulate-put zero f g i l other = absurd (not-suc-le-zero l)
-  tabulate-put (suc n) f g zero l other =
+  tabulate-set zero f g i l other = absurd (not-suc-le-zero l)
+  tabulate-set (suc n) f g zero l other =
       λ k. g zero ∷ tabulate-ext n (λ j. g (suc j)) (λ j. f (suc j)) (λ j h. other (suc j) (omega arith) (omega arith)) k
-  tabulate-put (suc n) f g (suc i) l other =
+  tabulate-set (suc n) f g (suc i) l other =
       λ k. other zero (omega arith) (omega arith) k
-      ∷ tabulate-put n (λ j. f (suc j)) (λ j. g (suc j)) i (le-of-suc-le-suc l) (λ j h ne. other (suc j) (omega arith) (λ e. ne (omega arith))) k
+      ∷ tabulate-set n (λ j. f (suc j)) (λ j. g (suc j)) i (le-of-suc-le-suc l) (λ j h ne. other (suc j) (omega arith) (λ e. ne (omega arith))) k
 
   -- a place past the end changes nothing
   pub set-past : (i : ℕ) (x : A) (l : List A) → len l ≤ i → setNth i x l ≡ l
