@@ -101,11 +101,47 @@ module _ (s : Shape) (records : List Record) (words cells words′ cells′ : Li
         plain = p;
       }
 
--- ---- frames, one after another
 -- nothing stored
 pub words-kept-none : (s : Shape) (words : List ℕ) → WordsKept s words words
 words-kept-none s words = record { long = refl; totalSize = refl; pieceSize = refl; beyond = λ k h. refl }
 
+-- ---- stores into one buffer
+module _ (s : Shape) (change : Picker → Picker) where
+  -- into the words: geometry and partials stay, the other lengths stay in bounds, the flag of the list stays plain
+  pub words-became : (words words′ : List ℕ) → WordsKept s words words′ → headWord words′ 7 ≡ headWord words 7
+      → (headWord words 6 ≤ s .pieces → headWord words′ 6 ≤ s .pieces)
+      → ((yes? (headWord words 5) ≡ true → headWord words 6 ≡ 0) → yes? (headWord words′ 5) ≡ true → headWord words′ 6 ≡ 0)
+      → (headWord words 8 ≤ maxExtents → headWord words′ 8 ≤ maxExtents) → (headWord words 5 ≤ 1 → headWord words′ 5 ≤ 1)
+      → ((records : List Record) (cells : List ℕ) → InBounds s records words cells
+      → decodeAt (s .pieces) (s .blocks) records words′ cells ≡ change (decodeAt (s .pieces) (s .blocks) records words cells))
+      → WordsBecame s change words words′
+  words-became words words′ d e list idle few flag is =
+      record {
+        kept = d;
+        became = λ records cells r.
+            became-at s records words cells words′ cells change r (bounds-kept s records words cells words′ cells r d refl e (list (r .list)) (idle (r .idle)) (few (r .recentExtents)))
+            (plain-kept s records words cells words′ cells d e flag (λ p. p) (λ k j l m p. p)) (is records cells r);
+      }
+
+  -- into the cells: pieces and blocks of live records stay plain
+  pub cells-became : (cells cells′ : List ℕ) → CellsKept s cells cells′
+      → (PlainPieces (s .pieces) cells → PlainPieces (s .pieces) cells′)
+      → ((p j : ℕ) → p < placesFor (s .pieces) → j < s .blocks → PlainBlock (s .pieces) (s .blocks) cells p j → PlainBlock (s .pieces) (s .blocks) cells′ p j)
+      → ((records : List Record) (words : List ℕ) → InBounds s records words cells
+      → decodeAt (s .pieces) (s .blocks) records words cells′ ≡ change (decodeAt (s .pieces) (s .blocks) records words cells))
+      → CellsBecame s change cells cells′
+  cells-became cells cells′ d pieces blocks is =
+      record {
+        kept = d;
+        became = λ records words r.
+            became-at s records words cells words cells′ change r
+            (bounds-kept s records words cells words cells′ r (words-kept-none s words) (d .long) refl (r .list) (r .idle) (r .recentExtents))
+            (plain-kept s records words cells words cells′ (words-kept-none s words) refl (λ p. p) pieces (λ k j l m p.
+            blocks (recordAt records k .«info_idx») j (place-room s records words cells r k l) (omega (arith, blocks-within s records words cells r (recordAt records k .index))) p))
+            (is records words r);
+      }
+
+-- ---- frames, one after another
 -- two frames of words
 pub words-kept-again : (s : Shape) (a b c : List ℕ) → WordsKept s a b → WordsKept s b c → WordsKept s a c
 words-kept-again s a b c x y =

@@ -7,3 +7,4 @@ pub mod Same
 pub mod Parts
 pub mod BoundsLaws
 pub mod Meanings
+pub mod stores

@@ -1,0 +1,2 @@
+pub mod HeadStores
+pub mod PieceStores
