@@ -1,2 +1,4 @@
 pub mod HeadStores
 pub mod PieceStores
+pub mod ExtentStores
+pub mod ListStores
