@@ -2,3 +2,4 @@ pub mod HeadStores
 pub mod PieceStores
 pub mod ExtentStores
 pub mod ListStores
+pub mod BlockStores
