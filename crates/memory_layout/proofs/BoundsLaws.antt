@@ -195,6 +195,22 @@ module _ (s : Shape) (f g : Picker → Picker) where
             became-again s f g records words a words b words c m (y .became records words (m .bounds));
       }
 
+  -- another name for a change of the words
+  pub words-named : (a b : List ℕ) → ((d : Picker) → f d ≡ g d) → WordsBecame s f a b → WordsBecame s g a b
+  words-named a b e x =
+      record {
+        kept = x .kept;
+        became = λ records cells r. became-named s f g records a cells b cells (e (decode records a cells)) (x .became records cells r);
+      }
+
+  -- of the cells
+  pub cells-named : (a b : List ℕ) → ((d : Picker) → f d ≡ g d) → CellsBecame s f a b → CellsBecame s g a b
+  cells-named a b e x =
+      record {
+        kept = x .kept;
+        became = λ records words r. became-named s f g records words a words b (e (decode records words a)) (x .became records words r);
+      }
+
   -- two changes of both
   pub both-again : (u v w x y z : List ℕ) → BothBecame s f u v x y → BothBecame s g v w y z → BothBecame s (λ d. g (f d)) u w x z
   both-again u v w x y z a b =

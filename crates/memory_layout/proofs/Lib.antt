@@ -7,4 +7,6 @@ pub mod Same
 pub mod Parts
 pub mod BoundsLaws
 pub mod Meanings
+pub mod ReadLaws
 pub mod stores
+pub mod Cases

@@ -7,20 +7,21 @@ use Prim.Native.Nat.{ℕ, _+_, _-_, _*_, _/_, _≤_, _<_}
 use native.Mathlib.Omega.{arith}
 use lib.ListN.{length, getD, take, drop, set, length-set, length-append, length-drop, List·getD-append}
 use lib.Seq.{getD-take, getD-drop, length-take-le, getD-append-add}
-use borrow.Rule.Slice.PartMut.{putMid, postOf}
+use borrow.Rule.Slice.PartMut.{putMid, midOf, postOf}
 use Rattle.model.specs.Lists.{each}
-use Rattle.model.specs.State.{Picker, Listing, dirty, fresh, withListing, markDirty}
+use Rattle.model.specs.State.{Listing, dirty, fresh, listOf, withListing, markDirty}
 use Rattle.memory_records.specs.declared.record.DownloadingPiece.{DownloadingPiece as Record}
 use Rattle.memory_layout.specs.declared.shape.Shape.{Shape}
 use Rattle.memory_layout.specs.Tables.{tabulate, front}
 use Rattle.memory_layout.specs.Offsets.{cell, pieceWordAt, peerAt, wordsFor}
-use Rattle.memory_layout.specs.Decode.{headWord, pieceWord, peerWord, yes?, rankUnit, listedPiece, listHeld, listingHeld, decodeAt}
+use Rattle.memory_layout.specs.Decode.{headWord, pieceWord, peerWord, yes?, rankUnit, listedPiece, listHeld, listingHeld, decodeAt, decode}
 use Rattle.memory_layout.specs.Bounds.{WordsSpan, InBounds, RanksHeld}
 use Rattle.memory_layout.specs.Stores.{WordsKept, WordsBecame}
 use Rattle.memory_layout.proofs.TableLaws.{tabulate-each}
 use Rattle.memory_layout.proofs.OffsetLaws.{cell-below, peer-from, words-from, head-in}
 use Rattle.memory_layout.proofs.Same.{SameHead, SameColumn, SamePeers, head-other}
 use Rattle.memory_layout.proofs.Parts.{pieces-same, extents-same}
+use Rattle.memory_layout.proofs.Meanings.{list-is}
 use Rattle.memory_layout.proofs.BoundsLaws.{words-became, partials-stay}
 use Rattle.memory_layout.proofs.stores.HeadStores.{Behind, behind-none, behind-store}
 use Rattle.memory_layout.proofs.stores.ExtentStores.{head-read}
@@ -54,6 +55,36 @@ module _ (a k : ℕ) (xs ys : List ℕ) (fits : a + k ≤ length xs) (long : len
   -- and the buffer keeps its length
   pub part-put-long : length (putMid a k xs ys) ≡ length xs
   part-put-long = simp (length-append, length-drop) (omega (arith, front-long))
+
+-- ---- a part of the list lent
+module _ (s : Shape) (words : List ℕ) (r : WordsSpan s words) (k : ℕ) (room : k ≤ s .pieces) where
+  -- it has its length
+  pub lent-long : length (midOf (pieceWordAt (s .pieces) 1 0) k words) ≡ k
+  unfolding pieceWordAt cell
+  lent-long =
+      length-take-le k (drop (pieceWordAt (s .pieces) 1 0) words) (rw (length-drop (pieceWordAt (s .pieces) 1 0) words) (omega (arith, words-from (s .pieces) (s .blocks), r .long)))
+
+  -- and the words of the list
+  pub lent-word : (i : ℕ) → i < k → getD (midOf (pieceWordAt (s .pieces) 1 0) k words) i 0 ≡ pieceWord words (s .pieces) 1 i
+  unfolding pieceWord pieceWordAt cell
+  lent-word i h =
+      getD-take k (drop (pieceWordAt (s .pieces) 1 0) words) i 0 h ∙ getD-drop (pieceWordAt (s .pieces) 1 0) words i 0
+      ∙ ap (λ (j : ℕ). getD words j 0) (omega arith)
+
+module _ (s : Shape) (records : List Record) (words cells : List ℕ) (r : InBounds s records words cells) where
+  -- the list lent whole has the pieces of the picker's list
+  pub list-lent : each listedPiece (midOf (pieceWordAt (s .pieces) 1 0) (headWord words 6) words) ≡ listOf (decode records words cells .listing)
+  unfolding listHeld
+  list-lent =
+      let k = headWord words 6 in
+      sym (tabulate-each listedPiece (midOf (pieceWordAt (s .pieces) 1 0) k words) k (λ i. listedPiece (pieceWord words (s .pieces) 1 i)) (lent-long s words (r .spans .inWords) k (r .list)) (λ i h.
+      ap listedPiece (sym (lent-word s words (r .spans .inWords) k (r .list) i h))))
+      ∙ sym (list-is s records words cells r)
+
+  -- and the ranks beside them
+  pub lent-ranks : (g : ℕ → ℕ) → RanksHeld (s .pieces) words g → (i : ℕ) → i < headWord words 6
+      → getD (midOf (pieceWordAt (s .pieces) 1 0) (headWord words 6) words) i 0 / rankUnit ≡ g (listedPiece (getD (midOf (pieceWordAt (s .pieces) 1 0) (headWord words 6) words) i 0))
+  lent-ranks g h i l = rw (lent-word s words (r .spans .inWords) (headWord words 6) (r .list) i l) (h i l)
 
 -- ---- all words but the list and its two words of the head as they were
 pub record Beside (s : Shape) (words words′ : List ℕ) : Type 0 where
