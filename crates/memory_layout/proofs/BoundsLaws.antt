@@ -1,18 +1,18 @@
 -- The bounds: what they give, that they stand after a change, and changes one after another. Assumes nothing.
-use mathlib.Core.Path.{_≡_, refl, sym, ap, ap₂, _∙_, subst}
+use mathlib.Core.Path.{_≡_, refl, sym, ap, ap₂, _∙_}
 use mathlib.Core.Bool.{true}
 use mathlib.Core.List.{List}
 use Prim.Native.Nat.{ℕ, _≤_, _<_}
 use native.Mathlib.Omega.{arith}
 use lib.ListN.{length}
-use Rattle.model.specs.Bep3.{numPieces, wholePieceBlocks, pieceBlocks}
+use Rattle.model.specs.Bep3.{numPieces, wholePieceBlocks}
 use Rattle.model.specs.State.{Picker, validGeometry, maxExtents}
 use Rattle.model.proofs.base.Bep3Laws.{blocksInPiece-le}
 use Rattle.geometry.proofs.ValidLaws.{bounds}
 use Rattle.memory_records.specs.declared.record.DownloadingPiece.{DownloadingPiece as Record}
 use Rattle.memory_layout.specs.declared.shape.Shape.{Shape}
 use Rattle.memory_layout.specs.Offsets.{placesFor}
-use Rattle.memory_layout.specs.Decode.{headWord, recordAt, piecesOn, blocksOn, blocksOf, yes?, blockHeld, partialsHeld, decode, decodeAt}
+use Rattle.memory_layout.specs.Decode.{headWord, recordAt, piecesOn, blocksOn, blocksOf, yes?, partialsHeld, decode, decodeAt}
 use Rattle.memory_layout.specs.Bounds.{InBounds, PlainPieces, PlainBlock, Plain}
 use Rattle.memory_layout.specs.Stores.{WordsKept, CellsKept, Became, WordsBecame, CellsBecame, BothBecame}
 use Rattle.memory_layout.proofs.Same.{SamePeers, SameBlocks}
@@ -36,19 +36,22 @@ module _ (s : Shape) (records : List Record) (words cells : List ℕ) (r : InBou
   place-room k h = omega (arith, r .placed k h, r .spans .inWords .sizes .places)
 
   -- the partials stay where the peers and the cells of blocks do
-  pub partials-stay : (words′ cells′ : List ℕ) → headWord words′ 0 ≡ headWord words 0 → headWord words′ 1 ≡ headWord words 1 → headWord words′ 7 ≡ headWord words 7
+  pub partials-stay : (words′ cells′ : List ℕ) → headWord words′ 0 ≡ headWord words 0 → headWord words′ 1 ≡ headWord words 1
+      → headWord words′ 7 ≡ headWord words 7
       → SamePeers (s .pieces) (s .blocks) words words′ → SameBlocks (s .pieces) (s .blocks) cells cells′
       → partialsHeld records words′ cells′ (s .pieces) (s .blocks) ≡ partialsHeld records words cells (s .pieces) (s .blocks)
   partials-stay words′ cells′ t z e p c =
       partials-same words words′ cells cells′ (s .pieces) (s .blocks) t z records records e (λ k l. refl) (λ k j l m.
       let q = place-room k l in
       let o : j < s .blocks = omega (arith, blocks-within (recordAt records k .index)) in
-      block-same words words′ cells cells′ (s .pieces) (s .blocks) (recordAt records k .«info_idx») j (λ f h. c f (recordAt records k .«info_idx») j h q o) (λ y. p (recordAt records k .«info_idx») j q o))
+      block-same words words′ cells cells′ (s .pieces) (s .blocks) (recordAt records k .«info_idx») j
+      (λ f h. c f (recordAt records k .«info_idx») j h q o) (λ y. p (recordAt records k .«info_idx») j q o))
 
 -- ---- that they stand
 module _ (s : Shape) (records : List Record) (words cells words′ cells′ : List ℕ) where
   -- the words keep geometry and partials, their other lengths are in bounds, the cells keep their length
-  pub bounds-kept : InBounds s records words cells → WordsKept s words words′ → length cells′ ≡ length cells → headWord words′ 7 ≡ headWord words 7 → headWord words′ 6 ≤ s .pieces
+  pub bounds-kept : InBounds s records words cells → WordsKept s words words′ → length cells′ ≡ length cells
+      → headWord words′ 7 ≡ headWord words 7 → headWord words′ 6 ≤ s .pieces
       → (yes? (headWord words′ 5) ≡ true → headWord words′ 6 ≡ 0) → headWord words′ 8 ≤ maxExtents → InBounds s records words′ cells′
   unfolding piecesOn blocksOn
   bounds-kept r d c e list idle few =
@@ -73,7 +76,8 @@ module _ (s : Shape) (records : List Record) (words cells words′ cells′ : Li
   pub plain-kept : WordsKept s words words′ → headWord words′ 7 ≡ headWord words 7 → (headWord words 5 ≤ 1 → headWord words′ 5 ≤ 1)
       → (PlainPieces (s .pieces) cells → PlainPieces (s .pieces) cells′)
       → ((k j : ℕ) → k < headWord words 7 → j < blocksOf words (recordAt records k .index)
-      → PlainBlock (s .pieces) (s .blocks) cells (recordAt records k .«info_idx») j → PlainBlock (s .pieces) (s .blocks) cells′ (recordAt records k .«info_idx») j)
+      → PlainBlock (s .pieces) (s .blocks) cells (recordAt records k .«info_idx») j
+      → PlainBlock (s .pieces) (s .blocks) cells′ (recordAt records k .«info_idx») j)
       → Plain s records words cells → Plain s records words′ cells′
   plain-kept d e flag pieces blocks p =
       record {
@@ -85,13 +89,18 @@ module _ (s : Shape) (records : List Record) (words cells words′ cells′ : Li
               flags = p .partials k m .flags;
               blocks = λ j h.
                   let o : j < blocksOf words (recordAt records k .index) =
-                  omega (arith, blocks-of-same words words′ cells cells′ (s .pieces) (s .blocks) (d .totalSize) (d .pieceSize) (recordAt records k .index)) in
+                  omega (
+                    arith,
+                    blocks-of-same words words′ cells cells′ (s .pieces) (s .blocks) (d .totalSize) (d .pieceSize)
+                        (recordAt records k .index),
+                  ) in
                   blocks k j m o (p .partials k m .blocks j o);
             };
       }
 
   -- what a change does to the picker for the shape, it does to the picker
-  pub became-at : (change : Picker → Picker) → InBounds s records words cells → InBounds s records words′ cells′ → (Plain s records words cells → Plain s records words′ cells′)
+  pub became-at : (change : Picker → Picker) → InBounds s records words cells → InBounds s records words′ cells′
+      → (Plain s records words cells → Plain s records words′ cells′)
       → decodeAt (s .pieces) (s .blocks) records words′ cells′ ≡ change (decodeAt (s .pieces) (s .blocks) records words cells)
       → Became s change records words cells words′ cells′
   became-at change r b p e =
@@ -119,14 +128,16 @@ module _ (s : Shape) (change : Picker → Picker) where
       record {
         kept = d;
         became = λ records cells r.
-            became-at s records words cells words′ cells change r (bounds-kept s records words cells words′ cells r d refl e (list (r .list)) (idle (r .idle)) (few (r .recentExtents)))
+            became-at s records words cells words′ cells change r (bounds-kept s records words cells words′ cells r d refl e
+            (list (r .list)) (idle (r .idle)) (few (r .recentExtents)))
             (plain-kept s records words cells words′ cells d e flag (λ p. p) (λ k j l m p. p)) (is records cells r);
       }
 
   -- into the cells: pieces and blocks of live records stay plain
   pub cells-became : (cells cells′ : List ℕ) → CellsKept s cells cells′
       → (PlainPieces (s .pieces) cells → PlainPieces (s .pieces) cells′)
-      → ((p j : ℕ) → p < placesFor (s .pieces) → j < s .blocks → PlainBlock (s .pieces) (s .blocks) cells p j → PlainBlock (s .pieces) (s .blocks) cells′ p j)
+      → ((p j : ℕ) → p < placesFor (s .pieces) → j < s .blocks → PlainBlock (s .pieces) (s .blocks) cells p j
+      → PlainBlock (s .pieces) (s .blocks) cells′ p j)
       → ((records : List Record) (words : List ℕ) → InBounds s records words cells
       → decodeAt (s .pieces) (s .blocks) records words cells′ ≡ change (decodeAt (s .pieces) (s .blocks) records words cells))
       → CellsBecame s change cells cells′
@@ -135,9 +146,11 @@ module _ (s : Shape) (change : Picker → Picker) where
         kept = d;
         became = λ records words r.
             became-at s records words cells words cells′ change r
-            (bounds-kept s records words cells words cells′ r (words-kept-none s words) (d .long) refl (r .list) (r .idle) (r .recentExtents))
+            (bounds-kept s records words cells words cells′ r (words-kept-none s words) (d .long) refl (r .list) (r .idle)
+            (r .recentExtents))
             (plain-kept s records words cells words cells′ (words-kept-none s words) refl (λ p. p) pieces (λ k j l m p.
-            blocks (recordAt records k .«info_idx») j (place-room s records words cells r k l) (omega (arith, blocks-within s records words cells r (recordAt records k .index))) p))
+            blocks (recordAt records k .«info_idx») j (place-room s records words cells r k l)
+            (omega (arith, blocks-within s records words cells r (recordAt records k .index))) p))
             (is records words r);
       }
 
@@ -163,15 +176,18 @@ cells-kept-again s a b c x y = record { long = y .long ∙ x .long; beyond = λ 
 -- ---- changes, one after another
 module _ (s : Shape) (f g : Picker → Picker) (records : List Record) where
   -- two changes
-  pub became-again : (u v w x y z : List ℕ) → Became s f records u v w x → Became s g records w x y z → Became s (λ d. g (f d)) records u v y z
+  pub became-again : (u v w x y z : List ℕ) → Became s f records u v w x → Became s g records w x y z
+      → Became s (λ d. g (f d)) records u v y z
   became-again u v w x y z a b = record { is = b .is ∙ ap g (a .is); bounds = b .bounds; plain = λ p. b .plain (a .plain p) }
 
   -- another name for the change
-  pub became-named : (words cells words′ cells′ : List ℕ) → f (decode records words cells) ≡ g (decode records words cells) → Became s f records words cells words′ cells′ → Became s g records words cells words′ cells′
+  pub became-named : (words cells words′ cells′ : List ℕ) → f (decode records words cells) ≡ g (decode records words cells)
+      → Became s f records words cells words′ cells′ → Became s g records words cells words′ cells′
   became-named words cells words′ cells′ e a = record { is = a .is ∙ e; bounds = a .bounds; plain = a .plain }
 
 -- no change
-pub became-none : (s : Shape) (records : List Record) (words cells : List ℕ) → InBounds s records words cells → Became s (λ d. d) records words cells words cells
+pub became-none : (s : Shape) (records : List Record) (words cells : List ℕ) → InBounds s records words cells
+    → Became s (λ d. d) records words cells words cells
 became-none s records words cells r = record { is = refl; bounds = r; plain = λ p. p }
 
 module _ (s : Shape) (f g : Picker → Picker) where
@@ -232,9 +248,21 @@ module _ (s : Shape) where
   cells-none cells = record { kept = cells-kept-none s cells; became = λ records words r. became-none s records words cells r }
 
   -- a change of the words alone, beside some cells
-  pub both-words : (f : Picker → Picker) (words words′ cells : List ℕ) → WordsBecame s f words words′ → BothBecame s f words words′ cells cells
-  both-words f words words′ cells x = record { wordsKept = x .kept; cellsKept = cells-kept-none s cells; became = λ records r. x .became records cells r }
+  pub both-words : (f : Picker → Picker) (words words′ cells : List ℕ) → WordsBecame s f words words′
+      → BothBecame s f words words′ cells cells
+  both-words f words words′ cells x = record {
+    wordsKept = x .kept;
+    cellsKept = cells-kept-none s cells;
+    became = λ records r. x .became
+        records cells r;
+  }
 
   -- a change of the cells alone, beside some words
-  pub both-cells : (f : Picker → Picker) (words cells cells′ : List ℕ) → CellsBecame s f cells cells′ → BothBecame s f words words cells cells′
-  both-cells f words cells cells′ x = record { wordsKept = words-kept-none s words; cellsKept = x .kept; became = λ records r. x .became records words r }
+  pub both-cells : (f : Picker → Picker) (words cells cells′ : List ℕ) → CellsBecame s f cells cells′
+      → BothBecame s f words words cells cells′
+  both-cells f words cells cells′ x = record {
+    wordsKept = words-kept-none s words;
+    cellsKept = x .kept;
+    became = λ records r. x .became
+        records words r;
+  }

@@ -1,4 +1,5 @@
--- Buffers of a picker of two pieces, and the picker that they mean: the bounds can be met, and each number is read in its column. Assumes nothing.
+-- Buffers of a picker of two pieces, and the picker that they mean: the bounds can be met, and each number is read in its column. Assumes
+-- nothing.
 use mathlib.Core.Path.{_≡_, refl, sym}
 use mathlib.Core.Bool.{true, false, true≢false}
 use mathlib.Core.Option.{some}
@@ -14,8 +15,10 @@ use Rattle.memory_records.specs.declared.record.DownloadingPiece.{DownloadingPi
 use Rattle.memory_layout.specs.declared.shape.Shape.{Shape}
 use Rattle.memory_layout.specs.Tables.{tabulate}
 use Rattle.memory_layout.specs.Offsets.{cell, placesFor, pieceWordAt, peerAt, pieceCellAt, blockCellAt, wordsFor, cellsFor}
-use Rattle.memory_layout.specs.Decode.{headWord, pieceWord, peerWord, pieceCell, blockCell, recordAt, piecesOn, blocksOn, blocksOf, queueFrom}
-use Rattle.memory_layout.specs.Decode.{stateFrom, yes?, peerFrom, listedPiece, pieceHeld, blockFrom, blockHeld, blocksHeld, partialFrom}
+use Rattle.memory_layout.specs.Decode.{headWord, pieceWord, peerWord, pieceCell, blockCell, recordAt, piecesOn, blocksOn, blocksOf}
+use Rattle.memory_layout.specs.Decode.{queueFrom}
+use Rattle.memory_layout.specs.Decode.{stateFrom, yes?, peerFrom, listedPiece, pieceHeld, blockFrom, blockHeld, blocksHeld}
+use Rattle.memory_layout.specs.Decode.{partialFrom}
 use Rattle.memory_layout.specs.Decode.{partialHeld, piecesHeld, partialsHeld, extentsHeld, listHeld, listingHeld, decode}
 use Rattle.memory_layout.specs.Bounds.{InBounds, PlainBlock, PlainRecord, Plain}
 

@@ -28,7 +28,8 @@ module _ (xs : List ℕ) (a k : ℕ) (fits : a + k ≤ length xs) where
 
 -- ---- columns of pieces
 -- word column f from its start
-pub word-column-is : (n : ℕ) (words : List ℕ) (f a : ℕ) → a ≡ pieceWordAt n f 0 → a + n ≤ length words → WordColumn words n f (take (a + n - a) (drop a words))
+pub word-column-is : (n : ℕ) (words : List ℕ) (f a : ℕ) → a ≡ pieceWordAt n f 0 → a + n ≤ length words
+    → WordColumn words n f (take (a + n - a) (drop a words))
 unfolding pieceWord pieceWordAt cell
 word-column-is n words f a e h =
     record {
@@ -85,7 +86,8 @@ block-within s cells r f p many lf lp lm =
     rw (← (r .sizes .places)) (omega (arith, row, all, add-mul p 1 b, add-mul f 1 (m * b), w))
 
 -- the part of it that is lent
-pub block-column-is : (s : Shape) (cells : List ℕ) (f p many a : ℕ) → a ≡ blockCellAt (s .pieces) (s .blocks) f p 0 → a + many ≤ length cells
+pub block-column-is : (s : Shape) (cells : List ℕ) (f p many a : ℕ) → a ≡ blockCellAt (s .pieces) (s .blocks) f p 0
+    → a + many ≤ length cells
     → BlockColumn cells s f p many (take (a + many - a) (drop a cells))
 unfolding blockCell
 block-column-is s cells f p many a e h =

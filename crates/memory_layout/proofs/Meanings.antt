@@ -1,9 +1,8 @@
 -- What each number is in the picker that the buffers mean. Seeds and cursors are words of the head by definition. Assumes nothing.
-use mathlib.Core.Path.{_≡_, refl, sym, ap, _∙_}
+use mathlib.Core.Path.{_≡_, refl, ap, _∙_}
 use mathlib.Core.Bool.{Bool, true, false, cond}
 use mathlib.Core.List.{List}
-use Prim.Native.Nat.{ℕ, _+_, _≤_, _<_}
-use native.Mathlib.Omega.{arith}
+use Prim.Native.Nat.{ℕ, _+_, _<_}
 use Rattle.model.specs.Lists.{nth, len}
 use Rattle.model.specs.Bep3.{bitOf}
 use Rattle.model.specs.State.{Piece, Block, DownloadingPiece, Picker, dirty, fresh, isDirty, listOf, noPiece, noBlock, pieceAt, piecesIn}
@@ -14,12 +13,13 @@ use Rattle.memory_records.specs.declared.record.DownloadingPiece.{DownloadingPi
 use Rattle.memory_layout.specs.declared.shape.Shape.{Shape}
 use Rattle.memory_layout.specs.Tables.{tabulate}
 use Rattle.memory_layout.specs.Decode.{headWord, pieceWord, pieceCell, recordAt, blocksOf, queueFrom, yes?, listedPiece, pieceHeld}
-use Rattle.memory_layout.specs.Decode.{blockHeld, blocksHeld, partialFrom, partialHeld, piecesHeld, partialsHeld, extentsHeld, listHeld}
+use Rattle.memory_layout.specs.Decode.{blockHeld, blocksHeld, partialFrom, partialHeld, piecesHeld, partialsHeld, extentsHeld}
+use Rattle.memory_layout.specs.Decode.{listHeld}
 use Rattle.memory_layout.specs.Decode.{listingHeld, decode}
 use Rattle.memory_layout.specs.Changes.{partialIn}
 use Rattle.memory_layout.specs.Bounds.{InBounds}
 use Rattle.memory_layout.proofs.TableLaws.{tabulate-len, tabulate-nth}
-use Rattle.memory_layout.proofs.BoundsLaws.{decode-at, blocks-within}
+use Rattle.memory_layout.proofs.BoundsLaws.{decode-at}
 
 -- blocks of a piece, in the model's words
 pub blocks-of-is : (records : List Record) (words cells : List ℕ) (i : ℕ) → blocksOf words i ≡ blocksInPiece (decode records words cells) i
@@ -35,7 +35,8 @@ module _ (s : Shape) (records : List Record) (words cells : List ℕ) (r : InBou
   module _ (i : ℕ) (h : i < s .pieces) where
     pub piece-is : pieceAt (decode records words cells) i ≡ pieceHeld words cells (s .pieces) i
     unfolding pieceAt piecesHeld
-    piece-is = ap (λ (d : Picker). pieceAt d i) (decode-at s records words cells r) ∙ tabulate-nth (s .pieces) (pieceHeld words cells (s .pieces)) i noPiece h
+    piece-is = ap (λ (d : Picker). pieceAt d i) (decode-at s records words cells r)
+        ∙ tabulate-nth (s .pieces) (pieceHeld words cells (s .pieces)) i noPiece h
 
     pub peer-count-is : pieceAt (decode records words cells) i .peerCount ≡ pieceCell cells (s .pieces) 0 i
     unfolding pieceHeld
@@ -66,7 +67,8 @@ module _ (s : Shape) (records : List Record) (words cells : List ℕ) (r : InBou
 
   module _ (k : ℕ) (h : k < headWord words 7) where
     -- whatever stands past the last one
-    pub partial-nth : (d : DownloadingPiece) → nth d (decode records words cells .partials) k ≡ partialHeld words cells (s .pieces) (s .blocks) (recordAt records k)
+    pub partial-nth : (d : DownloadingPiece) → nth d (decode records words cells .partials) k ≡ partialHeld words cells (s .pieces)
+        (s .blocks) (recordAt records k)
     unfolding partialsHeld
     partial-nth d =
         ap (λ (x : Picker). nth d (x .partials) k) (decode-at s records words cells r)
@@ -92,7 +94,8 @@ module _ (s : Shape) (records : List Record) (words cells : List ℕ) (r : InBou
     unfolding partialHeld partialFrom
     hashing-is = ap (λ (d : DownloadingPiece). d .hashing) partial-is
 
-    pub blocks-are : partialIn (decode records words cells) k .blocks ≡ blocksHeld words cells (s .pieces) (s .blocks) (recordAt records k .index) (recordAt records k .«info_idx»)
+    pub blocks-are : partialIn (decode records words cells) k .blocks ≡ blocksHeld words cells (s .pieces) (s .blocks)
+        (recordAt records k .index) (recordAt records k .«info_idx»)
     unfolding partialHeld partialFrom
     blocks-are = ap (λ (d : DownloadingPiece). d .blocks) partial-is
 
@@ -101,15 +104,18 @@ module _ (s : Shape) (records : List Record) (words cells : List ℕ) (r : InBou
     unfolding blocksHeld
     blocks-number =
         ap len blocks-are
-        ∙ tabulate-len (blocksOf words (recordAt records k .index)) (blockHeld words cells (s .pieces) (s .blocks) (recordAt records k .«info_idx»))
+        ∙ tabulate-len (blocksOf words (recordAt records k .index)) (blockHeld words cells (s .pieces) (s .blocks)
+        (recordAt records k .«info_idx»))
 
     -- block j of it
     pub block-is : (j : ℕ) → j < blocksOf words (recordAt records k .index)
-        → blockAt (partialIn (decode records words cells) k) j ≡ blockHeld words cells (s .pieces) (s .blocks) (recordAt records k .«info_idx») j
+        → blockAt (partialIn (decode records words cells) k) j ≡ blockHeld words cells (s .pieces) (s .blocks)
+        (recordAt records k .«info_idx») j
     unfolding blockAt blocksHeld
     block-is j l =
         ap (λ (bs : List Block). nth noBlock bs j) blocks-are
-        ∙ tabulate-nth (blocksOf words (recordAt records k .index)) (blockHeld words cells (s .pieces) (s .blocks) (recordAt records k .«info_idx»)) j noBlock l
+        ∙ tabulate-nth (blocksOf words (recordAt records k .index)) (blockHeld words cells (s .pieces) (s .blocks)
+        (recordAt records k .«info_idx»)) j noBlock l
 
   -- ---- the list
   pub dirty-is : isDirty (decode records words cells .listing) ≡ yes? (headWord words 5)
@@ -120,7 +126,8 @@ module _ (s : Shape) (records : List Record) (words cells : List ℕ) (r : InBou
       go true l = refl
       go false l = refl
 
-  list-cases : (t : Bool) → yes? (headWord words 5) ≡ t → listOf (cond t dirty (fresh (listHeld words (s .pieces)))) ≡ listHeld words (s .pieces)
+  list-cases : (t : Bool) → yes? (headWord words 5) ≡ t → listOf (cond t dirty (fresh (listHeld words (s .pieces))))
+      ≡ listHeld words (s .pieces)
   unfolding listOf listHeld tabulate
   list-cases true e = rw (r .idle e)
   list-cases false e = refl
@@ -135,7 +142,8 @@ module _ (s : Shape) (records : List Record) (words cells : List ℕ) (r : InBou
   list-length-is = ap len list-is ∙ tabulate-len (headWord words 6) (λ k. listedPiece (pieceWord words (s .pieces) 1 k))
 
   -- place k of it
-  pub listed-is : (k : ℕ) → k < headWord words 6 → nth 0 (listOf (decode records words cells .listing)) k ≡ listedPiece (pieceWord words (s .pieces) 1 k)
+  pub listed-is : (k : ℕ) → k < headWord words 6 → nth 0 (listOf (decode records words cells .listing)) k
+      ≡ listedPiece (pieceWord words (s .pieces) 1 k)
   unfolding listHeld
   listed-is k h =
       ap (λ (l : List ℕ). nth 0 l k) list-is ∙ tabulate-nth (headWord words 6) (λ i. listedPiece (pieceWord words (s .pieces) 1 i)) k 0 h

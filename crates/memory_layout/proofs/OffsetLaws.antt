@@ -114,7 +114,8 @@ module _ (n b p q i j : ℕ) (hi : i < b) (hj : j < b) (e : peerAt n b p i ≡ p
   unfolding peerAt
   peer-block = cell-number b p q i j hi hj (omega arith)
 
-module _ (n b f g p q i j : ℕ) (hp : p < placesFor n) (hq : q < placesFor n) (hi : i < b) (hj : j < b) (e : blockCellAt n b f p i ≡ blockCellAt n b g q j) where
+module _ (n b f g p q i j : ℕ) (hp : p < placesFor n) (hq : q < placesFor n) (hi : i < b) (hj : j < b) (e : blockCellAt n b f p i
+    ≡ blockCellAt n b g q j) where
   first : cell b p i < placesFor n * b
   first = cell-below b p i (placesFor n) hp hi
 

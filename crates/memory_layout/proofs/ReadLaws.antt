@@ -2,19 +2,20 @@
 use mathlib.Core.Path.{_≡_, refl, sym, ap, ap₂, _∙_}
 use mathlib.Core.Bool.{true}
 use mathlib.Core.List.{List}
-use Prim.Native.Nat.{ℕ, _+_, _*_, _≤_, _<_}
+use Prim.Native.Nat.{ℕ, _+_, _≤_, _<_}
 use native.Mathlib.Omega.{arith}
 use lib.ListN.{length, getD, take}
 use lib.Seq.{getD-take}
 use Rattle.model.specs.Bep3.{numPieces, wholePieceBlocks}
-use Rattle.model.specs.State.{Picker, DownloadingPiece, validGeometry}
+use Rattle.model.specs.State.{validGeometry}
 use Rattle.memory_records.specs.declared.record.DownloadingPiece.{DownloadingPiece as Record}
 use Rattle.memory_records.specs.Records.{noRecord}
 use Rattle.memory_layout.specs.declared.shape.Shape.{Shape}
-use Rattle.memory_layout.specs.Tables.{tabulate, front}
+use Rattle.memory_layout.specs.Tables.{front}
 use Rattle.memory_layout.specs.Offsets.{pieceWordAt, peerAt, pieceCellAt, blockCellAt, wordsFor, cellsFor}
-use Rattle.memory_layout.specs.Decode.{headWord, pieceWord, peerWord, pieceCell, blockCell, recordAt, piecesOn, blocksOn, blocksOf, yes?}
-use Rattle.memory_layout.specs.Decode.{listedPiece, rankUnit, partialHeld, partialsHeld, decode, decodeAt}
+use Rattle.memory_layout.specs.Decode.{headWord, pieceWord, peerWord, pieceCell, blockCell, recordAt, piecesOn, blocksOn, blocksOf}
+use Rattle.memory_layout.specs.Decode.{yes?}
+use Rattle.memory_layout.specs.Decode.{partialHeld, partialsHeld, decode, decodeAt}
 use Rattle.memory_layout.specs.Bounds.{InBounds, Plain, RanksHeld}
 use Rattle.memory_layout.proofs.TableLaws.{tabulate-ext}
 use Rattle.memory_layout.proofs.OffsetLaws.{piece-word-below, peer-below, piece-cell-below, block-cell-below, words-from, cells-from}
@@ -24,7 +25,8 @@ use Rattle.memory_layout.proofs.BoundsLaws.{decode-at, blocks-within, p
 
 -- ---- records
 -- of the records the live ones alone are read
-pub records-same : (records records′ : List Record) (words cells : List ℕ) → ((k : ℕ) → k < headWord words 7 → recordAt records′ k ≡ recordAt records k)
+pub records-same : (records records′ : List Record) (words cells : List ℕ)
+    → ((k : ℕ) → k < headWord words 7 → recordAt records′ k ≡ recordAt records k)
     → decode records′ words cells ≡ decode records words cells
 unfolding partialsHeld
 records-same records records′ words cells h = λ i. record {
@@ -34,14 +36,16 @@ records-same records records′ words cells h = λ i. record {
   cursor = headWord words 3;
   reverseCursor = headWord words 4;
   pieces = decode records words cells .pieces;
-  partials = tabulate-ext (headWord words 7) (λ k. partialHeld words cells (piecesOn words) (blocksOn words) (recordAt records′ k)) (λ k. partialHeld words cells (piecesOn words) (blocksOn words) (recordAt records k)) (λ k l.
+  partials = tabulate-ext (headWord words 7) (λ k. partialHeld words cells (piecesOn words) (blocksOn words) (recordAt records′ k))
+      (λ k. partialHeld words cells (piecesOn words) (blocksOn words) (recordAt records k)) (λ k l.
       ap (partialHeld words cells (piecesOn words) (blocksOn words)) (h k l)) i;
   recentExtents = decode records words cells .recentExtents;
   listing = decode records words cells .listing;
 }
 
 -- as many records as there are partials are enough
-pub records-front : (records : List Record) (words cells : List ℕ) (n : ℕ) → headWord words 7 ≤ n → decode (front n records) words cells ≡ decode records words cells
+pub records-front : (records : List Record) (words cells : List ℕ) (n : ℕ) → headWord words 7 ≤ n → decode (front n records) words cells
+    ≡ decode records words cells
 unfolding front recordAt
 records-front records words cells n h =
     records-same records (take n records) words cells (λ k l. getD-take n records k noRecord (omega arith))
@@ -58,12 +62,15 @@ pub record SameRead (s : Shape) (records records′ : List Record) (words words�
   pub fields : SameFields (s .pieces) cells cells′
   pub recordsAre : (k : ℕ) → k < headWord words 7 → recordAt records′ k ≡ recordAt records k
   pub blocks : (k j f : ℕ) → k < headWord words 7 → j < blocksOf words (recordAt records k .index) → f < 3
-      → blockCell cells′ (s .pieces) (s .blocks) f (recordAt records k .«info_idx») j ≡ blockCell cells (s .pieces) (s .blocks) f (recordAt records k .«info_idx») j
+      → blockCell cells′ (s .pieces) (s .blocks) f (recordAt records k .«info_idx») j ≡ blockCell cells (s .pieces) (s .blocks) f
+      (recordAt records k .«info_idx») j
   pub peers : (k j : ℕ) → k < headWord words 7 → j < blocksOf words (recordAt records k .index)
       → yes? (blockCell cells (s .pieces) (s .blocks) 2 (recordAt records k .«info_idx») j) ≡ true
-      → peerWord words′ (s .pieces) (s .blocks) (recordAt records k .«info_idx») j ≡ peerWord words (s .pieces) (s .blocks) (recordAt records k .«info_idx») j
+      → peerWord words′ (s .pieces) (s .blocks) (recordAt records k .«info_idx») j ≡ peerWord words (s .pieces) (s .blocks)
+      (recordAt records k .«info_idx») j
 
-module _ (s : Shape) (records records′ : List Record) (words words′ cells cells′ : List ℕ) (r : InBounds s records words cells) (e : SameRead s records records′ words words′ cells cells′) where
+module _ (s : Shape) (records records′ : List Record) (words words′ cells cells′ : List ℕ) (r : InBounds s records words cells)
+    (e : SameRead s records records′ words words′ cells cells′) where
   place : (k : ℕ) → k < headWord words 7 → recordAt records′ k .«info_idx» ≡ recordAt records k .«info_idx»
   place k h = ap (λ (x : Record). x .«info_idx») (e .recordsAre k h)
 
@@ -102,10 +109,13 @@ module _ (s : Shape) (records records′ : List Record) (words words′ cells ce
     cursor = e .head 3 (omega arith) i;
     reverseCursor = e .head 4 (omega arith) i;
     pieces = pieces-same words words′ cells cells′ (s .pieces) (e .fields) (e .pads) i;
-    partials = partials-same words words′ cells cells′ (s .pieces) (s .blocks) (e .head 0 (omega arith)) (e .head 1 (omega arith)) records records′ (e .head 7 (omega arith)) (e .recordsAre) (λ k j l m.
-        block-same words words′ cells cells′ (s .pieces) (s .blocks) (recordAt records k .«info_idx») j (λ f h. e .blocks k j f l m h) (e .peers k j l m)) i;
+    partials = partials-same words words′ cells cells′ (s .pieces) (s .blocks) (e .head 0 (omega arith)) (e .head 1 (omega arith)) records
+        records′ (e .head 7 (omega arith)) (e .recordsAre) (λ k j l m.
+        block-same words words′ cells cells′ (s .pieces) (s .blocks) (recordAt records k .«info_idx») j (λ f h. e .blocks k j f l m h)
+        (e .peers k j l m)) i;
     recentExtents = extents-same words words′ (e .head 8 (omega arith)) (e .extents) i;
-    listing = listing-same words words′ (s .pieces) (e .head 5 (omega arith)) (list-same words words′ (s .pieces) (e .head 6 (omega arith)) (e .list)) i;
+    listing = listing-same words words′ (s .pieces) (e .head 5 (omega arith)) (list-same words words′ (s .pieces) (e .head 6 (omega arith))
+        (e .list)) i;
   }
 
   -- the picker
@@ -128,7 +138,11 @@ module _ (s : Shape) (records records′ : List Record) (words words′ cells ce
               flags = p .partials k m .flags;
               blocks = λ j h.
                   let o : j < blocksOf words (recordAt records k .index) =
-                  omega (arith, blocks-of-same words words′ cells cells′ (s .pieces) (s .blocks) (e .head 0 (omega arith)) (e .head 1 (omega arith)) (recordAt records k .index)) in
+                  omega (
+                    arith,
+                    blocks-of-same words words′ cells cells′ (s .pieces) (s .blocks) (e .head 0 (omega arith))
+                        (e .head 1 (omega arith)) (recordAt records k .index),
+                  ) in
                   record {
                     state = rw (e .blocks k j 0 m o (omega arith)) (p .partials k m .blocks j o .state);
                     has = rw (e .blocks k j 2 m o (omega arith)) (p .partials k m .blocks j o .has);
@@ -167,7 +181,9 @@ read-below s records words words′ cells cells′ r lw lc hw hc =
       fields = λ f i h l. hc (pieceCellAt n f i) (omega (arith, piece-cell-below n f i h l));
       recordsAre = λ k h. refl;
       blocks = λ k j f h l m.
-          hc (blockCellAt n b f (recordAt records k .«info_idx») j) (block-cell-below n b f (recordAt records k .«info_idx») j m (place-room s records words cells r k h) (omega (arith, blocks-within s records words cells r (recordAt records k .index))));
+          hc (blockCellAt n b f (recordAt records k .«info_idx») j) (block-cell-below n b f (recordAt records k .«info_idx») j m
+          (place-room s records words cells r k h) (omega (arith, blocks-within s records words cells r (recordAt records k .index))));
       peers = λ k j h l q.
-          hw (peerAt n b (recordAt records k .«info_idx») j) (peer-below n b (recordAt records k .«info_idx») j (place-room s records words cells r k h) (omega (arith, blocks-within s records words cells r (recordAt records k .index))));
+          hw (peerAt n b (recordAt records k .«info_idx») j) (peer-below n b (recordAt records k .«info_idx») j
+          (place-room s records words cells r k h) (omega (arith, blocks-within s records words cells r (recordAt records k .index))));
     }

@@ -8,7 +8,7 @@ use native.Mathlib.Decide.{ℕ-discrete}
 use lib.ListN.{length, getD, set}
 use lib.Seq.{getD-set-same, getD-set-other}
 use Rattle.memory_layout.specs.Tables.{choose}
-use Rattle.memory_layout.specs.Offsets.{placesFor, pieceWordAt, peerAt, pieceCellAt, blockCellAt, wordsFor, cellsFor}
+use Rattle.memory_layout.specs.Offsets.{placesFor, pieceWordAt, peerAt, pieceCellAt, blockCellAt}
 use Rattle.memory_layout.specs.Decode.{headWord, pieceWord, peerWord, pieceCell, blockCell}
 use Rattle.memory_layout.proofs.TableLaws.{choose-same, choose-other}
 use Rattle.memory_layout.proofs.OffsetLaws.{piece-word-from, piece-word-below, piece-word-column, piece-word-piece, peer-from}
@@ -109,7 +109,8 @@ module _ (n b : ℕ) (words : List ℕ) (p j v : ℕ) (hj : j < b) where
 
   -- any other block
   pub peer-others : (q i : ℕ) → i < b → (q ≡ p → i ≡ j → ⊥) → peerWord (set words (peerAt n b p j) v) n b q i ≡ peerWord words n b q i
-  peer-others q i hi ne = peer-other words (peerAt n b p j) v n b q i (λ e. ne (peer-place n b q p i j hi hj e) (peer-block n b q p i j hi hj e))
+  peer-others q i hi ne = peer-other words (peerAt n b p j) v n b q i (λ e. ne (peer-place n b q p i j hi hj e)
+      (peer-block n b q p i j hi hj e))
 
 -- ---- a store into the cells, at offset a
 module _ (cells : List ℕ) (a v n : ℕ) where
@@ -135,7 +136,8 @@ module _ (cells : List ℕ) (a v n : ℕ) where
 -- ---- a store into cell column f, at piece i
 module _ (n : ℕ) (cells : List ℕ) (f i v : ℕ) (hi : i < n) where
   -- each field of the piece
-  pub field-stored : pieceCellAt n f i < length cells → (g : ℕ) → pieceCell (set cells (pieceCellAt n f i) v) n g i ≡ choose f g v (pieceCell cells n g i)
+  pub field-stored : pieceCellAt n f i < length cells → (g : ℕ) → pieceCell (set cells (pieceCellAt n f i) v) n g i
+      ≡ choose f g v (pieceCell cells n g i)
   unfolding pieceCell
   field-stored h g = elim (ℕ-discrete f g) [
     | yes e ↦ rw (← e, choose-same f v (getD cells (pieceCellAt n f i) 0)) (getD-set-same cells (pieceCellAt n f i) v 0 h)
@@ -152,7 +154,8 @@ module _ (n : ℕ) (cells : List ℕ) (f i v : ℕ) (hi : i < n) where
 -- ---- a store into a block's column f, at block j of place p
 module _ (n b : ℕ) (cells : List ℕ) (f p j v : ℕ) (hp : p < placesFor n) (hj : j < b) where
   -- each cell of the block
-  pub block-stored : blockCellAt n b f p j < length cells → (g : ℕ) → blockCell (set cells (blockCellAt n b f p j) v) n b g p j ≡ choose f g v (blockCell cells n b g p j)
+  pub block-stored : blockCellAt n b f p j < length cells → (g : ℕ) → blockCell (set cells (blockCellAt n b f p j) v) n b g p j
+      ≡ choose f g v (blockCell cells n b g p j)
   unfolding blockCell
   block-stored l g = elim (ℕ-discrete f g) [
     | yes e ↦ rw (← e, choose-same f v (getD cells (blockCellAt n b f p j) 0)) (getD-set-same cells (blockCellAt n b f p j) v 0 l)
@@ -163,6 +166,8 @@ module _ (n b : ℕ) (cells : List ℕ) (f p j v : ℕ) (hp : p < placesFor n) (
   ]
 
   -- any other block
-  pub block-others : (g q i : ℕ) → q < placesFor n → i < b → (q ≡ p → i ≡ j → ⊥) → blockCell (set cells (blockCellAt n b f p j) v) n b g q i ≡ blockCell cells n b g q i
+  pub block-others : (g q i : ℕ) → q < placesFor n → i < b → (q ≡ p → i ≡ j → ⊥) → blockCell (set cells (blockCellAt n b f p j) v) n b g q i
+      ≡ blockCell cells n b g q i
   block-others g q i hq hi ne =
-      block-cell-other cells (blockCellAt n b f p j) v n b g q i (λ e. ne (block-cell-place n b g f q p i j hq hp hi hj e) (block-cell-block n b g f q p i j hq hp hi hj e))
+      block-cell-other cells (blockCellAt n b f p j) v n b g q i (λ e. ne (block-cell-place n b g f q p i j hq hp hi hj e)
+      (block-cell-block n b g f q p i j hq hp hi hj e))

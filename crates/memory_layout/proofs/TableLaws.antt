@@ -33,14 +33,16 @@ module _ {A : Type 0} where
       λ k. h zero (omega arith) k ∷ tabulate-ext n (λ j. f (suc j)) (λ j. g (suc j)) (λ j l. h (suc j) (omega arith)) k
 
   -- one place changed
-  pub tabulate-set : (n : ℕ) (f g : ℕ → A) (i : ℕ) → i < n → ((j : ℕ) → j < n → j ≢ i → g j ≡ f j) → tabulate n g ≡ setNth i (g i) (tabulate n f)
+  pub tabulate-set : (n : ℕ) (f g : ℕ → A) (i : ℕ) → i < n → ((j : ℕ) → j < n → j ≢ i → g j ≡ f j)
+      → tabulate n g ≡ setNth i (g i) (tabulate n f)
   unfolding tabulate setNth
   tabulate-set zero f g i l other = absurd (not-suc-le-zero l)
   tabulate-set (suc n) f g zero l other =
       λ k. g zero ∷ tabulate-ext n (λ j. g (suc j)) (λ j. f (suc j)) (λ j h. other (suc j) (omega arith) (omega arith)) k
   tabulate-set (suc n) f g (suc i) l other =
       λ k. other zero (omega arith) (omega arith) k
-      ∷ tabulate-set n (λ j. f (suc j)) (λ j. g (suc j)) i (le-of-suc-le-suc l) (λ j h ne. other (suc j) (omega arith) (λ e. ne (omega arith))) k
+      ∷ tabulate-set n (λ j. f (suc j)) (λ j. g (suc j)) i (le-of-suc-le-suc l)
+      (λ j h ne. other (suc j) (omega arith) (λ e. ne (omega arith))) k
 
   -- a place past the end changes nothing
   pub set-past : (i : ℕ) (x : A) (l : List A) → len l ≤ i → setNth i x l ≡ l
@@ -70,7 +72,8 @@ module _ {A : Type 0} where
   tabulate-without zero f g (suc i) h low high = absurd (not-suc-le-zero h)
   tabulate-without (suc n) f g (suc i) h low high =
       λ k. low zero (omega arith) k
-      ∷ tabulate-without n (λ j. f (suc j)) (λ j. g (suc j)) i (le-of-suc-le-suc h) (λ j l. low (suc j) (omega arith)) (λ j l m. high (suc j) (omega arith) (omega arith)) k
+      ∷ tabulate-without n (λ j. f (suc j)) (λ j. g (suc j)) i (le-of-suc-le-suc h) (λ j l. low (suc j) (omega arith))
+      (λ j l m. high (suc j) (omega arith) (omega arith)) k
 
   -- the front of a list that is no longer
   pub front-whole : (l : List A) (k : ℕ) → length l ≡ k → front k l ≡ l
@@ -81,7 +84,8 @@ module _ {A : Type 0} where
   front-whole (x ∷ xs) (suc k) h = ap (λ (l : List A). x ∷ l) (front-whole xs k (omega arith))
 
   -- what a function gives for each element of a list
-  pub tabulate-each : (g : ℕ → A) (ys : List ℕ) (n : ℕ) (f : ℕ → A) → length ys ≡ n → ((i : ℕ) → i < n → f i ≡ g (getD ys i 0)) → tabulate n f ≡ each g ys
+  pub tabulate-each : (g : ℕ → A) (ys : List ℕ) (n : ℕ) (f : ℕ → A) → length ys ≡ n → ((i : ℕ) → i < n → f i ≡ g (getD ys i 0))
+      → tabulate n f ≡ each g ys
   unfolding tabulate each
   tabulate-each g [] zero f l h = refl
   tabulate-each g [] (suc n) f l h = absurd (omega arith)

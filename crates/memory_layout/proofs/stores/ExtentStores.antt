@@ -8,10 +8,10 @@ use native.Mathlib.Decide.{ℕ-discrete}
 use native.Mathlib.Numerals.{add-one}
 use lib.ListN.{length, set, length-set}
 use Rattle.model.specs.Lists.{removeNth}
-use Rattle.model.specs.State.{Picker, withRecentExtents, maxExtents}
+use Rattle.model.specs.State.{withRecentExtents, maxExtents}
 use Rattle.memory_records.specs.declared.record.DownloadingPiece.{DownloadingPiece as Record}
 use Rattle.memory_layout.specs.declared.shape.Shape.{Shape}
-use Rattle.memory_layout.specs.Tables.{tabulate, choose}
+use Rattle.memory_layout.specs.Tables.{tabulate}
 use Rattle.memory_layout.specs.Decode.{headWord, extentsHeld, decodeAt}
 use Rattle.memory_layout.specs.Bounds.{WordsSpan, InBounds}
 use Rattle.memory_layout.specs.Stores.{WordsBecame}
@@ -20,18 +20,21 @@ use Rattle.memory_layout.proofs.OffsetLaws.{head-in}
 use Rattle.memory_layout.proofs.Same.{head-other, head-stored}
 use Rattle.memory_layout.proofs.Parts.{listing-same}
 use Rattle.memory_layout.proofs.BoundsLaws.{words-became}
-use Rattle.memory_layout.proofs.stores.HeadStores.{Behind, behind-none, behind-store, behind-kept, behind-pieces, behind-partials, behind-list}
+use Rattle.memory_layout.proofs.stores.HeadStores.{Behind, behind-none, behind-store, behind-kept, behind-pieces, behind-partials}
+use Rattle.memory_layout.proofs.stores.HeadStores.{behind-list}
 
 -- a word of the head reads as it was stored
 pub head-read : (words : List ℕ) (k v : ℕ) → k < length words → headWord (set words k v) k ≡ v
 head-read words k v h = head-stored words k v h k ∙ choose-same k v (headWord words k)
 
 -- ---- any change of the extents
-module _ (s : Shape) (words words′ : List ℕ) (b : Behind s words words′) (h : (g : ℕ) → g < 8 → headWord words′ g ≡ headWord words g) (few : headWord words′ 8 ≤ maxExtents)
+module _ (s : Shape) (words words′ : List ℕ) (b : Behind s words words′) (h : (g : ℕ) → g < 8 → headWord words′ g ≡ headWord words g)
+    (few : headWord words′ 8 ≤ maxExtents)
     (f : List ℕ → List ℕ) (e : extentsHeld words′ ≡ f (extentsHeld words)) where
   at-shape : (records : List Record) (cells : List ℕ) → InBounds s records words cells
       → decodeAt (s .pieces) (s .blocks) records words′ cells
-      ≡ withRecentExtents (f (decodeAt (s .pieces) (s .blocks) records words cells .recentExtents)) (decodeAt (s .pieces) (s .blocks) records words cells)
+      ≡ withRecentExtents (f (decodeAt (s .pieces) (s .blocks) records words cells .recentExtents))
+      (decodeAt (s .pieces) (s .blocks) records words cells)
   unfolding withRecentExtents
   at-shape records cells r = λ i. record {
     totalSize = h 0 (omega arith) i;
@@ -42,12 +45,14 @@ module _ (s : Shape) (words words′ : List ℕ) (b : Behind s words words′) (
     pieces = behind-pieces s words words′ b (h 0 (omega arith)) (h 1 (omega arith)) cells i;
     partials = behind-partials s words words′ b (h 0 (omega arith)) (h 1 (omega arith)) (h 7 (omega arith)) records cells r i;
     recentExtents = e i;
-    listing = listing-same words words′ (s .pieces) (h 5 (omega arith)) (behind-list s words words′ b (h 0 (omega arith)) (h 1 (omega arith)) (h 6 (omega arith)) (r .list)) i;
+    listing = listing-same words words′ (s .pieces) (h 5 (omega arith)) (behind-list s words words′ b (h 0 (omega arith))
+        (h 1 (omega arith)) (h 6 (omega arith)) (r .list)) i;
   }
 
   pub extents-became : WordsBecame s (λ d. withRecentExtents (f (d .recentExtents)) d) words words′
   extents-became =
-      words-became s (λ d. withRecentExtents (f (d .recentExtents)) d) words words′ (behind-kept s words words′ b (h 0 (omega arith)) (h 1 (omega arith))) (h 7 (omega arith))
+      words-became s (λ d. withRecentExtents (f (d .recentExtents)) d) words words′ (behind-kept s words words′ b (h 0 (omega arith))
+      (h 1 (omega arith))) (h 7 (omega arith))
       (λ l. rw (h 6 (omega arith)) l) (λ l. rw (h 5 (omega arith), h 6 (omega arith)) l) (λ l. few) (λ l. rw (h 5 (omega arith)) l) at-shape
 
 -- ---- one more
@@ -63,7 +68,8 @@ module _ (s : Shape) (words : List ℕ) (r : WordsSpan s words) (v : ℕ) (few :
 
   others : (g : ℕ) → 8 ≢ g → 9 + headWord words 8 ≢ g → headWord extended g ≡ headWord words g
   others g m o =
-      head-other (set words (9 + headWord words 8) v) 8 (headWord words 8 + 1) g (λ e. m (sym e)) ∙ head-other words (9 + headWord words 8) v g (λ e. o (sym e))
+      head-other (set words (9 + headWord words 8) v) 8 (headWord words 8 + 1) g (λ e. m (sym e))
+      ∙ head-other words (9 + headWord words 8) v g (λ e. o (sym e))
 
   number : headWord extended 8 ≡ suc (headWord words 8)
   number =
@@ -81,11 +87,14 @@ module _ (s : Shape) (words : List ℕ) (r : WordsSpan s words) (v : ℕ) (few :
       ap (λ (k : ℕ). tabulate k (λ j. headWord extended (9 + j))) number
       ∙ tabulate-more (headWord words 8) (λ j. headWord extended (9 + j))
       ∙ ap₂ (λ (l : List ℕ) (w : ℕ). l ++ (w ∷ []))
-      (tabulate-ext (headWord words 8) (λ j. headWord extended (9 + j)) (λ j. headWord words (9 + j)) (λ j l. others (9 + j) (λ e. omega arith) (λ e. omega arith))) last
+      (tabulate-ext (headWord words 8) (λ j. headWord extended (9 + j)) (λ j. headWord words (9 + j))
+      (λ j l. others (9 + j) (λ e. omega arith) (λ e. omega arith))) last
 
-  pub extent-appended : WordsBecame s (λ d. withRecentExtents (d .recentExtents ++ (v ∷ [])) d) words (set (set words (9 + headWord words 8) v) 8 (headWord words 8 + 1))
+  pub extent-appended : WordsBecame s (λ d. withRecentExtents (d .recentExtents ++ (v ∷ [])) d) words
+      (set (set words (9 + headWord words 8) v) 8 (headWord words 8 + 1))
   extent-appended =
-      extents-became s words extended rest (λ g l. others g (λ e. omega arith) (λ e. omega arith)) (rw number (omega arith)) (λ (l : List ℕ). l ++ (v ∷ [])) more
+      extents-became s words extended rest (λ g l. others g (λ e. omega arith) (λ e. omega arith)) (rw number (omega arith))
+      (λ (l : List ℕ). l ++ (v ∷ [])) more
 
 -- ---- one less
 -- of n extents, those from p up to j have moved down by one
@@ -144,10 +153,12 @@ module _ (words : List ℕ) (p n j : ℕ) (words′ : List ℕ) (c : Closing wor
       }
 
   -- one move
-  pub closing-next : (v : ℕ) (words″ : List ℕ) → v ≡ headWord words′ (10 + j) → words″ ≡ set words′ (9 + j) v → Closing words p n (j + 1) words″
+  pub closing-next : (v : ℕ) (words″ : List ℕ) → v ≡ headWord words′ (10 + j) → words″ ≡ set words′ (9 + j) v
+      → Closing words p n (j + 1) words″
   closing-next v words″ e q = rw (q, e) next
 
-module _ (s : Shape) (words : List ℕ) (r : WordsSpan s words) (p n j : ℕ) (words′ : List ℕ) (c : Closing words p n j words′) (number : n ≡ headWord words 8) (end : n ≤ j + 1) where
+module _ (s : Shape) (words : List ℕ) (r : WordsSpan s words) (p n j : ℕ) (words′ : List ℕ) (c : Closing words p n j words′)
+    (number : n ≡ headWord words 8) (end : n ≤ j + 1) where
   abbrev shorter : List ℕ
   shorter = set words′ 8 j
 
@@ -167,11 +178,13 @@ module _ (s : Shape) (words : List ℕ) (r : WordsSpan s words) (p n j : ℕ) (w
 
   gone : WordsBecame s (λ d. withRecentExtents (removeNth p (d .recentExtents)) d) words shorter
   gone =
-      extents-became s words shorter (behind-store s words words′ 8 j (omega arith) (c .behind s)) (λ g h. head-other words′ 8 j g (λ e. omega arith) ∙ c .before g (omega arith))
+      extents-became s words shorter (behind-store s words words′ 8 j (omega arith) (c .behind s))
+      (λ g h. head-other words′ 8 j g (λ e. omega arith) ∙ c .before g (omega arith))
       (rw word8 (omega (arith, c .few, c .within))) (removeNth p) less
 
   -- after the last move the number is stored
-  pub extent-removed : (w : ℕ) (words″ : List ℕ) → w ≡ n - 1 → words″ ≡ set words′ 8 w → WordsBecame s (λ d. withRecentExtents (removeNth p (d .recentExtents)) d) words words″
+  pub extent-removed : (w : ℕ) (words″ : List ℕ) → w ≡ n - 1 → words″ ≡ set words′ 8 w
+      → WordsBecame s (λ d. withRecentExtents (removeNth p (d .recentExtents)) d) words words″
   extent-removed w words″ q o =
       let k : w ≡ j = omega (arith, c .within) in
       rw (o, k) gone

@@ -1,21 +1,22 @@
 -- What a store in the head does to the picker: seeds and cursors. Assumes nothing.
-use mathlib.Core.Path.{_≡_, refl, sym, ap, _∙_}
+use mathlib.Core.Path.{_≡_, refl, sym, _∙_}
 use mathlib.Core.Logic.{_≢_}
 use mathlib.Core.List.{List}
 use Prim.Native.Nat.{ℕ, _+_, _≤_, _<_}
 use native.Mathlib.Omega.{arith}
 use lib.ListN.{length, set, length-set}
-use Rattle.model.specs.State.{Picker, withSeeds, withCursors}
+use Rattle.model.specs.State.{withSeeds, withCursors}
 use Rattle.memory_records.specs.declared.record.DownloadingPiece.{DownloadingPiece as Record}
 use Rattle.memory_layout.specs.declared.shape.Shape.{Shape}
 use Rattle.memory_layout.specs.Tables.{choose}
 use Rattle.memory_layout.specs.Offsets.{wordsFor}
-use Rattle.memory_layout.specs.Decode.{headWord, yes?, piecesHeld, partialsHeld, extentsHeld, listHeld, decodeAt}
+use Rattle.memory_layout.specs.Decode.{headWord, piecesHeld, partialsHeld, listHeld, decodeAt}
 use Rattle.memory_layout.specs.Changes.{withHead}
 use Rattle.memory_layout.specs.Bounds.{WordsSpan, InBounds}
 use Rattle.memory_layout.specs.Stores.{WordsKept, WordsBecame}
 use Rattle.memory_layout.proofs.OffsetLaws.{words-from, head-in}
-use Rattle.memory_layout.proofs.Same.{SameColumn, SamePeers, SameFrom, head-other, head-stored, column-below, peers-below, beyond-same}
+use Rattle.memory_layout.proofs.Same.{SameColumn, SamePeers, SameFrom, head-other, head-stored, column-below, peers-below}
+use Rattle.memory_layout.proofs.Same.{beyond-same}
 use Rattle.memory_layout.proofs.Parts.{pieces-same, list-same, listing-same, extents-same}
 use Rattle.memory_layout.proofs.BoundsLaws.{words-became, partials-stay}
 
@@ -37,10 +38,12 @@ behind-store s words words′ k v h b =
       long = length-set words′ k v ∙ b .long;
       columns = λ f l i m. column-below words′ k v (s .pieces) h f i m ∙ b .columns f l i m;
       peers = λ p j l m. peers-below words′ k v (s .pieces) (s .blocks) (omega arith) p j l m ∙ b .peers p j l m;
-      beyond = λ i l. beyond-same (wordsFor (s .pieces) (s .blocks)) words′ k v (omega (arith, words-from (s .pieces) (s .blocks))) i l ∙ b .beyond i l;
+      beyond = λ i l. beyond-same (wordsFor (s .pieces) (s .blocks)) words′ k v (omega (arith, words-from (s .pieces) (s .blocks))) i l
+          ∙ b .beyond i l;
     }
 
-module _ (s : Shape) (words words′ : List ℕ) (b : Behind s words words′) (t : headWord words′ 0 ≡ headWord words 0) (z : headWord words′ 1 ≡ headWord words 1) where
+module _ (s : Shape) (words words′ : List ℕ) (b : Behind s words words′) (t : headWord words′ 0 ≡ headWord words 0) (z : headWord words′ 1
+    ≡ headWord words 1) where
   -- the frame
   pub behind-kept : WordsKept s words words′
   behind-kept = record { long = b .long; totalSize = t; pieceSize = z; beyond = b .beyond }
@@ -55,7 +58,8 @@ module _ (s : Shape) (words words′ : List ℕ) (b : Behind s words words′) (
   behind-partials e records cells r = partials-stay s records words cells r words′ cells t z e (b .peers) (λ f p j h l m. refl)
 
   -- the list does, where its length is the same
-  pub behind-list : headWord words′ 6 ≡ headWord words 6 → headWord words 6 ≤ s .pieces → listHeld words′ (s .pieces) ≡ listHeld words (s .pieces)
+  pub behind-list : headWord words′ 6 ≡ headWord words 6 → headWord words 6 ≤ s .pieces
+      → listHeld words′ (s .pieces) ≡ listHeld words (s .pieces)
   behind-list e room = list-same words words′ (s .pieces) e (λ i l. b .columns 1 (omega arith) i (omega arith))
 
 -- ---- seeds and cursors
@@ -87,14 +91,17 @@ module _ (s : Shape) (words : List ℕ) (r : WordsSpan s words) (k v : ℕ) (low
     pieces = behind-pieces s words (set words k v) behind total size cells i;
     partials = behind-partials s words (set words k v) behind total size (same 7 (λ e. omega arith)) records cells q i;
     recentExtents = extents-same words (set words k v) (same 8 (λ e. omega arith)) (λ j l. same (9 + j) (λ e. omega arith)) i;
-    listing = listing-same words (set words k v) (s .pieces) (same 5 (λ e. omega arith)) (behind-list s words (set words k v) behind total size (same 6 (λ e. omega arith)) (q .list)) i;
+    listing = listing-same words (set words k v) (s .pieces) (same 5 (λ e. omega arith)) (behind-list s words (set words k v) behind total
+        size (same 6 (λ e. omega arith)) (q .list)) i;
   }
 
   -- word k of the head, from 2 to 4
   pub head-became : WordsBecame s (withHead k v) words (set words k v)
   head-became =
-      words-became s (withHead k v) words (set words k v) (behind-kept s words (set words k v) behind total size) (same 7 (λ e. omega arith))
-      (λ h. rw (same 6 (λ e. omega arith)) h) (λ h. rw (same 5 (λ e. omega arith), same 6 (λ e. omega arith)) h) (λ h. rw (same 8 (λ e. omega arith)) h) (λ h. rw (same 5 (λ e. omega arith)) h) at-shape
+      words-became s (withHead k v) words (set words k v) (behind-kept s words (set words k v) behind total size)
+      (same 7 (λ e. omega arith))
+      (λ h. rw (same 6 (λ e. omega arith)) h) (λ h. rw (same 5 (λ e. omega arith), same 6 (λ e. omega arith)) h)
+      (λ h. rw (same 8 (λ e. omega arith)) h) (λ h. rw (same 5 (λ e. omega arith)) h) at-shape
 
 module _ (s : Shape) (words : List ℕ) (r : WordsSpan s words) (v : ℕ) where
   -- the seeds

@@ -13,17 +13,18 @@ use Rattle.model.specs.State.{Listing, dirty, fresh, listOf, withListing, markD
 use Rattle.memory_records.specs.declared.record.DownloadingPiece.{DownloadingPiece as Record}
 use Rattle.memory_layout.specs.declared.shape.Shape.{Shape}
 use Rattle.memory_layout.specs.Tables.{tabulate, front}
-use Rattle.memory_layout.specs.Offsets.{cell, pieceWordAt, peerAt, wordsFor}
-use Rattle.memory_layout.specs.Decode.{headWord, pieceWord, peerWord, yes?, rankUnit, listedPiece, listHeld, listingHeld, decodeAt, decode}
+use Rattle.memory_layout.specs.Offsets.{cell, pieceWordAt, peerAt}
+use Rattle.memory_layout.specs.Decode.{headWord, pieceWord, peerWord, yes?, rankUnit, listedPiece, listHeld, listingHeld, decodeAt}
+use Rattle.memory_layout.specs.Decode.{decode}
 use Rattle.memory_layout.specs.Bounds.{WordsSpan, InBounds, RanksHeld}
 use Rattle.memory_layout.specs.Stores.{WordsKept, WordsBecame}
 use Rattle.memory_layout.proofs.TableLaws.{tabulate-each}
-use Rattle.memory_layout.proofs.OffsetLaws.{cell-below, peer-from, words-from, head-in}
+use Rattle.memory_layout.proofs.OffsetLaws.{peer-from, words-from, head-in}
 use Rattle.memory_layout.proofs.Same.{SameHead, SameColumn, SamePeers, head-other}
 use Rattle.memory_layout.proofs.Parts.{pieces-same, extents-same}
 use Rattle.memory_layout.proofs.Meanings.{list-is}
 use Rattle.memory_layout.proofs.BoundsLaws.{words-became, partials-stay}
-use Rattle.memory_layout.proofs.stores.HeadStores.{Behind, behind-none, behind-store}
+use Rattle.memory_layout.proofs.stores.HeadStores.{behind-none, behind-store}
 use Rattle.memory_layout.proofs.stores.ExtentStores.{head-read}
 
 -- ---- a part of a buffer put back
@@ -62,7 +63,8 @@ module _ (s : Shape) (words : List ℕ) (r : WordsSpan s words) (k : ℕ) (room 
   pub lent-long : length (midOf (pieceWordAt (s .pieces) 1 0) k words) ≡ k
   unfolding pieceWordAt cell
   lent-long =
-      length-take-le k (drop (pieceWordAt (s .pieces) 1 0) words) (rw (length-drop (pieceWordAt (s .pieces) 1 0) words) (omega (arith, words-from (s .pieces) (s .blocks), r .long)))
+      length-take-le k (drop (pieceWordAt (s .pieces) 1 0) words) (rw (length-drop (pieceWordAt (s .pieces) 1 0) words)
+      (omega (arith, words-from (s .pieces) (s .blocks), r .long)))
 
   -- and the words of the list
   pub lent-word : (i : ℕ) → i < k → getD (midOf (pieceWordAt (s .pieces) 1 0) k words) i 0 ≡ pieceWord words (s .pieces) 1 i
@@ -73,17 +75,20 @@ module _ (s : Shape) (words : List ℕ) (r : WordsSpan s words) (k : ℕ) (room 
 
 module _ (s : Shape) (records : List Record) (words cells : List ℕ) (r : InBounds s records words cells) where
   -- the list lent whole has the pieces of the picker's list
-  pub list-lent : each listedPiece (midOf (pieceWordAt (s .pieces) 1 0) (headWord words 6) words) ≡ listOf (decode records words cells .listing)
+  pub list-lent : each listedPiece (midOf (pieceWordAt (s .pieces) 1 0) (headWord words 6) words)
+      ≡ listOf (decode records words cells .listing)
   unfolding listHeld
   list-lent =
       let k = headWord words 6 in
-      sym (tabulate-each listedPiece (midOf (pieceWordAt (s .pieces) 1 0) k words) k (λ i. listedPiece (pieceWord words (s .pieces) 1 i)) (lent-long s words (r .spans .inWords) k (r .list)) (λ i h.
+      sym (tabulate-each listedPiece (midOf (pieceWordAt (s .pieces) 1 0) k words) k (λ i. listedPiece (pieceWord words (s .pieces) 1 i))
+      (lent-long s words (r .spans .inWords) k (r .list)) (λ i h.
       ap listedPiece (sym (lent-word s words (r .spans .inWords) k (r .list) i h))))
       ∙ sym (list-is s records words cells r)
 
   -- and the ranks beside them
   pub lent-ranks : (g : ℕ → ℕ) → RanksHeld (s .pieces) words g → (i : ℕ) → i < headWord words 6
-      → getD (midOf (pieceWordAt (s .pieces) 1 0) (headWord words 6) words) i 0 / rankUnit ≡ g (listedPiece (getD (midOf (pieceWordAt (s .pieces) 1 0) (headWord words 6) words) i 0))
+      → getD (midOf (pieceWordAt (s .pieces) 1 0) (headWord words 6) words) i 0 / rankUnit
+      ≡ g (listedPiece (getD (midOf (pieceWordAt (s .pieces) 1 0) (headWord words 6) words) i 0))
   lent-ranks g h i l = rw (lent-word s words (r .spans .inWords) (headWord words 6) (r .list) i l) (h i l)
 
 -- ---- all words but the list and its two words of the head as they were
@@ -176,7 +181,8 @@ pub record ListPut (s : Shape) (words words′ list : List ℕ) : Type 0 where
 module _ (s : Shape) (words words′ : List ℕ) (b : Beside s words words′) where
   -- nothing but the list changed
   pub beside-at-shape : (records : List Record) (cells : List ℕ) → InBounds s records words cells
-      → decodeAt (s .pieces) (s .blocks) records words′ cells ≡ withListing (listingHeld words′ (s .pieces)) (decodeAt (s .pieces) (s .blocks) records words cells)
+      → decodeAt (s .pieces) (s .blocks) records words′ cells ≡ withListing (listingHeld words′ (s .pieces))
+      (decodeAt (s .pieces) (s .blocks) records words cells)
   unfolding withListing
   beside-at-shape records cells r = λ i. record {
     totalSize = b .kept .totalSize i;
@@ -185,7 +191,8 @@ module _ (s : Shape) (words words′ : List ℕ) (b : Beside s words words′) w
     cursor = b .head 3 (omega arith) (λ e. omega arith) (λ e. omega arith) i;
     reverseCursor = b .head 4 (omega arith) (λ e. omega arith) (λ e. omega arith) i;
     pieces = pieces-same words words′ cells cells (s .pieces) (λ f k l m. refl) (b .pads) i;
-    partials = partials-stay s records words cells r words′ cells (b .kept .totalSize) (b .kept .pieceSize) (b .head 7 (omega arith) (λ e. omega arith) (λ e. omega arith)) (b .peers) (λ f p j h l m. refl) i;
+    partials = partials-stay s records words cells r words′ cells (b .kept .totalSize) (b .kept .pieceSize)
+        (b .head 7 (omega arith) (λ e. omega arith) (λ e. omega arith)) (b .peers) (λ f p j h l m. refl) i;
     recentExtents = extents-same words words′ (b .head 8 (omega arith) (λ e. omega arith) (λ e. omega arith)) (λ k l.
         b .head (9 + k) (omega (arith, r .recentExtents)) (λ e. omega arith) (λ e. omega arith)) i;
     listing = listingHeld words′ (s .pieces);
@@ -197,19 +204,23 @@ module _ (s : Shape) (words words′ list : List ℕ) (p : ListPut s words words
   listing-new =
       ap₂ (λ (t : _) (l : List ℕ). cond t dirty (fresh l)) (p .clean)
       (ap (λ (n : ℕ). tabulate n (λ k. listedPiece (pieceWord words′ (s .pieces) 1 k))) (p .long)
-      ∙ tabulate-each listedPiece list (length list) (λ k. listedPiece (pieceWord words′ (s .pieces) 1 k)) refl (λ i h. ap listedPiece (p .word i h)))
+      ∙ tabulate-each listedPiece list (length list) (λ k. listedPiece (pieceWord words′ (s .pieces) 1 k)) refl
+      (λ i h. ap listedPiece (p .word i h)))
 
   -- the picker has the pieces of those words as its list
   pub list-became : WordsBecame s (withListing (fresh (each listedPiece list))) words words′
   list-became =
-      words-became s (withListing (fresh (each listedPiece list))) words words′ (p .beside .kept) (p .beside .head 7 (omega arith) (λ e. omega arith) (λ e. omega arith))
-      (λ h. rw (p .long) (p .room)) (λ h e. absurd (true≢false (sym e ∙ p .clean))) (λ h. rw (p .beside .head 8 (omega arith) (λ e. omega arith) (λ e. omega arith)) h) (p .flag)
+      words-became s (withListing (fresh (each listedPiece list))) words words′ (p .beside .kept)
+      (p .beside .head 7 (omega arith) (λ e. omega arith) (λ e. omega arith))
+      (λ h. rw (p .long) (p .room)) (λ h e. absurd (true≢false (sym e ∙ p .clean)))
+      (λ h. rw (p .beside .head 8 (omega arith) (λ e. omega arith) (λ e. omega arith)) h) (p .flag)
       (λ records cells r.
       beside-at-shape s words words′ (p .beside) records cells r
       ∙ ap (λ (l : Listing). withListing l (decodeAt (s .pieces) (s .blocks) records words cells)) listing-new)
 
   -- and the ranks that those words have
-  pub list-ranks : (r : ℕ → ℕ) → ((i : ℕ) → i < length list → getD list i 0 / rankUnit ≡ r (listedPiece (getD list i 0))) → RanksHeld (s .pieces) words′ r
+  pub list-ranks : (r : ℕ → ℕ) → ((i : ℕ) → i < length list → getD list i 0 / rankUnit ≡ r (listedPiece (getD list i 0)))
+      → RanksHeld (s .pieces) words′ r
   list-ranks r h k l =
       let m : k < length list = omega (arith, p .long) in
       rw (p .word k m) (h k m)
@@ -223,21 +234,26 @@ module _ (s : Shape) (words : List ℕ) (r : WordsSpan s words) (k : ℕ) (room 
       let w = putBack s words r k room part long in
       let b = part-beside s words r k room part long in
       let many : length (take n part) ≡ n = length-take-le n part (omega arith) in
-      let e5 : headWord (set (set w 6 n) 5 0) 5 ≡ 0 = head-read (set w 6 n) 5 0 (simp length-set (omega (arith, b .kept .long, head-in s words r))) in
+      let e5 : headWord (set (set w 6 n) 5 0) 5 ≡ 0 = head-read (set w 6 n) 5 0
+      (simp length-set (omega (arith, b .kept .long, head-in s words r))) in
       let c = behind-store s w (set w 6 n) 5 0 (omega arith) (behind-store s w w 6 n (omega arith) (behind-none s w)) in
       record {
-        beside = beside-store s words (set w 6 n) 5 0 (omega arith) (omega arith) (beside-store s words w 6 n (omega arith) (omega arith) b);
-        long = head-other (set w 6 n) 5 0 6 (λ e. omega arith) ∙ head-read w 6 n (omega (arith, b .kept .long, head-in s words r)) ∙ sym many;
+        beside = beside-store s words (set w 6 n) 5 0 (omega arith) (omega arith) (beside-store s words w 6 n (omega arith) (omega arith)
+            b);
+        long = head-other (set w 6 n) 5 0 6 (λ e. omega arith) ∙ head-read w 6 n (omega (arith, b .kept .long, head-in s words r))
+            ∙ sym many;
         room = omega (arith, many);
         word = λ i l.
             let o : i < n = omega (arith, many) in
-            c .columns 1 (omega arith) i (omega arith) ∙ part-word s words r k room part long i (omega arith) ∙ sym (getD-take n part i 0 o);
+            c .columns 1 (omega arith) i (omega arith) ∙ part-word s words r k room part long i (omega arith)
+            ∙ sym (getD-take n part i 0 o);
         clean = ap yes? e5;
         flag = λ l. rw e5 (omega arith);
       }
 
 -- the list's own places lent and put back, where it is clean
-pub list-put-back : (s : Shape) (words : List ℕ) (r : WordsSpan s words) (room : headWord words 6 ≤ s .pieces) (part : List ℕ) (long : length part ≡ headWord words 6)
+pub list-put-back : (s : Shape) (words : List ℕ) (r : WordsSpan s words) (room : headWord words 6 ≤ s .pieces) (part : List ℕ)
+    (long : length part ≡ headWord words 6)
     → yes? (headWord words 5) ≡ false → ListPut s words (putMid (pieceWordAt (s .pieces) 1 0) (headWord words 6) words part) part
 list-put-back s words r room part long clean =
     let k = headWord words 6 in
@@ -277,10 +293,12 @@ module _ (s : Shape) (words : List ℕ) (r : WordsSpan s words) where
   unfolding markDirty listingHeld yes?
   dirty-marked =
       words-became s markDirty words marked (beside .kept) (beside .head 7 (omega arith) (λ e. omega arith) (λ e. omega arith))
-      (λ h. rw word6 (omega arith)) (λ h e. word6) (λ h. rw (beside .head 8 (omega arith) (λ e. omega arith) (λ e. omega arith)) h) (λ h. rw word5 (omega arith))
+      (λ h. rw word6 (omega arith)) (λ h e. word6) (λ h. rw (beside .head 8 (omega arith) (λ e. omega arith) (λ e. omega arith)) h)
+      (λ h. rw word5 (omega arith))
       (λ records cells q.
       beside-at-shape s words marked beside records cells q
-      ∙ ap (λ (w : ℕ). withListing (cond (yes? w) dirty (fresh (listHeld marked (s .pieces)))) (decodeAt (s .pieces) (s .blocks) records words cells)) word5)
+      ∙ ap (λ (w : ℕ). withListing (cond (yes? w) dirty (fresh (listHeld marked (s .pieces)))) (decodeAt (s .pieces) (s .blocks) records
+      words cells)) word5)
 
   -- a dirty list has no rank to hold
   pub dirty-ranks : (g : ℕ → ℕ) → RanksHeld (s .pieces) (set (set words 6 0) 5 1) g

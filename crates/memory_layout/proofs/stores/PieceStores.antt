@@ -5,21 +5,23 @@ use mathlib.Core.List.{List}
 use Prim.Native.Nat.{ℕ, _+_, _≤_, _<_}
 use native.Mathlib.Omega.{arith}
 use native.Mathlib.Decide.{ℕ-discrete}
-use lib.ListN.{length, set, length-set}
-use Rattle.model.specs.Lists.{nth, setNth}
-use Rattle.model.specs.State.{Piece, Picker, noPiece, pieceAt, withPiece, withPieces, withPeerCount, withState, withPriority, withFlushed}
+use lib.ListN.{set, length-set}
+use Rattle.model.specs.Lists.{setNth}
+use Rattle.model.specs.State.{Piece, noPiece, pieceAt, withPiece, withPieces, withPeerCount, withState, withPriority, withFlushed}
 use Rattle.memory_records.specs.declared.record.DownloadingPiece.{DownloadingPiece as Record}
 use Rattle.memory_layout.specs.declared.shape.Shape.{Shape}
 use Rattle.memory_layout.specs.Tables.{tabulate, choose}
 use Rattle.memory_layout.specs.Offsets.{pieceWordAt, pieceCellAt, wordsFor, cellsFor}
-use Rattle.memory_layout.specs.Decode.{headWord, pieceWord, pieceCell, blockCell, queueFrom, yes?, pieceHeld, piecesHeld, decodeAt}
+use Rattle.memory_layout.specs.Decode.{headWord, pieceWord, pieceCell, queueFrom, yes?, pieceHeld, piecesHeld, decodeAt}
 use Rattle.memory_layout.specs.Changes.{withCell, withPadBytes}
-use Rattle.memory_layout.specs.Bounds.{WordsSpan, CellsSpan, InBounds, PlainPieces, PlainBlock}
-use Rattle.memory_layout.specs.Stores.{WordsKept, CellsKept, WordsBecame, CellsBecame}
+use Rattle.memory_layout.specs.Bounds.{WordsSpan, CellsSpan, InBounds}
+use Rattle.memory_layout.specs.Stores.{WordsBecame, CellsBecame}
 use Rattle.memory_layout.proofs.TableLaws.{tabulate-nth, tabulate-set, choose-same, choose-other, choose-map}
-use Rattle.memory_layout.proofs.OffsetLaws.{piece-word-from, piece-word-below, piece-word-in, words-from, piece-cell-below, piece-cell-in}
+use Rattle.memory_layout.proofs.OffsetLaws.{piece-word-from, piece-word-below, piece-word-in, words-from, piece-cell-below}
+use Rattle.memory_layout.proofs.OffsetLaws.{piece-cell-in}
 use Rattle.memory_layout.proofs.OffsetLaws.{cells-from}
-use Rattle.memory_layout.proofs.Same.{SameHead, SamePeers, SameBlocks, beyond-same, head-same, peers-below, column-other, column-stored}
+use Rattle.memory_layout.proofs.Same.{SameHead, SamePeers, SameBlocks, beyond-same, head-same, peers-below, column-other}
+use Rattle.memory_layout.proofs.Same.{column-stored}
 use Rattle.memory_layout.proofs.Same.{column-others, blocks-below, field-stored, field-others}
 use Rattle.memory_layout.proofs.Parts.{piece-same, list-same, listing-same, extents-same}
 use Rattle.memory_layout.proofs.BoundsLaws.{partials-stay, words-became, cells-became}
@@ -52,7 +54,8 @@ pub pieces-with : (n b : ℕ) (records : List Record) (words cells : List ℕ) (
 unfolding pieceAt piecesHeld
 pieces-with n b records words cells i g h l other e =
     tabulate-set n (pieceHeld words cells n) h i l other
-    ∙ ap (λ (p : Piece). setNth i p (tabulate n (pieceHeld words cells n))) (e ∙ ap g (sym (tabulate-nth n (pieceHeld words cells n) i noPiece l)))
+    ∙ ap (λ (p : Piece). setNth i p (tabulate n (pieceHeld words cells n))) (e
+    ∙ ap g (sym (tabulate-nth n (pieceHeld words cells n) i noPiece l)))
 
 -- ---- a cell: column f of piece i
 module _ (s : Shape) (cells : List ℕ) (r : CellsSpan s cells) (f i v : ℕ) (hf : f < 4) (hi : i < s .pieces) where
@@ -80,7 +83,8 @@ module _ (s : Shape) (cells : List ℕ) (r : CellsSpan s cells) (f i v : ℕ) (h
   }
 
   at-shape : (records : List Record) (words : List ℕ) → InBounds s records words cells
-      → decodeAt (s .pieces) (s .blocks) records words afterCell ≡ withPiece i (withCell f v) (decodeAt (s .pieces) (s .blocks) records words cells)
+      → decodeAt (s .pieces) (s .blocks) records words afterCell ≡ withPiece i (withCell f v) (decodeAt (s .pieces) (s .blocks) records
+      words cells)
   unfolding withPiece withPieces piecesHeld
   at-shape records words q = λ k. record {
     totalSize = headWord words 0;
@@ -96,7 +100,8 @@ module _ (s : Shape) (cells : List ℕ) (r : CellsSpan s cells) (f i v : ℕ) (h
   }
 
   -- the column of limit m keeps it where the stored number does
-  limited : (g m : ℕ) → (f ≡ g → v ≤ m) → ((j : ℕ) → j < s .pieces → pieceCell cells (s .pieces) g j ≤ m) → (j : ℕ) → j < s .pieces → pieceCell afterCell (s .pieces) g j ≤ m
+  limited : (g m : ℕ) → (f ≡ g → v ≤ m) → ((j : ℕ) → j < s .pieces → pieceCell cells (s .pieces) g j ≤ m) → (j : ℕ) → j < s .pieces
+      → pieceCell afterCell (s .pieces) g j ≤ m
   limited g m h old j l = elim (ℕ-discrete j i) [
     | yes e ↦ rw (e, stored g) (here (ℕ-discrete f g))
     | no o ↦ rw (others g j l o) (old j l)
@@ -107,12 +112,14 @@ module _ (s : Shape) (cells : List ℕ) (r : CellsSpan s cells) (f i v : ℕ) (h
       here (no o) = rw (choose-other f g v (pieceCell cells (s .pieces) g i) o) (old i hi)
 
   -- a state has to be a state's number, and flushed 0 or 1
-  pub piece-cell-stored : (f ≡ 1 → v ≤ 6) → (f ≡ 3 → v ≤ 1) → CellsBecame s (withPiece i (withCell f v)) cells (set cells (pieceCellAt (s .pieces) f i) v)
+  pub piece-cell-stored : (f ≡ 1 → v ≤ 6) → (f ≡ 3 → v ≤ 1)
+      → CellsBecame s (withPiece i (withCell f v)) cells (set cells (pieceCellAt (s .pieces) f i) v)
   piece-cell-stored h1 h3 =
       cells-became s (withPiece i (withCell f v)) cells afterCell
       (record {
         long = length-set cells (pieceCellAt (s .pieces) f i) v;
-        beyond = beyond-same (cellsFor (s .pieces) (s .blocks)) cells (pieceCellAt (s .pieces) f i) v (omega (arith, piece-cell-below (s .pieces) f i hf hi, cells-from (s .pieces) (s .blocks)));
+        beyond = beyond-same (cellsFor (s .pieces) (s .blocks)) cells (pieceCellAt (s .pieces) f i) v
+            (omega (arith, piece-cell-below (s .pieces) f i hf hi, cells-from (s .pieces) (s .blocks)));
       })
       (λ p. record { states = limited 1 6 h1 (p .states); flushed = limited 3 1 h3 (p .flushed) })
       (λ p j l m q. record { state = rw (blocks 0 p j (omega arith) l m) (q .state); has = rw (blocks 2 p j (omega arith) l m) (q .has) })
@@ -141,7 +148,8 @@ module _ (s : Shape) (words : List ℕ) (r : WordsSpan s words) (i v : ℕ) (hi 
   }
 
   pad-at-shape : (records : List Record) (cells : List ℕ) → InBounds s records words cells
-      → decodeAt (s .pieces) (s .blocks) records afterPad cells ≡ withPiece i (withPadBytes v) (decodeAt (s .pieces) (s .blocks) records words cells)
+      → decodeAt (s .pieces) (s .blocks) records afterPad cells ≡ withPiece i (withPadBytes v) (decodeAt (s .pieces) (s .blocks) records
+      words cells)
   unfolding withPiece withPieces piecesHeld
   pad-at-shape records cells q = λ k. record {
     totalSize = heads 0 (omega arith) k;
@@ -150,10 +158,13 @@ module _ (s : Shape) (words : List ℕ) (r : WordsSpan s words) (i v : ℕ) (hi 
     cursor = heads 3 (omega arith) k;
     reverseCursor = heads 4 (omega arith) k;
     pieces = pieces-with (s .pieces) (s .blocks) records words cells i (withPadBytes v) (pieceHeld afterPad cells (s .pieces)) hi (λ j l m.
-        piece-same words afterPad cells cells (s .pieces) j (λ g o. refl) (column-others (s .pieces) words 0 i v hi 0 j l m)) (pad-with cells) k;
-    partials = partials-stay s records words cells q afterPad cells (heads 0 (omega arith)) (heads 1 (omega arith)) (heads 7 (omega arith)) peers (λ f p j h l m. refl) k;
+        piece-same words afterPad cells cells (s .pieces) j (λ g o. refl) (column-others (s .pieces) words 0 i v hi 0 j l m))
+        (pad-with cells) k;
+    partials = partials-stay s records words cells q afterPad cells (heads 0 (omega arith)) (heads 1 (omega arith)) (heads 7 (omega arith))
+        peers (λ f p j h l m. refl) k;
     recentExtents = extents-same words afterPad (heads 8 (omega arith)) (λ j l. heads (9 + j) (omega (arith, q .recentExtents))) k;
-    listing = listing-same words afterPad (s .pieces) (heads 5 (omega arith)) (list-same words afterPad (s .pieces) (heads 6 (omega arith)) (λ j l.
+    listing = listing-same words afterPad (s .pieces) (heads 5 (omega arith)) (list-same words afterPad (s .pieces) (heads 6 (omega arith))
+        (λ j l.
         column-other (s .pieces) words 0 i v hi 1 (λ e. omega arith) j (omega (arith, q .list)))) k;
   }
 
@@ -164,7 +175,9 @@ module _ (s : Shape) (words : List ℕ) (r : WordsSpan s words) (i v : ℕ) (hi 
         long = length-set words (pieceWordAt (s .pieces) 0 i) v;
         totalSize = heads 0 (omega arith);
         pieceSize = heads 1 (omega arith);
-        beyond = beyond-same (wordsFor (s .pieces) (s .blocks)) words (pieceWordAt (s .pieces) 0 i) v (omega (arith, piece-word-below (s .pieces) 0 i (omega arith) hi, words-from (s .pieces) (s .blocks)));
+        beyond = beyond-same (wordsFor (s .pieces) (s .blocks)) words (pieceWordAt (s .pieces) 0 i) v
+            (omega (arith, piece-word-below (s .pieces) 0 i (omega arith) hi, words-from (s .pieces) (s .blocks)));
       })
       (heads 7 (omega arith))
-      (λ h. rw (heads 6 (omega arith)) h) (λ h. rw (heads 5 (omega arith), heads 6 (omega arith)) h) (λ h. rw (heads 8 (omega arith)) h) (λ h. rw (heads 5 (omega arith)) h) pad-at-shape
+      (λ h. rw (heads 6 (omega arith)) h) (λ h. rw (heads 5 (omega arith), heads 6 (omega arith)) h) (λ h. rw (heads 8 (omega arith)) h)
+      (λ h. rw (heads 5 (omega arith)) h) pad-at-shape

@@ -14,11 +14,22 @@ block-cell-at-requires c κs = search needs
 
 mul-result : tie.Need-mul-result
 mul-result c =
-    omega (arith, c .block-cell-at .ensures, block-cell-in _ (c .before .before .args .cells .now) (c .before .before .pre .0) (c .before .before .args .f) (c .before .before .args .p) (c .before .before .args .j) (omega arith) (omega arith) (omega arith))
+    omega (
+      arith,
+      c .block-cell-at .ensures,
+      block-cell-in _ (c .before .before .args .cells .now) (c .before .before .pre .0)
+          (c .before .before .args .f) (c .before .before .args .p) (c .before .before .args .j) (omega arith) (omega arith) (omega arith),
+    )
 
 shared-slice-read-result : tie.Need-shared-slice-read-result
 shared-slice-read-result c =
-    omega (arith, c .before .block-cell-at .ensures, block-cell-in _ (c .before .before .before .args .cells .now) (c .before .before .before .pre .0) (c .before .before .before .args .f) (c .before .before .before .args .p) (c .before .before .before .args .j) (omega arith) (omega arith) (omega arith))
+    omega (
+      arith,
+      c .before .block-cell-at .ensures,
+      block-cell-in _ (c .before .before .before .args .cells .now)
+          (c .before .before .before .pre .0) (c .before .before .before .args .f) (c .before .before .before .args .p)
+          (c .before .before .before .args .j) (omega arith) (omega arith) (omega arith),
+    )
 
 returns : tie.Need-returns
 unfolding blockCell

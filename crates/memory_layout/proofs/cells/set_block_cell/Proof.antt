@@ -13,11 +13,21 @@ block-cell-at-requires c κs = search needs
 
 mul-cells : tie.Need-mul-cells
 mul-cells c =
-    omega (arith, c .block-cell-at .ensures, block-cell-in _ (c .before .before .args .cells .now) (c .before .before .pre .0) (c .before .before .args .f) (c .before .before .args .p) (c .before .before .args .j) (omega arith) (omega arith) (omega arith))
+    omega (
+      arith,
+      c .block-cell-at .ensures,
+      block-cell-in _ (c .before .before .args .cells .now) (c .before .before .pre .0)
+          (c .before .before .args .f) (c .before .before .args .p) (c .before .before .args .j) (omega arith) (omega arith) (omega arith),
+    )
 
 slice-write-cells : tie.Need-slice-write-cells
 slice-write-cells c =
-    omega (arith, c .block-cell-at .ensures, block-cell-in _ (c .before .before .args .cells .now) (c .before .before .pre .0) (c .before .before .args .f) (c .before .before .args .p) (c .before .before .args .j) (omega arith) (omega arith) (omega arith))
+    omega (
+      arith,
+      c .block-cell-at .ensures,
+      block-cell-in _ (c .before .before .args .cells .now) (c .before .before .pre .0)
+          (c .before .before .args .f) (c .before .before .args .p) (c .before .before .args .j) (omega arith) (omega arith) (omega arith),
+    )
 
 same-length : tie.Need-same-length
 same-length c = search needs

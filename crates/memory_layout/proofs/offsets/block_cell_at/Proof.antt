@@ -10,7 +10,13 @@ block-start-requires c κs = search needs
 
 add-result : tie.Need-add-result
 add-result c =
-    omega (arith, c .block-start .ensures, block-low _ (c .before .pre .0) (c .before .args .f) (c .before .args .p) (omega arith) (omega arith), c .before .pre .0 .wide)
+    omega (
+      arith,
+      c .block-start .ensures,
+      block-low _ (c .before .pre .0) (c .before .args .f) (c .before .args .p) (omega arith)
+          (omega arith),
+      c .before .pre .0 .wide,
+    )
 
 returns : tie.Need-returns
 returns c = block-behind _ _ _ _ _ _ (c .block-start .ensures)

@@ -14,11 +14,21 @@ peer-at-requires c κs = search needs
 
 mul-result : tie.Need-mul-result
 mul-result c =
-    omega (arith, c .peer-at .ensures, peer-in _ (c .before .before .args .words .now) (c .before .before .pre .0) (c .before .before .args .p) (c .before .before .args .j) (omega arith) (omega arith))
+    omega (
+      arith,
+      c .peer-at .ensures,
+      peer-in _ (c .before .before .args .words .now) (c .before .before .pre .0)
+          (c .before .before .args .p) (c .before .before .args .j) (omega arith) (omega arith),
+    )
 
 shared-slice-read-result : tie.Need-shared-slice-read-result
 shared-slice-read-result c =
-    omega (arith, c .before .peer-at .ensures, peer-in _ (c .before .before .before .args .words .now) (c .before .before .before .pre .0) (c .before .before .before .args .p) (c .before .before .before .args .j) (omega arith) (omega arith))
+    omega (
+      arith,
+      c .before .peer-at .ensures,
+      peer-in _ (c .before .before .before .args .words .now) (c .before .before .before .pre .0)
+          (c .before .before .before .args .p) (c .before .before .before .args .j) (omega arith) (omega arith),
+    )
 
 returns : tie.Need-returns
 unfolding peerWord

@@ -14,11 +14,22 @@ piece-word-at-requires c κs = search needs
 
 mul-result : tie.Need-mul-result
 mul-result c =
-    omega (arith, c .piece-word-at .ensures, piece-word-in _ (c .before .before .args .words .now) (c .before .before .pre .0) (c .before .before .args .f) (c .before .before .args .i) (omega arith) (omega arith))
+    omega (
+      arith,
+      c .piece-word-at .ensures,
+      piece-word-in _ (c .before .before .args .words .now) (c .before .before .pre .0)
+          (c .before .before .args .f) (c .before .before .args .i) (omega arith) (omega arith),
+    )
 
 shared-slice-read-result : tie.Need-shared-slice-read-result
 shared-slice-read-result c =
-    omega (arith, c .before .piece-word-at .ensures, piece-word-in _ (c .before .before .before .args .words .now) (c .before .before .before .pre .0) (c .before .before .before .args .f) (c .before .before .before .args .i) (omega arith) (omega arith))
+    omega (
+      arith,
+      c .before .piece-word-at .ensures,
+      piece-word-in _ (c .before .before .before .args .words .now)
+          (c .before .before .before .pre .0) (c .before .before .before .args .f) (c .before .before .before .args .i) (omega arith)
+          (omega arith),
+    )
 
 returns : tie.Need-returns
 unfolding pieceWord

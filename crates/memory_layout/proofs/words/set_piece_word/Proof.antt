@@ -13,11 +13,21 @@ piece-word-at-requires c κs = search needs
 
 mul-words : tie.Need-mul-words
 mul-words c =
-    omega (arith, c .piece-word-at .ensures, piece-word-in _ (c .before .before .args .words .now) (c .before .before .pre .0) (c .before .before .args .f) (c .before .before .args .i) (omega arith) (omega arith))
+    omega (
+      arith,
+      c .piece-word-at .ensures,
+      piece-word-in _ (c .before .before .args .words .now) (c .before .before .pre .0)
+          (c .before .before .args .f) (c .before .before .args .i) (omega arith) (omega arith),
+    )
 
 slice-write-words : tie.Need-slice-write-words
 slice-write-words c =
-    omega (arith, c .piece-word-at .ensures, piece-word-in _ (c .before .before .args .words .now) (c .before .before .pre .0) (c .before .before .args .f) (c .before .before .args .i) (omega arith) (omega arith))
+    omega (
+      arith,
+      c .piece-word-at .ensures,
+      piece-word-in _ (c .before .before .args .words .now) (c .before .before .pre .0)
+          (c .before .before .args .f) (c .before .before .args .i) (omega arith) (omega arith),
+    )
 
 same-length : tie.Need-same-length
 same-length c = search needs
