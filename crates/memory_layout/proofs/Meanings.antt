@@ -33,27 +33,33 @@ module _ (s : Shape) (records : List Record) (words cells : List ℕ) (r : InBou
   pieces-number = ap piecesIn (decode-at s records words cells r) ∙ tabulate-len (s .pieces) (pieceHeld words cells (s .pieces))
 
   module _ (i : ℕ) (h : i < s .pieces) where
+    -- piece i, from its column numbers
     pub piece-is : pieceAt (decode records words cells) i ≡ pieceHeld words cells (s .pieces) i
     unfolding pieceAt piecesHeld
     piece-is = ap (λ (d : Picker). pieceAt d i) (decode-at s records words cells r)
         ∙ tabulate-nth (s .pieces) (pieceHeld words cells (s .pieces)) i noPiece h
 
+    -- its peer count
     pub peer-count-is : pieceAt (decode records words cells) i .peerCount ≡ pieceCell cells (s .pieces) 0 i
     unfolding pieceHeld
     peer-count-is = ap (λ (p : Piece). p .peerCount) piece-is
 
+    -- its state
     pub state-is : pieceAt (decode records words cells) i .state ≡ queueFrom (pieceCell cells (s .pieces) 1 i)
     unfolding pieceHeld
     state-is = ap (λ (p : Piece). p .state) piece-is
 
+    -- its priority
     pub priority-is : pieceAt (decode records words cells) i .priority ≡ pieceCell cells (s .pieces) 2 i
     unfolding pieceHeld
     priority-is = ap (λ (p : Piece). p .priority) piece-is
 
+    -- whether it is flushed
     pub flushed-is : pieceAt (decode records words cells) i .flushed ≡ yes? (pieceCell cells (s .pieces) 3 i)
     unfolding pieceHeld
     flushed-is = ap (λ (p : Piece). p .flushed) piece-is
 
+    -- its pad bytes
     pub pad-bytes-is : pieceAt (decode records words cells) i .padBytes ≡ pieceWord words (s .pieces) 0 i
     unfolding pieceHeld
     pad-bytes-is = ap (λ (p : Piece). p .padBytes) piece-is
@@ -74,26 +80,32 @@ module _ (s : Shape) (records : List Record) (words cells : List ℕ) (r : InBou
         ap (λ (x : Picker). nth d (x .partials) k) (decode-at s records words cells r)
         ∙ tabulate-nth (headWord words 7) (λ l. partialHeld words cells (s .pieces) (s .blocks) (recordAt records l)) k d h
 
+    -- partial k, from its record and the blocks at its place
     pub partial-is : partialIn (decode records words cells) k ≡ partialHeld words cells (s .pieces) (s .blocks) (recordAt records k)
     unfolding partialIn
     partial-is = partial-nth noPartial
 
+    -- its piece
     pub partial-piece-is : partialIn (decode records words cells) k .piece ≡ recordAt records k .index
     unfolding partialHeld partialFrom
     partial-piece-is = ap (λ (d : DownloadingPiece). d .piece) partial-is
 
+    -- flag bit 1
     pub passed-is : partialIn (decode records words cells) k .passedHashCheck ≡ bitOf (recordAt records k .flags) 0
     unfolding partialHeld partialFrom
     passed-is = ap (λ (d : DownloadingPiece). d .passedHashCheck) partial-is
 
+    -- flag bit 2
     pub locked-is : partialIn (decode records words cells) k .locked ≡ bitOf (recordAt records k .flags) 1
     unfolding partialHeld partialFrom
     locked-is = ap (λ (d : DownloadingPiece). d .locked) partial-is
 
+    -- flag bit 4
     pub hashing-is : partialIn (decode records words cells) k .hashing ≡ bitOf (recordAt records k .flags) 2
     unfolding partialHeld partialFrom
     hashing-is = ap (λ (d : DownloadingPiece). d .hashing) partial-is
 
+    -- its blocks
     pub blocks-are : partialIn (decode records words cells) k .blocks ≡ blocksHeld words cells (s .pieces) (s .blocks)
         (recordAt records k .index) (recordAt records k .«info_idx»)
     unfolding partialHeld partialFrom
@@ -137,6 +149,7 @@ module _ (s : Shape) (records : List Record) (words cells : List ℕ) (r : InBou
   unfolding listingHeld
   list-is = ap (λ (d : Picker). listOf (d .listing)) (decode-at s records words cells r) ∙ list-cases (yes? (headWord words 5)) refl
 
+  -- how many places it has
   pub list-length-is : len (listOf (decode records words cells .listing)) ≡ headWord words 6
   unfolding listHeld
   list-length-is = ap len list-is ∙ tabulate-len (headWord words 6) (λ k. listedPiece (pieceWord words (s .pieces) 1 k))
@@ -153,6 +166,7 @@ module _ (s : Shape) (records : List Record) (words cells : List ℕ) (r : InBou
   unfolding extentsHeld
   extents-number = tabulate-len (headWord words 8) (λ j. headWord words (9 + j))
 
+  -- extent k
   pub extent-is : (k : ℕ) → k < headWord words 8 → nth 0 (decode records words cells .recentExtents) k ≡ headWord words (9 + k)
   unfolding extentsHeld
   extent-is k h = tabulate-nth (headWord words 8) (λ j. headWord words (9 + j)) k 0 h

@@ -89,27 +89,33 @@ cells-from n b = omega arith
 
 -- ---- no two at one offset
 module _ (n f g i j : ℕ) (hi : i < n) (hj : j < n) where
+  -- words of pieces: one column
   pub piece-word-column : pieceWordAt n f i ≡ pieceWordAt n g j → f ≡ g
   unfolding pieceWordAt
   piece-word-column e = cell-column n f g i j hi hj (omega arith)
 
+  -- and one piece
   pub piece-word-piece : pieceWordAt n f i ≡ pieceWordAt n g j → i ≡ j
   unfolding pieceWordAt
   piece-word-piece e = cell-number n f g i j hi hj (omega arith)
 
+  -- cells of pieces: one column
   pub piece-cell-column : pieceCellAt n f i ≡ pieceCellAt n g j → f ≡ g
   unfolding pieceCellAt
   piece-cell-column e = cell-column n f g i j hi hj e
 
+  -- and one piece
   pub piece-cell-piece : pieceCellAt n f i ≡ pieceCellAt n g j → i ≡ j
   unfolding pieceCellAt
   piece-cell-piece e = cell-number n f g i j hi hj e
 
 module _ (n b p q i j : ℕ) (hi : i < b) (hj : j < b) (e : peerAt n b p i ≡ peerAt n b q j) where
+  -- peers: one place
   pub peer-place : p ≡ q
   unfolding peerAt
   peer-place = cell-column b p q i j hi hj (omega arith)
 
+  -- and one block
   pub peer-block : i ≡ j
   unfolding peerAt
   peer-block = cell-number b p q i j hi hj (omega arith)
@@ -126,13 +132,16 @@ module _ (n b f g p q i j : ℕ) (hp : p < placesFor n) (hq : q < placesFor n) (
   unfolding blockCellAt
   inner = cell-number (placesFor n * b) f g (cell b p i) (cell b q j) first second (omega arith)
 
+  -- cells of blocks: one column
   pub block-cell-column : f ≡ g
   unfolding blockCellAt
   block-cell-column = cell-column (placesFor n * b) f g (cell b p i) (cell b q j) first second (omega arith)
 
+  -- one place
   pub block-cell-place : p ≡ q
   block-cell-place = cell-column b p q i j hi hj inner
 
+  -- and one block
   pub block-cell-block : i ≡ j
   block-cell-block = cell-number b p q i j hi hj inner
 
@@ -145,6 +154,7 @@ pub record Small (s : Shape) (f p : ℕ) : Type 0 where
   pub block : f * (s .places * s .blocks) ≤ 524288
   pub row : p * s .blocks ≤ 131072
 
+-- for a shape that can be
 pub small : (s : Shape) (f p : ℕ) → Sizes s → f < 4 → p ≤ s .places → Small s f p
 small s f p z h l =
     let a : s .places ≤ 512 = omega (arith, z .places ∙ places-min (s .pieces)) in
@@ -161,18 +171,23 @@ small s f p z h l =
 
 -- ---- in buffers that are long enough
 module _ (s : Shape) (words : List ℕ) (r : WordsSpan s words) where
+  -- the head
   pub head-in : 16 ≤ length words
   head-in = omega (arith, words-from (s .pieces) (s .blocks), r .long)
 
+  -- a word of a piece
   pub piece-word-in : (f i : ℕ) → f < 2 → i < s .pieces → pieceWordAt (s .pieces) f i < length words
   piece-word-in f i h l = omega (arith, piece-word-below (s .pieces) f i h l, words-from (s .pieces) (s .blocks), r .long)
 
+  -- a peer
   pub peer-in : (p j : ℕ) → p < s .places → j < s .blocks → peerAt (s .pieces) (s .blocks) p j < length words
   peer-in p j h l = omega (arith, peer-below (s .pieces) (s .blocks) p j (rw (← r .sizes .places) h) l, r .long)
 
 module _ (s : Shape) (cells : List ℕ) (r : CellsSpan s cells) where
+  -- a cell of a piece
   pub piece-cell-in : (f i : ℕ) → f < 4 → i < s .pieces → pieceCellAt (s .pieces) f i < length cells
   piece-cell-in f i h l = omega (arith, piece-cell-below (s .pieces) f i h l, cells-from (s .pieces) (s .blocks), r .long)
 
+  -- a cell of a block
   pub block-cell-in : (f p j : ℕ) → f < 3 → p < s .places → j < s .blocks → blockCellAt (s .pieces) (s .blocks) f p j < length cells
   block-cell-in f p j h l m = omega (arith, block-cell-below (s .pieces) (s .blocks) f p j h (rw (← r .sizes .places) l) m, r .long)

@@ -103,6 +103,7 @@ module _ (n : ℕ) (words : List ℕ) (f i v : ℕ) (hi : i < n) where
 
 -- ---- a store into the peers, at block j of place p
 module _ (n b : ℕ) (words : List ℕ) (p j v : ℕ) (hj : j < b) where
+  -- the peer itself
   pub peer-stored : peerAt n b p j < length words → peerWord (set words (peerAt n b p j) v) n b p j ≡ v
   unfolding peerWord
   peer-stored h = getD-set-same words (peerAt n b p j) v 0 h

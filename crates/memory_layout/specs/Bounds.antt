@@ -1,6 +1,5 @@
 -- The bounds under which the buffers may be read, one tower: a shape that can be; buffers long enough for it; what they hold in bounds.
--- Beside it
--- what the memory test asks for and `decode` forgets. Assumes nothing.
+-- Beside it what the memory test asks for and `decode` forgets. Assumes nothing.
 use Prim.Native.Nat.{ℕ, _/_, _≤_, _<_}
 use mathlib.Core.Path.{_≡_}
 use mathlib.Core.Bool.{true}

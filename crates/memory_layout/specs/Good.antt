@@ -1,6 +1,5 @@
 -- When the lent buffers hold a well-formed picker: they are long enough, their numbers are numbers that an image could hold, the list has
--- its ranks,
--- and the picker that they mean is well-formed. `lent` is the number of records lent. Assumes nothing.
+-- its ranks, and the picker that they mean is well-formed. `lent` is the number of records lent. Assumes nothing.
 use Prim.Native.Nat.{ℕ, _/_}
 use mathlib.Core.Bool.{Bool, true, false, cond, not, _&&_}
 use mathlib.Core.List.{List, []}
@@ -96,8 +95,8 @@ unfoldable pub goodBody : (records : List Record) (words cells : List ℕ) → B
 goodBody records words cells =
     goodHead records words cells
     && (goodPieces records words cells
-    && (goodPlaces records words && (goodPartials records words cells && (goodExtents records words cells && goodList records words
-    cells))))
+    && (goodPlaces records words && (goodPartials records words cells && (goodExtents records words cells
+    && goodList records words cells))))
 
 -- the refusal of the table that a test names, or what the next one says
 unfoldable pub orElse : (test : Bool) (r : Refusal) (next : Option Refusal) → Option Refusal

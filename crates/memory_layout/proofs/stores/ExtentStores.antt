@@ -49,6 +49,7 @@ module _ (s : Shape) (words words′ : List ℕ) (b : Behind s words words′) (
         (h 1 (omega arith)) (h 6 (omega arith)) (r .list)) i;
   }
 
+  -- the picker has what the words of the extents have
   pub extents-became : WordsBecame s (λ d. withRecentExtents (f (d .recentExtents)) d) words words′
   extents-became =
       words-became s (λ d. withRecentExtents (f (d .recentExtents)) d) words words′ (behind-kept s words words′ b (h 0 (omega arith))
@@ -90,6 +91,7 @@ module _ (s : Shape) (words : List ℕ) (r : WordsSpan s words) (v : ℕ) (few :
       (tabulate-ext (headWord words 8) (λ j. headWord extended (9 + j)) (λ j. headWord words (9 + j))
       (λ j l. others (9 + j) (λ e. omega arith) (λ e. omega arith))) last
 
+  -- the new extent and the number, stored
   pub extent-appended : WordsBecame s (λ d. withRecentExtents (d .recentExtents ++ (v ∷ [])) d) words
       (set (set words (9 + headWord words 8) v) 8 (headWord words 8 + 1))
   extent-appended =

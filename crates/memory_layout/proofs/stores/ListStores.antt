@@ -148,6 +148,7 @@ module _ (s : Shape) (words : List ℕ) (r : WordsSpan s words) (k : ℕ) (room 
   unfolding peerWord
   peers p j h l = high (peerAt (s .pieces) (s .blocks) p j) (peer-from (s .pieces) (s .blocks) p j)
 
+  -- all but the list stays
   pub part-beside : Beside s words putBack
   part-beside =
       record {
@@ -289,6 +290,7 @@ module _ (s : Shape) (words : List ℕ) (r : WordsSpan s words) where
   word6 : headWord marked 6 ≡ 0
   word6 = head-other (set words 6 0) 5 1 6 (λ e. omega arith) ∙ head-read words 6 0 (omega (arith, head-in s words r))
 
+  -- the picker has no list
   pub dirty-marked : WordsBecame s markDirty words (set (set words 6 0) 5 1)
   unfolding markDirty listingHeld yes?
   dirty-marked =

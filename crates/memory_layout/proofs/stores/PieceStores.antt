@@ -168,6 +168,7 @@ module _ (s : Shape) (words : List ℕ) (r : WordsSpan s words) (i v : ℕ) (hi 
         column-other (s .pieces) words 0 i v hi 1 (λ e. omega arith) j (omega (arith, q .list)))) k;
   }
 
+  -- any number
   pub pad-bytes-stored : WordsBecame s (withPiece i (withPadBytes v)) words (set words (pieceWordAt (s .pieces) 0 i) v)
   pad-bytes-stored =
       words-became s (withPiece i (withPadBytes v)) words afterPad
