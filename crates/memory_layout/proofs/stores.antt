@@ -3,3 +3,4 @@ pub mod PieceStores
 pub mod ExtentStores
 pub mod ListStores
 pub mod BlockStores
+pub mod ListFrames
