@@ -1,0 +1,12 @@
+pub mod TableLaws
+pub mod Numbers
+pub mod OffsetLaws
+pub mod ColumnLaws
+pub mod Geometry
+pub mod Same
+pub mod Parts
+pub mod BoundsLaws
+pub mod Meanings
+pub mod ReadLaws
+pub mod stores
+pub mod Cases

@@ -1,15 +1,16 @@
--- The bounds under which the buffers may be read, one tower: a shape that can be; buffers long enough for it; what they hold in bounds. Beside it
--- what the memory test asks for and `decode` forgets. Assumes nothing.
+-- The bounds under which the buffers may be read, one tower: a shape that can be; buffers long enough for it; what they hold in bounds.
+-- Beside it what the memory test asks for and `decode` forgets. Assumes nothing.
 use Prim.Native.Nat.{ℕ, _/_, _≤_, _<_}
 use mathlib.Core.Path.{_≡_}
-use mathlib.Core.Bool.{Bool, true}
+use mathlib.Core.Bool.{true}
 use mathlib.Core.List.{List}
 use lib.ListN.{length, getD}
 use Rattle.model.specs.State.{maxPieces, maxExtents, validGeometry}
 use Rattle.memory_records.specs.declared.record.DownloadingPiece.{DownloadingPiece as Record}
 use Rattle.memory_layout.specs.declared.shape.Shape.{Shape}
-use Rattle.memory_layout.specs.Offsets.{placesFor, headLength, wordsFor, cellsFor}
-use Rattle.memory_layout.specs.Decode.{headWord, pieceWord, pieceCell, blockCell, recordAt, piecesOn, blocksOn, blocksOf, yes?, rankUnit, listedPiece}
+use Rattle.memory_layout.specs.Offsets.{placesFor, wordsFor, cellsFor}
+use Rattle.memory_layout.specs.Decode.{headWord, pieceWord, pieceCell, blockCell, recordAt, piecesOn, blocksOn, blocksOf, yes?}
+use Rattle.memory_layout.specs.Decode.{rankUnit, listedPiece}
 
 -- ---- the tower
 -- the shape of a picker that can be
@@ -51,7 +52,8 @@ pub record InBounds (s : Shape) (records : List Record) (words cells : List ℕ)
   pub live : headWord words 7 ≤ length records
   pub recentExtents : headWord words 8 ≤ maxExtents
   pub placed : (k : ℕ) → k < headWord words 7 → recordAt records k .«info_idx» < s .places
-  pub apart : (k l : ℕ) → k < headWord words 7 → l < headWord words 7 → recordAt records k .«info_idx» ≡ recordAt records l .«info_idx» → k ≡ l
+  pub apart : (k l : ℕ) → k < headWord words 7 → l < headWord words 7 → recordAt records k .«info_idx» ≡ recordAt records l .«info_idx»
+      → k ≡ l
 
 -- ---- columns: the numbers of one field, as a list of their own
 -- column f of the words of n pieces

@@ -1,6 +1,6 @@
 -- The picker that stands in the three lent buffers. Assumes nothing.
--- What is not read means nothing: words 14 and 15, extents past their number, the list past its length, records behind the last, a peer beside a
--- has-peer other than 1, blocks of a place that no record has, and what lies beyond the needs.
+-- What is not read means nothing: words 14 and 15, extents past their number, the list past its length, records behind the last, a peer
+-- beside a has-peer other than 1, blocks of a place that no record has, and what lies beyond the needs.
 use Prim.Native.Nat.{ℕ, _+_, _%_}
 use mathlib.Core.Bool.{Bool, cond}
 use mathlib.Core.List.{List}

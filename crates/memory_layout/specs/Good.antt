@@ -1,5 +1,5 @@
--- When the lent buffers hold a well-formed picker: they are long enough, their numbers are numbers that an image could hold, the list has its ranks,
--- and the picker that they mean is well-formed. `lent` is the number of records lent. Assumes nothing.
+-- When the lent buffers hold a well-formed picker: they are long enough, their numbers are numbers that an image could hold, the list has
+-- its ranks, and the picker that they mean is well-formed. `lent` is the number of records lent. Assumes nothing.
 use Prim.Native.Nat.{ℕ, _/_}
 use mathlib.Core.Bool.{Bool, true, false, cond, not, _&&_}
 use mathlib.Core.List.{List, []}
@@ -15,7 +15,8 @@ use Rattle.model.specs.image.WellFormed.{headOk, piecesOk, partialsOk, extentsO
 use Rattle.memory_records.specs.declared.record.DownloadingPiece.{DownloadingPiece as Record}
 use Rattle.memory_layout.specs.Tables.{tabulate}
 use Rattle.memory_layout.specs.Offsets.{placesFor, headLength, wordsFor, cellsFor}
-use Rattle.memory_layout.specs.Decode.{headWord, pieceWord, pieceCell, blockCell, recordAt, piecesOn, blocksOn, blocksOf, rankUnit, listedPiece, decode}
+use Rattle.memory_layout.specs.Decode.{headWord, pieceWord, pieceCell, blockCell, recordAt, piecesOn, blocksOn, blocksOf, rankUnit}
+use Rattle.memory_layout.specs.Decode.{listedPiece, decode}
 
 -- ---- lengths
 -- a buffer is shorter than the geometry of the head needs
@@ -94,14 +95,16 @@ unfoldable pub goodBody : (records : List Record) (words cells : List ℕ) → B
 goodBody records words cells =
     goodHead records words cells
     && (goodPieces records words cells
-    && (goodPlaces records words && (goodPartials records words cells && (goodExtents records words cells && goodList records words cells))))
+    && (goodPlaces records words && (goodPartials records words cells && (goodExtents records words cells
+    && goodList records words cells))))
 
 -- the refusal of the table that a test names, or what the next one says
 unfoldable pub orElse : (test : Bool) (r : Refusal) (next : Option Refusal) → Option Refusal
 orElse true r next = some r
 orElse false r next = next
 
--- 2 and 3 of the table: words shorter than the head, 2; a geometry that is not valid, 3; a buffer shorter than that geometry needs, 2; then 3
+-- 2 and 3 of the table: words shorter than the head, 2; a geometry that is not valid, 3; a buffer shorter than that geometry needs, 2;
+-- then 3
 unfoldable pub memoryRefusal : (lent : ℕ) (records : List Record) (words cells : List ℕ) → Option Refusal
 memoryRefusal lent records words cells =
     orElse (ltb (length words) headLength) ShortMemory

@@ -22,8 +22,8 @@ unfoldable pub placesFor : (n : ℕ) → ℕ
 placesFor n = least n maxPartials
 
 -- ---- words
--- of the head: 0 total size, 1 piece size, 2 seeds, 3 cursor, 4 reverse cursor, 5 dirty, 6 list length, 7 number of partials, 8 number of extents,
--- 9 to 13 the extents
+-- of the head: 0 total size, 1 piece size, 2 seeds, 3 cursor, 4 reverse cursor, 5 dirty, 6 list length, 7 number of partials, 8 number of
+-- extents, 9 to 13 the extents
 abbrev pub headLength : ℕ
 headLength = 16
 

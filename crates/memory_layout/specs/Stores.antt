@@ -1,5 +1,5 @@
 -- What a store leaves. A function on one buffer says what becomes of the picker for every content of the others. Assumes nothing.
-use Prim.Native.Nat.{ℕ, _≤_}
+use Prim.Native.Nat.{ℕ, _≤_, _<_}
 use mathlib.Core.Path.{_≡_}
 use mathlib.Core.List.{List}
 use lib.ListN.{length, getD}
@@ -7,7 +7,7 @@ use Rattle.model.specs.State.{Picker}
 use Rattle.memory_records.specs.declared.record.DownloadingPiece.{DownloadingPiece as Record}
 use Rattle.memory_layout.specs.declared.shape.Shape.{Shape}
 use Rattle.memory_layout.specs.Offsets.{wordsFor, cellsFor}
-use Rattle.memory_layout.specs.Decode.{headWord, decode}
+use Rattle.memory_layout.specs.Decode.{headWord, pieceWord, decode}
 use Rattle.memory_layout.specs.Bounds.{InBounds, Plain}
 
 -- ---- the frame
@@ -22,6 +22,11 @@ pub record WordsKept (s : Shape) (entry exit : List ℕ) : Type 0 where
 pub record CellsKept (s : Shape) (entry exit : List ℕ) : Type 0 where
   pub long : length exit ≡ length entry
   pub beyond : (k : ℕ) → cellsFor (s .pieces) (s .blocks) ≤ k → getD exit k 0 ≡ getD entry k 0
+
+-- the places of the list are as they were, with the ranks in them, and as many are the list
+pub record ListKept (s : Shape) (entry exit : List ℕ) : Type 0 where
+  pub long : headWord exit 6 ≡ headWord entry 6
+  pub word : (k : ℕ) → k < s .pieces → pieceWord exit (s .pieces) 1 k ≡ pieceWord entry (s .pieces) 1 k
 
 -- ---- the picker after a store
 -- what stands in bounds is changed so, stays in bounds, and stays plain where it was
