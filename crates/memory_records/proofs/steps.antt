@@ -1,0 +1,4 @@
+pub mod Again
+pub mod Loan
+pub mod CallSteps
+pub mod RecordSteps
