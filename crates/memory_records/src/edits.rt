@@ -87,12 +87,15 @@ pub fn apply(partials: &mut [DownloadingPiece], n: usize, edit: Edit)
         Edit::Keep => {}
         Edit::Replace(d) => {
             replace(partials, n, d);
+            return;
         }
         Edit::Insert(d) => {
             insert(partials, n, d);
+            return;
         }
         Edit::Remove(piece) => {
             remove(partials, n, piece);
+            return;
         }
     }
 }
