@@ -1,2 +1,3 @@
 pub mod laws
 pub mod steps
+pub mod walks
