@@ -1,2 +1,3 @@
 pub mod SearchLaws
 pub mod LiveLaws
+pub mod EditLaws

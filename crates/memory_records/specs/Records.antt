@@ -1,8 +1,8 @@
 -- The lent records by place and by piece: searches, and one put in, taken out or replaced. Assumes nothing.
-use mathlib.Core.Bool.{Bool, true, false, cond}
+use mathlib.Core.Bool.{Bool, true, false, cond, not, _&&_, _||_}
 use Prim.Native.Nat.{ℕ, zero, suc, _+_, _-_, _<_, _≤_}
 use lib.Dec.{ltb, leb, eqb}
-use mathlib.Core.List.{List}
+use mathlib.Core.List.{List, [], _∷_}
 use lib.ListN.{length, getD, set}
 use Rattle.memory_records.specs.declared.record.DownloadingPiece.{DownloadingPiece}
 use Rattle.memory_records.specs.declared.edits.Edit.{Edit}
@@ -84,3 +84,29 @@ edited n Keep ds = ds
 edited n (Replace d) ds = replaced n d ds
 edited n (Insert d) ds = inserted n d ds
 edited n (Remove piece) ds = removed n piece ds
+
+-- ---- what the edits come to, on the live records alone
+-- by rising piece, none below `low`
+unfoldable pub risingFrom : (low : ℕ) (ds : List DownloadingPiece) → Bool
+risingFrom low [] = true
+risingFrom low (d ∷ ds) = ltb low (suc (d .index)) && risingFrom (suc (d .index)) ds
+
+-- one is of the piece
+unfoldable pub hasRecord : (piece : ℕ) (ds : List DownloadingPiece) → Bool
+hasRecord piece [] = false
+hasRecord piece (d ∷ ds) = eqb (d .index) piece || hasRecord piece ds
+
+-- d before the first of a higher piece
+unfoldable pub insertRecord : (d : DownloadingPiece) (ds : List DownloadingPiece) → List DownloadingPiece
+insertRecord d [] = d ∷ []
+insertRecord d (e ∷ es) = cond (ltb (d .index) (e .index)) (d ∷ e ∷ es) (e ∷ insertRecord d es)
+
+-- those of other pieces
+unfoldable pub withoutRecord : (piece : ℕ) (ds : List DownloadingPiece) → List DownloadingPiece
+withoutRecord piece [] = []
+withoutRecord piece (d ∷ ds) = cond (not (eqb (d .index) piece)) (d ∷ withoutRecord piece ds) (withoutRecord piece ds)
+
+-- d in the place of each of its piece
+unfoldable pub replaceRecord : (d : DownloadingPiece) (ds : List DownloadingPiece) → List DownloadingPiece
+replaceRecord d [] = []
+replaceRecord d (e ∷ es) = cond (eqb (e .index) (d .index)) d e ∷ replaceRecord d es
