@@ -51,5 +51,5 @@ unfoldable pub recordsIn : (n : ℕ) (rows : List ℕ) → List DownloadingPiece
 recordsIn n rows = recordsFrom n 0 rows
 
 -- the rows that every public call works on
-unfoldable pub rowsOf : (words : List ℕ) (ds : List DownloadingPiece) → List ℕ
+abbrev pub rowsOf : (words : List ℕ) (ds : List DownloadingPiece) → List ℕ
 rowsOf words ds = unpacked (liveRecords words) ds (replicate 1536 0)
