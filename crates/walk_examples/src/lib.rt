@@ -76,7 +76,11 @@ fn rest_core(words: &mut [u64], cells: &mut [u16], rows: &[u32], lent: usize) ->
 }
 
 #[no_mangle]
-pub extern "C" fn rest(words: &mut [u64], cells: &mut [u16], partials: &mut [DownloadingPiece]) -> u64
+pub extern "C" fn rest(
+    words: &mut [u64],
+    cells: &mut [u16],
+    partials: &mut [DownloadingPiece],
+) -> u64
     ensures { λ r. ⌜ (r ≡ 0) × (now (partials .exit) ≡ now (partials .entry)) ⌝ }
 {
     let mut rows = [0; 1536];

@@ -186,7 +186,7 @@ remove-whole : (n piece : ℕ) (ds : Records) → n ≤ length ds → hasRecord 
 unfolding hasRecord withoutFirst
 remove-whole zero piece ds h e = absurd (subst T (sym e) tt)
 remove-whole (suc n) piece [] h e = absurd (subst T (sym e) tt)
-remove-whole (suc n) piece (d ∷ ds) h e = 
+remove-whole (suc n) piece (d ∷ ds) h e =
     go (eqb (d .index) piece) e (remove-whole n piece ds (le-of-suc-le-suc h))
     ∙ ap (λ (k : ℕ). withoutFirst piece (d ∷ take n ds) ++ drop k (d ∷ ds)) (sym (one-less n))
   where
