@@ -50,7 +50,8 @@ pub fn row(rows: &[u32], k: usize) -> DownloadingPiece
 // The live records in rows. The answer is how many records were lent.
 pub fn unpack(partials: &[DownloadingPiece], live: usize, rows: &mut [u32]) -> usize
     requires { ⌜ (live ≤ 512) × (length (now rows) ≡ 1536) ⌝ }
-    ensures { λ r. ⌜ (r ≡ length (now (partials .entry))) × (now (rows .exit) ≡ unpacked live (now (partials .entry)) (now (rows .entry))) ⌝ }
+    ensures { λ r. ⌜ (r ≡ length (now (partials .entry)))
+        × (now (rows .exit) ≡ unpacked live (now (partials .entry)) (now (rows .entry))) ⌝ }
 {
     let n = least(live, partials.len());
     let mut k = 0;

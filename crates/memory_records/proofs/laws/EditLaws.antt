@@ -12,7 +12,8 @@ use Rattle.memory_records.specs.declared.record.DownloadingPiece.{Downlo
 use Rattle.memory_records.specs.declared.edits.Edit.{Edit}
 use Rattle.memory_records.specs.declared.edits.Edit.the-variants.{Keep, Replace, Insert, Remove}
 use Rattle.memory_records.specs.Records.{noRecord, placeOf, firstFrom, seekFrom, aboveFrom, openGap, closeGap, insertedAt, inserted}
-use Rattle.memory_records.specs.Records.{removedAt, removed, replaced, edited, risingFrom, hasRecord, insertRecord, withoutRecord, replaceRecord}
+use Rattle.memory_records.specs.Records.{removedAt, removed, replaced, edited, risingFrom, hasRecord, insertRecord, withoutRecord}
+use Rattle.memory_records.specs.Records.{replaceRecord}
 use Rattle.memory_records.proofs.laws.SearchLaws.{holds, fails}
 
 abbrev Records : Type 0
@@ -24,7 +25,8 @@ one-less m = omega arith
 -- ---- lengths
 length-open : (t i : ℕ) (ds : Records) → length (openGap t i ds) ≡ length ds
 length-open zero i ds = refl
-length-open (suc t) i ds = length-open t i (set ds (suc (i + t)) (getD ds (i + t) noRecord)) ∙ length-set ds (suc (i + t)) (getD ds (i + t) noRecord)
+length-open (suc t) i ds = length-open t i (set ds (suc (i + t)) (getD ds (i + t) noRecord))
+    ∙ length-set ds (suc (i + t)) (getD ds (i + t) noRecord)
 
 length-close : (t i : ℕ) (ds : Records) → length (closeGap t i ds) ≡ length ds
 length-close zero i ds = refl
@@ -96,7 +98,8 @@ open-front (suc t) ds h =
         ∙ ap (λ (x : DownloadingPiece). x ∷ drop (suc (suc t)) next) (getD-set-same ds (suc t) (getD ds t noRecord) noRecord h)
         ∙ ap (λ (l : Records). getD ds t noRecord ∷ l) (drop-set-lt (suc (suc t)) ds (suc t) (getD ds t noRecord) (omega arith))
 
-pub insert-whole : (n : ℕ) (d : DownloadingPiece) (ds : Records) → n < length ds → inserted n d ds ≡ insertRecord d (take n ds) ++ drop (suc n) ds
+pub insert-whole : (n : ℕ) (d : DownloadingPiece) (ds : Records) → n < length ds → inserted n d ds
+    ≡ insertRecord d (take n ds) ++ drop (suc n) ds
 unfolding insertRecord
 insert-whole n d [] h = absurd (nothing-there h)
   where
@@ -109,12 +112,16 @@ insert-whole (suc n) d (e ∷ es) h = go (ltb (d .index) (e .index)) (insert-who
     q = firstFrom (λ i. ltb (d .index) (getD (e ∷ es) i noRecord .index)) n 1
 
     go : (t : Bool) → inserted n d es ≡ insertRecord d (take n es) ++ drop (suc n) es
-        → insertedAt (placeOf t 0 q) (suc n) d (e ∷ es) ≡ cond {A = Records} t (d ∷ e ∷ take n es) (e ∷ insertRecord d (take n es)) ++ drop (suc n) es
-    go true again = ap (λ (k : ℕ). set (openGap k 0 (e ∷ es)) 0 d) (sub-zero (suc n)) ∙ ap (λ (l : Records). set l 0 d) (open-front (suc n) (e ∷ es) h)
+        → insertedAt (placeOf t 0 q) (suc n) d (e ∷ es) ≡ cond {A = Records} t (d ∷ e ∷ take n es) (e ∷ insertRecord d (take n es)) ++ drop
+        (suc n) es
+    go true again = ap (λ (k : ℕ). set (openGap k 0 (e ∷ es)) 0 d) (sub-zero (suc n))
+        ∙ ap (λ (l : Records). set l 0 d) (open-front (suc n) (e ∷ es) h)
     go false again =
         ap (λ (k : ℕ). insertedAt k (suc n) d (e ∷ es)) (first-past (λ i. ltb (d .index) (getD (e ∷ es) i noRecord .index)) n 0)
-        ∙ ap (λ (k : ℕ). set (openGap k (suc (aboveFrom n 0 es (d .index))) (e ∷ es)) (suc (aboveFrom n 0 es (d .index))) d) (suc-sub-suc n (aboveFrom n 0 es (d .index)))
-        ∙ ap (λ (l : Records). set l (suc (aboveFrom n 0 es (d .index))) d) (open-past (n - aboveFrom n 0 es (d .index)) (aboveFrom n 0 es (d .index)) e es)
+        ∙ ap (λ (k : ℕ). set (openGap k (suc (aboveFrom n 0 es (d .index))) (e ∷ es)) (suc (aboveFrom n 0 es (d .index))) d)
+        (suc-sub-suc n (aboveFrom n 0 es (d .index)))
+        ∙ ap (λ (l : Records). set l (suc (aboveFrom n 0 es (d .index))) d)
+        (open-past (n - aboveFrom n 0 es (d .index)) (aboveFrom n 0 es (d .index)) e es)
         ∙ ap (λ (l : Records). e ∷ l) again
 
 length-insert : (d : DownloadingPiece) (l : Records) → length (insertRecord d l) ≡ suc (length l)
@@ -122,7 +129,8 @@ unfolding insertRecord
 length-insert d [] = refl
 length-insert d (e ∷ es) = go (ltb (d .index) (e .index)) (length-insert d es)
   where
-    go : (t : Bool) → length (insertRecord d es) ≡ suc (length es) → length (cond {A = Records} t (d ∷ e ∷ es) (e ∷ insertRecord d es)) ≡ suc (suc (length es))
+    go : (t : Bool) → length (insertRecord d es) ≡ suc (length es) → length (cond {A = Records} t (d ∷ e ∷ es) (e ∷ insertRecord d es))
+        ≡ suc (suc (length es))
     go true again = refl
     go false again = ap suc again
 
@@ -130,14 +138,17 @@ length-first : (n : ℕ) (d : DownloadingPiece) (ds : Records) → n ≤ length 
 length-first n d ds h = length-insert d (take n ds) ∙ ap suc (length-take-le n ds h)
 
 -- the live records after an insert: d by its piece
-pub inserted-live : (n : ℕ) (d : DownloadingPiece) (ds : Records) → n < length ds → take (suc n) (inserted n d ds) ≡ insertRecord d (take n ds)
+pub inserted-live : (n : ℕ) (d : DownloadingPiece) (ds : Records) → n < length ds → take (suc n) (inserted n d ds)
+    ≡ insertRecord d (take n ds)
 inserted-live n d ds h =
-    ap (take (suc n)) (insert-whole n d ds h) ∙ take-at (insertRecord d (take n ds)) (drop (suc n) ds) (suc n) (length-first n d ds (omega (arith, h)))
+    ap (take (suc n)) (insert-whole n d ds h) ∙ take-at (insertRecord d (take n ds)) (drop (suc n) ds) (suc n)
+    (length-first n d ds (omega (arith, h)))
 
 -- behind them nothing moved
 pub inserted-behind : (n : ℕ) (d : DownloadingPiece) (ds : Records) → n < length ds → drop (suc n) (inserted n d ds) ≡ drop (suc n) ds
 inserted-behind n d ds h =
-    ap (drop (suc n)) (insert-whole n d ds h) ∙ drop-at (insertRecord d (take n ds)) (drop (suc n) ds) (suc n) (length-first n d ds (omega (arith, h)))
+    ap (drop (suc n)) (insert-whole n d ds h) ∙ drop-at (insertRecord d (take n ds)) (drop (suc n) ds) (suc n)
+    (length-first n d ds (omega (arith, h)))
 
 -- ---- a search among the first n
 pub seek-there : (n piece : ℕ) (ds : Records) → n ≤ length ds → hasRecord piece (take n ds) ≡ true → seekFrom n 0 ds piece < n
@@ -235,7 +246,8 @@ pub rises : (low : ℕ) (d : DownloadingPiece) (ds : Records) → risingFrom low
 unfolding risingFrom RisesBy
 rises low d ds r = go (ltb low (suc (d .index))) refl r
   where
-    go : (t : Bool) → ltb low (suc (d .index)) ≡ t → t && risingFrom (suc (d .index)) ds ≡ true → (low ≤ d .index) × (risingFrom (suc (d .index)) ds ≡ true)
+    go : (t : Bool) → ltb low (suc (d .index)) ≡ t → t && risingFrom (suc (d .index)) ds ≡ true → (low ≤ d .index)
+        × (risingFrom (suc (d .index)) ds ≡ true)
     go true eq m = (le-of-suc-le-suc (ltb→lt low (suc (d .index)) (subst T (sym eq) tt)), m)
     go false eq m = absurd (subst T (sym m) tt)
 
@@ -267,18 +279,23 @@ without-one piece low [] r = refl
 without-one piece low (d ∷ ds) r = go (eqb (d .index) piece) refl (without-one piece (suc (d .index)) ds (rises low d ds r .1))
   where
     go : (t : Bool) → eqb (d .index) piece ≡ t → withoutFirst piece ds ≡ withoutRecord piece ds
-        → cond {A = Records} t ds (d ∷ withoutFirst piece ds) ≡ cond {A = Records} (not t) (d ∷ withoutRecord piece ds) (withoutRecord piece ds)
-    go true eq again = sym (without-low piece (suc (d .index)) ds (rises low d ds r .1) (omega (arith, eqb→eq (d .index) piece (subst T (sym eq) tt))))
+        → cond {A = Records} t ds (d ∷ withoutFirst piece ds) ≡ cond {A = Records} (not t) (d ∷ withoutRecord piece ds)
+        (withoutRecord piece ds)
+    go true eq again = sym (without-low piece (suc (d .index)) ds (rises low d ds r .1)
+        (omega (arith, eqb→eq (d .index) piece (subst T (sym eq) tt))))
     go false eq again = ap (λ (l : Records). d ∷ l) again
 
-removed-there : (n piece : ℕ) (ds : Records) → n ≤ length ds → hasRecord piece (take n ds) ≡ true → removed n piece ds ≡ withoutFirst piece (take n ds) ++ drop (n - 1) ds
+removed-there : (n piece : ℕ) (ds : Records) → n ≤ length ds → hasRecord piece (take n ds) ≡ true → removed n piece ds
+    ≡ withoutFirst piece (take n ds) ++ drop (n - 1) ds
 removed-there n piece ds h e =
-    ap (λ (t : Bool). cond {A = Records} t ds (removedAt (seekFrom n 0 ds piece) n ds)) (fails (leb n (seekFrom n 0 ds piece)) inside) ∙ remove-whole n piece ds h e
+    ap (λ (t : Bool). cond {A = Records} t ds (removedAt (seekFrom n 0 ds piece) n ds)) (fails (leb n (seekFrom n 0 ds piece)) inside)
+    ∙ remove-whole n piece ds h e
   where
     inside : T (leb n (seekFrom n 0 ds piece)) → ⊥
     inside t = omega (arith, leb→le n (seekFrom n 0 ds piece) t, seek-there n piece ds h e)
 
-length-left : (n piece : ℕ) (ds : Records) → n ≤ length ds → hasRecord piece (take n ds) ≡ true → length (withoutFirst piece (take n ds)) ≡ n - 1
+length-left : (n piece : ℕ) (ds : Records) → n ≤ length ds → hasRecord piece (take n ds) ≡ true → length (withoutFirst piece (take n ds))
+    ≡ n - 1
 length-left n piece ds h e = length-without piece (take n ds) e ∙ ap (λ (k : ℕ). k - 1) (length-take-le n ds h)
 
 -- the live records after the removal of a piece that has one: those of other pieces
@@ -305,7 +322,8 @@ removed-behind n piece ds h = go (hasRecord piece (take n ds)) refl
     go : (t : Bool) → hasRecord piece (take n ds) ≡ t → drop n (removed n piece ds) ≡ drop n ds
     go true e =
         subst (λ (m : ℕ). drop m (removed n piece ds) ≡ drop m ds) some
-        (ap (drop (n - 1 + 1)) (removed-there n piece ds h e) ∙ behind-one (n - 1) (withoutFirst piece (take n ds)) ds (length-left n piece ds h e))
+        (ap (drop (n - 1 + 1)) (removed-there n piece ds h e) ∙ behind-one (n - 1) (withoutFirst piece (take n ds)) ds
+        (length-left n piece ds h e))
       where
         some : n - 1 + 1 ≡ n
         some = omega (arith, seek-there n piece ds h e)
@@ -332,10 +350,12 @@ replace-whole (suc n) d (e ∷ es) h = go (eqb (e .index) (d .index)) (replace-w
     later : (k : ℕ) (t : Bool) → leb n k ≡ t
         → cond {A = Records} (leb (suc n) (suc k)) (e ∷ es) (e ∷ set es k d) ≡ e ∷ cond {A = Records} (leb n k) es (set es k d)
     later k true b =
-        ap (λ (t : Bool). cond {A = Records} t (e ∷ es) (e ∷ set es k d)) (holds (leb (suc n) (suc k)) (le→leb (suc n) (suc k) (omega (arith, leb→le n k (subst T (sym b) tt)))))
+        ap (λ (t : Bool). cond {A = Records} t (e ∷ es) (e ∷ set es k d))
+        (holds (leb (suc n) (suc k)) (le→leb (suc n) (suc k) (omega (arith, leb→le n k (subst T (sym b) tt)))))
         ∙ ap (λ (t : Bool). e ∷ cond {A = Records} t es (set es k d)) (sym b)
     later k false b =
-        ap (λ (t : Bool). cond {A = Records} t (e ∷ es) (e ∷ set es k d)) (fails (leb (suc n) (suc k)) (λ t. subst T b (le→leb n k (le-of-suc-le-suc (leb→le (suc n) (suc k) t)))))
+        ap (λ (t : Bool). cond {A = Records} t (e ∷ es) (e ∷ set es k d))
+        (fails (leb (suc n) (suc k)) (λ t. subst T b (le→leb n k (le-of-suc-le-suc (leb→le (suc n) (suc k) t)))))
         ∙ ap (λ (t : Bool). e ∷ cond {A = Records} t es (set es k d)) (sym b)
 
     go : (t : Bool) → replaced n d es ≡ replaceFirst d (take n es) ++ drop n es
@@ -348,7 +368,8 @@ replace-whole (suc n) d (e ∷ es) h = go (eqb (e .index) (d .index)) (replace-w
         past : suc n ≤ 0 → ⊥
         past l = omega (arith, l)
     go false again =
-        ap (λ (k : ℕ). cond {A = Records} (leb (suc n) k) (e ∷ es) (set (e ∷ es) k d)) (first-past (λ i. eqb (getD (e ∷ es) i noRecord .index) (d .index)) n 0)
+        ap (λ (k : ℕ). cond {A = Records} (leb (suc n) k) (e ∷ es) (set (e ∷ es) k d))
+        (first-past (λ i. eqb (getD (e ∷ es) i noRecord .index) (d .index)) n 0)
         ∙ later (seekFrom n 0 es (d .index)) (leb n (seekFrom n 0 es (d .index))) refl
         ∙ ap (λ (l : Records). e ∷ l) again
 
@@ -357,7 +378,8 @@ unfolding replaceFirst
 length-replace d [] = refl
 length-replace d (e ∷ es) = go (eqb (e .index) (d .index)) (length-replace d es)
   where
-    go : (t : Bool) → length (replaceFirst d es) ≡ length es → length (cond {A = Records} t (d ∷ es) (e ∷ replaceFirst d es)) ≡ suc (length es)
+    go : (t : Bool) → length (replaceFirst d es) ≡ length es → length (cond {A = Records} t (d ∷ es) (e ∷ replaceFirst d es))
+        ≡ suc (length es)
     go true again = refl
     go false again = ap suc again
 
@@ -377,7 +399,8 @@ length-kept : (n : ℕ) (d : DownloadingPiece) (ds : Records) → n ≤ length d
 length-kept n d ds h = length-replace d (take n ds) ∙ length-take-le n ds h
 
 -- the live records after a replacement: d in the place of its piece's
-pub replaced-live : (n : ℕ) (d : DownloadingPiece) (ds : Records) → n ≤ length ds → risingFrom 0 (take n ds) ≡ true → take n (replaced n d ds) ≡ replaceRecord d (take n ds)
+pub replaced-live : (n : ℕ) (d : DownloadingPiece) (ds : Records) → n ≤ length ds → risingFrom 0 (take n ds) ≡ true
+    → take n (replaced n d ds) ≡ replaceRecord d (take n ds)
 replaced-live n d ds h r =
     ap (take n) (replace-whole n d ds h)
     ∙ take-at (replaceFirst d (take n ds)) (drop n ds) n (length-kept n d ds h)

@@ -37,12 +37,14 @@ below-lesser a b k ka kb = go (ltb a b)
 -- no head: no record is live
 pub live-none : (words : List ℕ) → length words < 16 → liveRecords words ≡ 0
 unfolding liveRecords
-live-none words h = ap (λ (t : Bool). cond {A = ℕ} t 0 (lesser (getD words 7 0) 512)) (holds (ltb (length words) 16) (lt→ltb (length words) 16 h))
+live-none words h = ap (λ (t : Bool). cond {A = ℕ} t 0 (lesser (getD words 7 0) 512))
+    (holds (ltb (length words) 16) (lt→ltb (length words) 16 h))
 
 pub live-head : (words : List ℕ) → 16 ≤ length words → liveRecords words ≡ lesser (getD words 7 0) 512
 unfolding liveRecords
 live-head words h =
-    ap (λ (t : Bool). cond {A = ℕ} t 0 (lesser (getD words 7 0) 512)) (fails (ltb (length words) 16) (λ l. omega (arith, ltb→lt (length words) 16 l, h)))
+    ap (λ (t : Bool). cond {A = ℕ} t 0 (lesser (getD words 7 0) 512)) (fails (ltb (length words) 16)
+    (λ l. omega (arith, ltb→lt (length words) 16 l, h)))
 
 -- where word 7 is in range it is the number
 pub live-few : (words : List ℕ) → 16 ≤ length words → getD words 7 0 ≤ 512 → liveRecords words ≡ getD words 7 0

@@ -5,12 +5,13 @@ use Prim.Native.Nat.{ℕ, zero, suc, _+_, _<_, _≤_}
 use native.Mathlib.Nat.{zero-add}
 use native.Mathlib.Omega.{arith}
 use native.Mathlib.Decide.{ℕ-discrete}
-use mathlib.Core.List.{List, [], _∷_, _++_}
+use mathlib.Core.List.{List}
 use lib.ListN.{length, getD, set, take, drop, replicate, length-set, length-replicate, getD-replicate}
-use lib.Seq.{getD-set-same, getD-set-other, drop-cons, take-suc-set, drop-set-lt, length-take-le, ext-getD, getD-take}
+use lib.Seq.{getD-set-same, getD-set-other, drop-set-lt, length-take-le, ext-getD, getD-take}
 use Rattle.memory_records.specs.declared.record.DownloadingPiece.{DownloadingPiece}
 use Rattle.memory_records.specs.Records.{noRecord}
-use Rattle.memory_records.specs.Rows.{lesser, liveRecords, rowPut, rowAt, unpackFrom, unpacked, packFrom, packed, recordsFrom, recordsIn, rowsOf}
+use Rattle.memory_records.specs.Rows.{lesser, liveRecords, rowPut, rowAt, unpackFrom, unpacked, packFrom, packed, recordsFrom}
+use Rattle.memory_records.specs.Rows.{recordsIn, rowsOf}
 use Rattle.memory_records.proofs.laws.LiveLaws.{lesser-both, below-lesser, live-most}
 
 abbrev Records : Type 0
@@ -39,18 +40,27 @@ module _ (rows : List ℕ) (k : ℕ) (d : DownloadingPiece) (h : k < 512) (long 
 
   away : (i : ℕ) → i ≢ 1024 + k → i ≢ 512 + k → i ≢ k → getD (set two (1024 + k) (d .flags)) i 0 ≡ getD rows i 0
   away i x y z =
-      getD-set-other two (1024 + k) i (d .flags) 0 x ∙ getD-set-other one (512 + k) i (d .«info_idx») 0 y ∙ getD-set-other rows k i (d .index) 0 z
+      getD-set-other two (1024 + k) i (d .flags) 0 x ∙ getD-set-other one (512 + k) i (d .«info_idx») 0 y
+      ∙ getD-set-other rows k i (d .index) 0 z
 
   -- the row holds the record
   pub put-here : rowAt (rowPut rows k d) k ≡ d
   unfolding rowAt rowPut
   put-here =
       three
-      (getD-set-other two (1024 + k) k (d .flags) 0 (λ e. omega (arith, e)) ∙ getD-set-other one (512 + k) k (d .«info_idx») 0 (λ e. omega (arith, e))
+      (getD-set-other two (1024 + k) k (d .flags) 0 (λ e. omega (arith, e))
+      ∙ getD-set-other one (512 + k) k (d .«info_idx») 0 (λ e. omega (arith, e))
       ∙ getD-set-same rows k (d .index) 0 (omega (arith, h, long)))
       (getD-set-other two (1024 + k) (512 + k) (d .flags) 0 (λ e. omega (arith, e))
       ∙ getD-set-same one (512 + k) (d .«info_idx») 0 (omega (arith, h, long, length-set rows k (d .index))))
-      (getD-set-same two (1024 + k) (d .flags) 0 (omega (arith, h, long, length-set rows k (d .index), length-set one (512 + k) (d .«info_idx»))))
+      (getD-set-same two (1024 + k) (d .flags) 0 (omega (
+        arith,
+        h,
+        long,
+        length-set rows k (d .index),
+        length-set one (512 + k)
+            (d .«info_idx»),
+      )))
 
   -- and the others are as they were
   pub put-other : (j : ℕ) → j < 512 → j ≢ k → rowAt (rowPut rows k d) j ≡ rowAt rows j
@@ -79,16 +89,19 @@ unfolding unpacked
 length-unpacked live ds rows = length-from (lesser live (length ds)) 0 ds rows
 
 -- rows before k and from k + t on stay as they are
-stays : (t k : ℕ) (ds : Records) (rows : List ℕ) → k + t ≤ 512 → length rows ≡ 1536 → (j : ℕ) → j < 512 → (k ≤ j → k + t ≤ j) → rowAt (unpackFrom t k ds rows) j ≡ rowAt rows j
+stays : (t k : ℕ) (ds : Records) (rows : List ℕ) → k + t ≤ 512 → length rows ≡ 1536 → (j : ℕ) → j < 512 → (k ≤ j → k + t ≤ j)
+    → rowAt (unpackFrom t k ds rows) j ≡ rowAt rows j
 stays zero k ds rows b long j l out = refl
 stays (suc t) k ds rows b long j l out =
-    stays t (suc k) ds (rowPut rows k (getD ds k noRecord)) (omega (arith, b)) (length-put rows k (getD ds k noRecord) ∙ long) j l (λ h. omega (arith, out (omega (arith, h))))
+    stays t (suc k) ds (rowPut rows k (getD ds k noRecord)) (omega (arith, b)) (length-put rows k (getD ds k noRecord) ∙ long) j l
+    (λ h. omega (arith, out (omega (arith, h))))
     ∙ put-other rows k (getD ds k noRecord) (omega (arith, b)) long j l other
   where
     other : j ≢ k
     other e = omega (arith, e, out (omega (arith, e)))
 
-reads : (t k : ℕ) (ds : Records) (rows : List ℕ) → k + t ≤ 512 → length rows ≡ 1536 → (j : ℕ) → k ≤ j → j < k + t → rowAt (unpackFrom t k ds rows) j ≡ getD ds j noRecord
+reads : (t k : ℕ) (ds : Records) (rows : List ℕ) → k + t ≤ 512 → length rows ≡ 1536 → (j : ℕ) → k ≤ j → j < k + t
+    → rowAt (unpackFrom t k ds rows) j ≡ getD ds j noRecord
 reads zero k ds rows b long j l h = absurd (none-left l h)
   where
     none-left : k ≤ j → j < k + 0 → ⊥
@@ -96,11 +109,13 @@ reads zero k ds rows b long j l h = absurd (none-left l h)
 reads (suc t) k ds rows b long j l h = elim (ℕ-discrete k j) [
   | yes e ↦ (
       subst (λ (i : ℕ). rowAt (unpackFrom t (suc k) ds (rowPut rows k (getD ds k noRecord))) i ≡ getD ds i noRecord) e
-      (stays t (suc k) ds (rowPut rows k (getD ds k noRecord)) (omega (arith, b)) (length-put rows k (getD ds k noRecord) ∙ long) k (omega (arith, b)) (λ m. omega (arith, m))
+      (stays t (suc k) ds (rowPut rows k (getD ds k noRecord)) (omega (arith, b)) (length-put rows k (getD ds k noRecord) ∙ long) k
+      (omega (arith, b)) (λ m. omega (arith, m))
       ∙ put-here rows k (getD ds k noRecord) (omega (arith, b)) long)
       )
   | no ne ↦ (
-      reads t (suc k) ds (rowPut rows k (getD ds k noRecord)) (omega (arith, b)) (length-put rows k (getD ds k noRecord) ∙ long) j (next ne l) (omega (arith, h))
+      reads t (suc k) ds (rowPut rows k (getD ds k noRecord)) (omega (arith, b)) (length-put rows k (getD ds k noRecord) ∙ long) j
+      (next ne l) (omega (arith, h))
       )
 ]
   where
@@ -111,13 +126,16 @@ reads (suc t) k ds rows b long j l h = elim (ℕ-discrete k j) [
     ]
 
 -- row j of the unpacked records is the record at place j
-pub unpacked-at : (live : ℕ) (ds : Records) (rows : List ℕ) → live ≤ 512 → length rows ≡ 1536 → (j : ℕ) → j < live → j < length ds → rowAt (unpacked live ds rows) j ≡ getD ds j noRecord
+pub unpacked-at : (live : ℕ) (ds : Records) (rows : List ℕ) → live ≤ 512 → length rows ≡ 1536 → (j : ℕ) → j < live → j < length ds
+    → rowAt (unpacked live ds rows) j ≡ getD ds j noRecord
 unfolding unpacked
 unpacked-at live ds rows small long j l h =
-    reads (lesser live (length ds)) 0 ds rows (omega (arith, small, lesser-both live (length ds) .0)) long j (omega arith) (omega (arith, below-lesser live (length ds) (suc j) l h))
+    reads (lesser live (length ds)) 0 ds rows (omega (arith, small, lesser-both live (length ds) .0)) long j (omega arith)
+    (omega (arith, below-lesser live (length ds) (suc j) l h))
 
 -- rows past the last of them stay as they are
-pub unpacked-beyond : (live : ℕ) (ds : Records) (rows : List ℕ) → live ≤ 512 → length rows ≡ 1536 → (j : ℕ) → j < 512 → lesser live (length ds) ≤ j → rowAt (unpacked live ds rows) j ≡ rowAt rows j
+pub unpacked-beyond : (live : ℕ) (ds : Records) (rows : List ℕ) → live ≤ 512 → length rows ≡ 1536 → (j : ℕ) → j < 512
+    → lesser live (length ds) ≤ j → rowAt (unpacked live ds rows) j ≡ rowAt rows j
 unfolding unpacked
 unpacked-beyond live ds rows small long j l h =
     stays (lesser live (length ds)) 0 ds rows (omega (arith, small, lesser-both live (length ds) .0)) long j l (λ m. omega (arith, h))
@@ -150,11 +168,14 @@ unfolding recordsIn
 records-at n rows j h = run-at n 0 rows j h ∙ ap (rowAt rows) (zero-add j)
 
 -- the first k rows of the unpacked records are the first k records
-pub records-unpacked : (live : ℕ) (ds : Records) (rows : List ℕ) (k : ℕ) → live ≤ 512 → length rows ≡ 1536 → k ≤ live → k ≤ length ds → recordsIn k (unpacked live ds rows) ≡ take k ds
+pub records-unpacked : (live : ℕ) (ds : Records) (rows : List ℕ) (k : ℕ) → live ≤ 512 → length rows ≡ 1536 → k ≤ live → k ≤ length ds
+    → recordsIn k (unpacked live ds rows) ≡ take k ds
 records-unpacked live ds rows k small long l h =
-    ext-getD noRecord (recordsIn k (unpacked live ds rows)) (take k ds) (length-records k (unpacked live ds rows) ∙ sym (length-take-le k ds h)) same
+    ext-getD noRecord (recordsIn k (unpacked live ds rows)) (take k ds)
+    (length-records k (unpacked live ds rows) ∙ sym (length-take-le k ds h)) same
   where
-    same : (j : ℕ) → j < length (recordsIn k (unpacked live ds rows)) → getD (recordsIn k (unpacked live ds rows)) j noRecord ≡ getD (take k ds) j noRecord
+    same : (j : ℕ) → j < length (recordsIn k (unpacked live ds rows)) → getD (recordsIn k (unpacked live ds rows)) j noRecord
+        ≡ getD (take k ds) j noRecord
     same j m = go (subst (λ (n : ℕ). j < n) (length-records k (unpacked live ds rows)) m)
       where
         go : j < k → getD (recordsIn k (unpacked live ds rows)) j noRecord ≡ getD (take k ds) j noRecord
@@ -165,7 +186,8 @@ records-unpacked live ds rows k small long l h =
 
 -- the same of the rows that a public call works on
 pub records-of : (words : List ℕ) (ds : Records) (k : ℕ) → k ≤ liveRecords words → k ≤ length ds → recordsIn k (rowsOf words ds) ≡ take k ds
-records-of words ds k l h = records-unpacked (liveRecords words) ds (replicate 1536 0) k (live-most words) (length-replicate {A = ℕ} 1536 0) l h
+records-of words ds k l h = records-unpacked (liveRecords words) ds (replicate 1536 0) k (live-most words) (length-replicate {A = ℕ} 1536 0)
+    l h
 
 pub length-rows : (words : List ℕ) (ds : Records) → length (rowsOf words ds) ≡ 1536
 length-rows words ds = length-unpacked (liveRecords words) ds (replicate 1536 0) ∙ length-replicate {A = ℕ} 1536 0
@@ -179,15 +201,18 @@ pub length-packed : (n : ℕ) (rows : List ℕ) (ds : Records) → length (packe
 unfolding packed
 length-packed n rows ds = length-packs n 0 rows ds
 
-packs-other : (t k : ℕ) (rows : List ℕ) (ds : Records) (j : ℕ) → (k ≤ j → k + t ≤ j) → getD (packFrom t k rows ds) j noRecord ≡ getD ds j noRecord
+packs-other : (t k : ℕ) (rows : List ℕ) (ds : Records) (j : ℕ) → (k ≤ j → k + t ≤ j) → getD (packFrom t k rows ds) j noRecord
+    ≡ getD ds j noRecord
 packs-other zero k rows ds j out = refl
 packs-other (suc t) k rows ds j out =
-    packs-other t (suc k) rows (set ds k (rowAt rows k)) j (λ h. omega (arith, out (omega (arith, h)))) ∙ getD-set-other ds k j (rowAt rows k) noRecord other
+    packs-other t (suc k) rows (set ds k (rowAt rows k)) j (λ h. omega (arith, out (omega (arith, h))))
+    ∙ getD-set-other ds k j (rowAt rows k) noRecord other
   where
     other : j ≢ k
     other e = omega (arith, e, out (omega (arith, e)))
 
-packs-at : (t k : ℕ) (rows : List ℕ) (ds : Records) (j : ℕ) → k + t ≤ length ds → k ≤ j → j < k + t → getD (packFrom t k rows ds) j noRecord ≡ rowAt rows j
+packs-at : (t k : ℕ) (rows : List ℕ) (ds : Records) (j : ℕ) → k + t ≤ length ds → k ≤ j → j < k + t → getD (packFrom t k rows ds) j noRecord
+    ≡ rowAt rows j
 packs-at zero k rows ds j b l h = absurd (none-left l h)
   where
     none-left : k ≤ j → j < k + 0 → ⊥
@@ -195,9 +220,11 @@ packs-at zero k rows ds j b l h = absurd (none-left l h)
 packs-at (suc t) k rows ds j b l h = elim (ℕ-discrete k j) [
   | yes e ↦ (
       subst (λ (i : ℕ). getD (packFrom t (suc k) rows (set ds k (rowAt rows k))) i noRecord ≡ rowAt rows i) e
-      (packs-other t (suc k) rows (set ds k (rowAt rows k)) k (λ m. omega (arith, m)) ∙ getD-set-same ds k (rowAt rows k) noRecord (omega (arith, b)))
+      (packs-other t (suc k) rows (set ds k (rowAt rows k)) k (λ m. omega (arith, m))
+      ∙ getD-set-same ds k (rowAt rows k) noRecord (omega (arith, b)))
       )
-  | no ne ↦ packs-at t (suc k) rows (set ds k (rowAt rows k)) j (omega (arith, b, length-set ds k (rowAt rows k))) (next ne l) (omega (arith, h))
+  | no ne ↦ packs-at t (suc k) rows (set ds k (rowAt rows k)) j (omega (arith, b, length-set ds k (rowAt rows k))) (next ne l)
+      (omega (arith, h))
 ]
   where
     next : k ≢ j → k ≤ j → suc k ≤ j
@@ -214,7 +241,8 @@ packed-live n rows ds h = ext-getD noRecord (take n (packFrom n 0 rows ds)) (rec
     long : length (take n (packFrom n 0 rows ds)) ≡ n
     long = length-take-le n (packFrom n 0 rows ds) (omega (arith, h, length-packs n 0 rows ds))
 
-    same : (j : ℕ) → j < length (take n (packFrom n 0 rows ds)) → getD (take n (packFrom n 0 rows ds)) j noRecord ≡ getD (recordsIn n rows) j noRecord
+    same : (j : ℕ) → j < length (take n (packFrom n 0 rows ds)) → getD (take n (packFrom n 0 rows ds)) j noRecord
+        ≡ getD (recordsIn n rows) j noRecord
     same j m = go (subst (λ (k : ℕ). j < k) long m)
       where
         go : j < n → getD (take n (packFrom n 0 rows ds)) j noRecord ≡ getD (recordsIn n rows) j noRecord

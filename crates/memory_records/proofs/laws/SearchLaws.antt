@@ -2,11 +2,9 @@
 use mathlib.Core.Path.{_≡_, refl, ap, subst}
 use Prim.Native.Nat.{ℕ, zero, suc, _+_, _<_, _≤_}
 use mathlib.Core.Bool.{Bool, true, false, not}
-use mathlib.Core.List.{List}
 use native.Mathlib.Omega.{arith}
 use native.Mathlib.Nat.{zero-add, lt-irrefl, lt-of-lt-of-le}
 use lib.Dec.{T, ltb, lt→ltb, ltb→lt}
-use Rattle.memory_records.specs.declared.search.Found.{Found}
 use Rattle.memory_records.specs.declared.search.Found.the-variants.{At, Nothing}
 use Rattle.memory_records.specs.Records.{placeOf, firstFrom, choiceOf, answerOf}
 

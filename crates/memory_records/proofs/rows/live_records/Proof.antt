@@ -1,7 +1,6 @@
 -- `rows::live_records` meets its contract: no head, a number in range, one that is capped. Assumes nothing.
 use mathlib.Core.Path.{sym, _∙_}
 use borrow.Author.Needs.{needs}
-use lib.ListN.{getD}
 use Rattle.memory_records.proofs.laws.LiveLaws.{lesser-left, lesser-right, live-none, live-head}
 use Rattle.memory_records.proofs.rows.live_records.Statement.{statement}
 use Rattle.memory_records.proofs.rows.live_records.Tie as tie

@@ -32,7 +32,14 @@ slice-write-rows-3 : tie.Need-slice-write-rows-3
 slice-write-rows-3 c =
     let a = c .args in
     let h = c .pre in
-    omega (arith, h .0, h .1, length-set (a .rows .now) (a .k) (a .d .index), length-set (set (a .rows .now) (a .k) (a .d .index)) (512 + a .k) (a .d .«info_idx»))
+    omega (
+      arith,
+      h .0,
+      h .1,
+      length-set (a .rows .now) (a .k) (a .d .index),
+      length-set (set (a .rows .now) (a .k) (a .d .index))
+          (512 + a .k) (a .d .«info_idx»),
+    )
 
 same-length : tie.Need-same-length
 same-length c = search needs
