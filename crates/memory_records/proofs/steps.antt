@@ -1,3 +1,4 @@
+pub mod Code
 pub mod Again
 pub mod Loan
 pub mod CallSteps

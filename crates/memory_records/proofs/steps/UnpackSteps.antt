@@ -23,7 +23,7 @@ use types.SemTy.{cells, Arr}
 use types.Tokens.{lft-new, lft-end}
 use types.Run.{Opd, Opds}
 use sound.WpLaws.{FmC}
-use denote.Memory.{pointee, mem, shares, cellAt, partAt, partOf}
+use denote.Memory.{mem, shares, cellAt, partAt, partOf}
 use denote.Laws.{Is, shows}
 use denote.Shadow.{shadow}
 use denote.Plain.{uint-vals, uint-tells, uint-makes}
@@ -48,12 +48,6 @@ use Rattle.memory_records.proofs.steps.Loan.{LentShared, lends-shared, 
 use Rattle.memory_records.proofs.rows.unpack as unpack
 use Rattle.memory_records.proofs.rows.unpack.Symbol.{name as #unpack}
 use Rattle.memory_records.proofs.edits.Edit as E
-
-abbrev pub word : Ty
-word = tyInt w64
-
-abbrev pub rec : Ty
-rec = pointee (T.the-row .written)
 
 -- a constant whose bound is shown by a proof
 pub big : {K : Type 0} → K → {M : Type 1} (𝓤 : URA M) (H : Heap 𝓤) (A : Atoms 𝓤) (W : Given 𝓤 H A) {Γ : List (Item 𝓤)} {E : Env 𝓤 H}

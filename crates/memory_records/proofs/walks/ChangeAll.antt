@@ -67,8 +67,8 @@ use Rattle.memory_records.proofs.edits.Edit as Ed
 use Rattle.memory_records.proofs.edits.Edit.Laws as Ed′
 use Rattle.memory_records.proofs.edits.apply as apply
 use Rattle.memory_records.proofs.edits.apply.Symbol.{name as #apply}
-use Rattle.memory_records.proofs.steps.UnpackSteps.{big, word, rec, values, zeros-values, zeros-are, zeros-are′, cells-ty, Rows}
-use Rattle.memory_records.proofs.steps.UnpackSteps.{apart, together, Unpack, unpack-call}
+use Rattle.memory_records.proofs.steps.UnpackSteps.{big, values, zeros-values, zeros-are, zeros-are′, cells-ty, Rows, apart}
+use Rattle.memory_records.proofs.steps.UnpackSteps.{together, Unpack, unpack-call}
 use contract.Running.{GhostRules, Running, MachineTables, givenOf, tables, tablesOf}
 use denote.Triple.Table.{entered, cited}
 use Rattle.memory_records.proofs.rows.unpack.Symbol as unpack-def
@@ -82,6 +82,7 @@ use Rattle.memory_records.proofs.steps.LiveSteps.{Live, live-call}
 use Rattle.memory_records.proofs.rows.live_records.Symbol as live-def
 use Rattle.memory_records.proofs.rows.live_records.Symbol.{name as #live}
 use Rattle.memory_records.proofs.rows.live_records.Met as live-thm
+use Rattle.memory_records.proofs.steps.Code.{word, rec}
 
 module _ (size : ℕ) (Rs : RattleType) where
   abbrev pub coreEnded : Ended

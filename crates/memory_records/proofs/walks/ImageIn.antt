@@ -61,8 +61,8 @@ use Rattle.memory_records.specs.Rows.{unpacked, liveRecords, packed}
 use Rattle.memory_records.proofs.record.DownloadingPiece as T
 use Rattle.memory_records.proofs.record.DownloadingPiece.Laws as T′
 use Rattle.memory_records.proofs.rows.unpack.Symbol.{name as #unpack}
-use Rattle.memory_records.proofs.steps.UnpackSteps.{big, word, rec, values, zeros-values, zeros-are, zeros-are′, cells-ty, Rows}
-use Rattle.memory_records.proofs.steps.UnpackSteps.{apart, together, Unpack, unpack-call}
+use Rattle.memory_records.proofs.steps.UnpackSteps.{big, values, zeros-values, zeros-are, zeros-are′, cells-ty, Rows, apart}
+use Rattle.memory_records.proofs.steps.UnpackSteps.{together, Unpack, unpack-call}
 use contract.Running.{GhostRules, Running, MachineTables, givenOf, tables, tablesOf}
 use denote.Triple.Table.{entered, cited}
 use Rattle.memory_records.proofs.rows.unpack.Symbol as unpack-def
@@ -78,6 +78,7 @@ use Rattle.memory_records.proofs.rows.pack as pack
 use Rattle.memory_records.proofs.rows.pack.Symbol as pack-def
 use Rattle.memory_records.proofs.rows.pack.Symbol.{name as #pack}
 use Rattle.memory_records.proofs.rows.pack.Met as pack-thm
+use Rattle.memory_records.proofs.steps.Code.{word, rec}
 
 module _ (size : ℕ) (Rs : RattleType) where
   abbrev pub coreEnded : Ended
