@@ -1,12 +1,10 @@
--- The types of the examples' arguments and answers, as the walks ask for them.
+-- The types of the examples' arguments and answers, as the walks ask for them. Assumes nothing.
 use mathlib.Core.Path.{refl}
 use mir.Syntax.{w64}
 use denote.Struct.Laws as LL
 use Rattle.memory_records.proofs.steps.Values.{Value, Stepped, Counted, number}
 use Rattle.walk_examples.proofs.Ask as Q
 use Rattle.walk_examples.proofs.Ask.Laws as Q′
-use Rattle.walk_examples.proofs.Picked as P
-use Rattle.walk_examples.proofs.Picked.Laws as P′
 use Rattle.walk_examples.proofs.Step as S
 use Rattle.walk_examples.proofs.Step.Laws as S′
 use Rattle.walk_examples.proofs.Read as R
@@ -22,18 +20,6 @@ ask = record {
   silent = λ x f. refl;
   last = λ x. tt;
   makes = λ 𝓤 H A W. LL.makes Q.the-type Q′.the-plain 𝓤 H A;
-}
-
-abbrev pub picked : Value
-picked = record {
-  row = P.the-row;
-  mir = P′.mir;
-  val = P′.lowered;
-  tells = LL.tells P.the-type P′.the-laws;
-  typed = λ 𝓤 H A W a p. LL.lawful P.the-type P′.the-laws 𝓤 H A W .typed a _ p .0;
-  silent = λ x f. refl;
-  last = λ x. tt;
-  makes = λ 𝓤 H A W. LL.makes P.the-type P′.the-plain 𝓤 H A;
 }
 
 abbrev pub step : Stepped (number w64)
