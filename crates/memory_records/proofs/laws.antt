@@ -1,0 +1,4 @@
+pub mod SearchLaws
+pub mod LiveLaws
+pub mod EditLaws
+pub mod RowLaws

@@ -1,0 +1,101 @@
+// Edits of the first n records by piece. Each keeps the order; what stands behind the last live record means nothing.
+ghost use mathlib.Core.Path.{_≡_};
+ghost use Prim.Native.Nat.{_-_, _<_, _≤_};
+ghost use lib.ListN.{length};
+ghost use Rattle.memory_records.specs.Records.{openGap, closeGap, inserted, removed, replaced, EditFits, edited};
+use crate::record::DownloadingPiece;
+use crate::record::get;
+use crate::record::put;
+use crate::search::position;
+use crate::search::seek;
+
+// What a call does to the records: one replaced, one put in, or that of a piece taken out.
+pub enum Edit {
+    Keep,
+    Replace(DownloadingPiece),
+    Insert(DownloadingPiece),
+    Remove(u32),
+}
+
+// The records from i to n - 1 go up by one place.
+pub fn open_gap(partials: &mut [DownloadingPiece], i: usize, n: usize)
+    requires { ⌜ (i ≤ n) × (n < length (now partials)) ⌝ }
+    ensures { λ _. ⌜ now (partials .exit) ≡ openGap (n - i) i (now (partials .entry)) ⌝ }
+{
+    let mut k = n;
+    while i < k {
+        let d = get(partials, k - 1);
+        put(partials, k, d);
+        k = k - 1;
+    }
+}
+
+// The records after i, up to last, go down by one place.
+pub fn close_gap(partials: &mut [DownloadingPiece], i: usize, last: usize)
+    requires { ⌜ (i ≤ last) × (last < length (now partials)) ⌝ }
+    ensures { λ _. ⌜ now (partials .exit) ≡ closeGap (last - i) i (now (partials .entry)) ⌝ }
+{
+    let mut k = i;
+    while k < last {
+        let d = get(partials, k + 1);
+        put(partials, k, d);
+        k = k + 1;
+    }
+}
+
+// d among the first n, before those of higher pieces.
+pub fn insert(partials: &mut [DownloadingPiece], n: usize, d: DownloadingPiece)
+    requires { ⌜ n < length (now partials) ⌝ }
+    ensures { λ _. ⌜ now (partials .exit) ≡ inserted n d (now (partials .entry)) ⌝ }
+{
+    let q = position(partials, n, d.index);
+    open_gap(partials, q, n);
+    put(partials, q, d);
+}
+
+// The piece's record out of the first n: those after it go down by one place.
+pub fn remove(partials: &mut [DownloadingPiece], n: usize, piece: u32)
+    requires { ⌜ n ≤ length (now partials) ⌝ }
+    ensures { λ _. ⌜ now (partials .exit) ≡ removed n piece (now (partials .entry)) ⌝ }
+{
+    let q = seek(partials, n, piece);
+    if n <= q {
+        return;
+    }
+    let last = n - 1;
+    close_gap(partials, q, last);
+}
+
+// d in the place of its piece's record among the first n.
+pub fn replace(partials: &mut [DownloadingPiece], n: usize, d: DownloadingPiece)
+    requires { ⌜ n ≤ length (now partials) ⌝ }
+    ensures { λ _. ⌜ now (partials .exit) ≡ replaced n d (now (partials .entry)) ⌝ }
+{
+    let q = seek(partials, n, d.index);
+    if n <= q {
+        return;
+    }
+    put(partials, q, d);
+}
+
+// One edit of the first n.
+pub fn apply(partials: &mut [DownloadingPiece], n: usize, edit: Edit)
+    requires { ⌜ EditFits n edit (now partials) ⌝ }
+    ensures { λ _. ⌜ now (partials .exit) ≡ edited n edit (now (partials .entry)) ⌝ }
+{
+    match edit {
+        Edit::Keep => {}
+        Edit::Replace(d) => {
+            replace(partials, n, d);
+            return;
+        }
+        Edit::Insert(d) => {
+            insert(partials, n, d);
+            return;
+        }
+        Edit::Remove(piece) => {
+            remove(partials, n, piece);
+            return;
+        }
+    }
+}

@@ -1,0 +1,61 @@
+// The place of a piece's record among the first n, and the place where a record of a piece belongs.
+ghost use mathlib.Core.Path.{_≡_};
+ghost use Prim.Native.Nat.{_≤_};
+ghost use lib.ListN.{length};
+ghost use Rattle.memory_records.specs.Records.{answerOf, seekFrom, aboveFrom};
+use crate::record::DownloadingPiece;
+use crate::record::get;
+
+// The place of a record, or none.
+pub enum Found {
+    At(usize),
+    Nothing,
+}
+
+// What a search answers that stopped at place k of n.
+fn answer(k: usize, n: usize) -> Found
+    ensures { λ r. ⌜ r ≡ answerOf k n ⌝ }
+{
+    if k < n { Found::At(k) } else { Found::Nothing }
+}
+
+// The place of the piece's record among the first n, or n.
+pub fn seek(partials: &[DownloadingPiece], n: usize, piece: u32) -> usize
+    requires { ⌜ n ≤ length (now partials) ⌝ }
+    ensures { λ r. ⌜ r ≡ seekFrom n 0 (now (partials .entry)) piece ⌝ }
+{
+    let mut k = 0;
+    while k < n {
+        let d = get(partials, k);
+        if d.index == piece {
+            break;
+        }
+        k = k + 1;
+    }
+    k
+}
+
+// The place of the first of n records that is of a higher piece, or n.
+pub fn position(partials: &[DownloadingPiece], n: usize, piece: u32) -> usize
+    requires { ⌜ n ≤ length (now partials) ⌝ }
+    ensures { λ r. ⌜ r ≡ aboveFrom n 0 (now (partials .entry)) piece ⌝ }
+{
+    let mut k = 0;
+    while k < n {
+        let d = get(partials, k);
+        if piece < d.index {
+            break;
+        }
+        k = k + 1;
+    }
+    k
+}
+
+// The place of the piece's record among the first n.
+pub fn find(partials: &[DownloadingPiece], n: usize, piece: u32) -> Found
+    requires { ⌜ n ≤ length (now partials) ⌝ }
+    ensures { λ r. ⌜ r ≡ answerOf (seekFrom n 0 (now (partials .entry)) piece) n ⌝ }
+{
+    let k = seek(partials, n, piece);
+    answer(k, n)
+}

@@ -1,0 +1,1 @@
+"""What `tools/walks.py` writes the walks of public calls with."""
