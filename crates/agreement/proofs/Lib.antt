@@ -1,2 +1,3 @@
 pub mod CasesHold
 pub mod Term3Holds
+pub mod complete

@@ -1,2 +1,3 @@
 pub mod Cases
 pub mod Term3
+pub mod Complete
