@@ -1,2 +1,3 @@
 pub mod Reaching
 pub mod Giving
+pub mod Standing
