@@ -1,3 +1,4 @@
 pub mod Reaching
 pub mod Giving
 pub mod Standing
+pub mod Taking
