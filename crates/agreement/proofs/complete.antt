@@ -2,3 +2,5 @@ pub mod Reaching
 pub mod Giving
 pub mod Standing
 pub mod Taking
+pub mod Quiet
+pub mod Waiting

@@ -12,13 +12,17 @@ use lib.ListN.{length, length-append, take}
 use lib.Seq.{take-length}
 use lib.Dec.{eqb, leb}
 use borrow.Author.Tests.{eqb-true, eq-eqb, leb-true, le-leb, lt-leb}
-use Rattle.model.specs.Lists.{least, any, each, len}
-use Rattle.model.specs.State.{DownloadingPiece, Picker}
+use Rattle.model.specs.Lists.{least, any, from, each, len, walk}
+use Rattle.model.specs.State.{DownloadingPiece, Picker, payloadBlocksInPiece}
 use Rattle.model.specs.pick.Blocks.{PickRequest, Contiguous, PieceBlock, PickState, spent, withOut, withContiguous, withBackup, withPicker, ignore}
 use Rattle.model.specs.pick.Blocks.{flagged, steps, shorter, pieceBlock, took, freeFrom, enoughAside, setAside, appendBlocks}
-use Rattle.model.specs.Options.{randLoops}
+use Rattle.model.specs.pick.Blocks.{option, contiguousMet, takePayload, addBlocksDownloading, addPartialOf, addStanding}
+use Rattle.model.specs.pick.Pick.{takeAll}
+use Rattle.model.specs.Options.{prioritizePartials, randLoops}
+use Rattle.model.specs.change.Partials.{partialOf}
+use Rattle.model.proofs.base.WalkLaws.{unless-keeps, walkUntil-keeps}
 use Rattle.model.proofs.pick.AsideLaws.{aside-arms}
-use Rattle.model.proofs.pick.FrameLaws.{Closed, anyPartial, every-any}
+use Rattle.model.proofs.pick.FrameLaws.{Closed, anyPartial, every-any, all-keeps, downloading-keeps}
 use Rattle.model.proofs.pick.PhaseLaws.{Kept, closed-kept}
 use Rattle.agreement.specs.Complete.{isGiven}
 
@@ -168,6 +172,30 @@ module _ (i j : ℕ) where
   -- every part of a pick keeps it
   pub sure-kept : (a : PickRequest) → Kept a anyPartial Sure
   sure-kept a = closed-kept a anyPartial Sure sure-closed flags-sure (steps-sure 1 randLoops) append-sure
+
+  -- a part of it by itself: the blocks of a piece, with pads or without, and what a partial adds in a visit
+  pub payload-sure : (k : ℕ) (w : PickState) → Sure w → Sure (takePayload k w)
+  unfolding takePayload walk
+  payload-sure k w h =
+      walkUntil-keeps Sure (took k) (λ n v. contiguousMet (took k n v)) (took-sure k) (from 0 (payloadBlocksInPiece (w .picker) k)) w h
+
+  pub all-sure : (k : ℕ) (w : PickState) → Sure w → Sure (takeAll k w)
+  all-sure k w h = all-keeps anyPartial Sure sure-closed (steps-sure 1 randLoops) flags-sure k w h
+
+  pub downloading-sure : (a : PickRequest) (d : DownloadingPiece) (w : PickState) → Sure w → Sure (addBlocksDownloading a d w)
+  unfolding anyPartial
+  downloading-sure a d w h = downloading-keeps anyPartial Sure sure-closed a d w refl h
+
+  partial-sure : (a : PickRequest) (found : Option DownloadingPiece) (w : PickState) → Sure w → Sure (addPartialOf a found w)
+  unfolding addPartialOf
+  partial-sure a none w h = h
+  partial-sure a (some d) w h = downloading-sure a d w h
+
+  pub standing-sure : (a : PickRequest) (k : ℕ) (w : PickState) → Sure w → Sure (addStanding a k w)
+  unfolding addStanding
+  standing-sure a k w h =
+      unless-keeps Sure (option prioritizePartials a) (addPartialOf a (partialOf (w .picker) k)) w h
+      (λ e. partial-sure a (partialOf (w .picker) k) w h)
 
   -- ---- the end
   -- N is spent, or the block is given

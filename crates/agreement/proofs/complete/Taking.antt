@@ -138,7 +138,7 @@ module _ (i j : ℕ) where
       (from 0 (payloadBlocksInPiece (w .picker) i)) w (stands-from j 0 (payloadBlocksInPiece (w .picker) i) (omega arith) (omega arith))
 
   -- as many as are wanted
-  plain-taken : (w : PickState) → j < payloadBlocksInPiece (w .picker) i
+  pub plain-taken : (w : PickState) → j < payloadBlocksInPiece (w .picker) i
       → Sure i j (forEach (took i) (from 0 (least (payloadBlocksInPiece (w .picker) i) (w .left))) w)
   unfolding least len
   plain-taken w h =
