@@ -4,3 +4,4 @@ pub mod Standing
 pub mod Taking
 pub mod Quiet
 pub mod Waiting
+pub mod Early

@@ -16,13 +16,13 @@ use Rattle.model.specs.Lists.{least, any, from, each, len, walk}
 use Rattle.model.specs.State.{DownloadingPiece, Picker, payloadBlocksInPiece}
 use Rattle.model.specs.pick.Blocks.{PickRequest, Contiguous, PieceBlock, PickState, spent, withOut, withContiguous, withBackup, withPicker, ignore}
 use Rattle.model.specs.pick.Blocks.{flagged, steps, shorter, pieceBlock, took, freeFrom, enoughAside, setAside, appendBlocks}
-use Rattle.model.specs.pick.Blocks.{option, contiguousMet, takePayload, addBlocksDownloading, addPartialOf, addStanding}
+use Rattle.model.specs.pick.Blocks.{option, contiguousMet, takePayload, addBlocksDownloading, addPartialOf, addStanding, addBlocks}
 use Rattle.model.specs.pick.Pick.{takeAll}
 use Rattle.model.specs.Options.{prioritizePartials, randLoops}
 use Rattle.model.specs.change.Partials.{partialOf}
 use Rattle.model.proofs.base.WalkLaws.{unless-keeps, walkUntil-keeps}
 use Rattle.model.proofs.pick.AsideLaws.{aside-arms}
-use Rattle.model.proofs.pick.FrameLaws.{Closed, anyPartial, every-any, all-keeps, downloading-keeps}
+use Rattle.model.proofs.pick.FrameLaws.{Closed, anyPartial, every-any, all-keeps, downloading-keeps, blocks-keeps}
 use Rattle.model.proofs.pick.PhaseLaws.{Kept, closed-kept}
 use Rattle.agreement.specs.Complete.{isGiven}
 
@@ -196,6 +196,9 @@ module _ (i j : ℕ) where
   standing-sure a k w h =
       unless-keeps Sure (option prioritizePartials a) (addPartialOf a (partialOf (w .picker) k)) w h
       (λ e. partial-sure a (partialOf (w .picker) k) w h)
+
+  pub blocks-sure : (a : PickRequest) (k : ℕ) (w : PickState) → Sure w → Sure (addBlocks a k w)
+  blocks-sure a k w h = blocks-keeps anyPartial Sure sure-closed a k w h
 
   -- ---- the end
   -- N is spent, or the block is given

@@ -31,10 +31,12 @@ use Rattle.agreement.proofs.complete.Taking.{downloading-taken, payload
 use Rattle.agreement.proofs.complete.Quiet.{span-open, span-holds, Quiet, quiet-self, quiet-took, quiet-run, quiet-standing}
 use Rattle.agreement.proofs.complete.Quiet.{quiet-payload, quiet-all}
 
-module _ (a : PickRequest) (i j : ℕ) where
+-- F is what else is to be known of the picker
+module _ (a : PickRequest) (i j : ℕ) (F : Picker → Type 0) where
   -- the piece is to be visited: its block can be taken, it is not ignored, and a visit to a partial is not left out
   pub record Waiting (w : PickState) : Type 0 where
     pub way : Way a i j (w .picker)
+    pub facts : F (w .picker)
     pub unmarked : isIgnored i w ≡ false
     pub visits : (isOpen (pieceAt (w .picker) i .state) || not (option prioritizePartials a)) ≡ true
 
@@ -43,10 +45,11 @@ module _ (a : PickRequest) (i j : ℕ) where
     sure : Sure i j w → Coming w
     waits : Waiting w → Coming w
 
-  waiting-quiet : (w v : PickState) → Quiet w v → Waiting w → Waiting v
+  pub waiting-quiet : (w v : PickState) → Quiet w v → Waiting w → Waiting v
   unfolding isIgnored
   waiting-quiet w v q h = record {
     way = subst (Way a i j) (sym (q .picker)) (h .way);
+    facts = subst F (sym (q .picker)) (h .facts);
     unmarked = ap (λ l. nth false l i) (q .marks) ∙ h .unmarked;
     visits = subst (λ s. (isOpen (pieceAt s i .state) || not (option prioritizePartials a)) ≡ true) (sym (q .picker)) (h .visits);
   }
@@ -64,7 +67,17 @@ module _ (a : PickRequest) (i j : ℕ) where
   -- another piece ignored
   waiting-mark : (k : ℕ) (w : PickState) → i ≢ k → Waiting w → Waiting (ignore k w)
   unfolding isIgnored ignore setNth nth
-  waiting-mark k w n h = record { way = h .way; unmarked = getD-set-other (w .ignored) k i true false n ∙ h .unmarked; visits = h .visits }
+  waiting-mark k w n h = record {
+    way = h .way;
+    facts = h .facts;
+    unmarked = getD-set-other (w .ignored) k i true false n ∙ h .unmarked;
+    visits = h .visits;
+  }
+
+  -- a piece ignored, whose visit is over
+  pub coming-mark : (k : ℕ) (w : PickState) → (i ≡ k → Sure i j w) → Coming w → Coming (ignore k w)
+  coming-mark k w f (sure h) = sure (marks-sure i j k w h)
+  coming-mark k w f (waits h) = elim (ℕ-discrete i k) [ yes e ↦ sure (marks-sure i j k w (f e)) | no n ↦ waits (waiting-mark k w n h) ]
 
   -- ---- spans
   module _ (takes : ℕ → PickState → PickState) (quiet : (k : ℕ) (w : PickState) → Quiet w (takes k w))
