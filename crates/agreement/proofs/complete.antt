@@ -5,3 +5,4 @@ pub mod Taking
 pub mod Quiet
 pub mod Waiting
 pub mod Early
+pub mod Walks
