@@ -6,3 +6,4 @@ pub mod Quiet
 pub mod Waiting
 pub mod Early
 pub mod Walks
+pub mod Ring

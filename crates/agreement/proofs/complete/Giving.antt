@@ -16,13 +16,13 @@ use Rattle.model.specs.Lists.{least, any, from, each, len, walk}
 use Rattle.model.specs.State.{DownloadingPiece, Picker, payloadBlocksInPiece}
 use Rattle.model.specs.pick.Blocks.{PickRequest, Contiguous, PieceBlock, PickState, spent, withOut, withContiguous, withBackup, withPicker, ignore}
 use Rattle.model.specs.pick.Blocks.{flagged, steps, shorter, pieceBlock, took, freeFrom, enoughAside, setAside, appendBlocks}
-use Rattle.model.specs.pick.Blocks.{option, contiguousMet, takePayload, addBlocksDownloading, addPartialOf, addStanding, addBlocks}
+use Rattle.model.specs.pick.Blocks.{option, contiguousMet, takeSpan, takePayload, addBlocksDownloading, addPartialOf, addStanding, addBlocks}
 use Rattle.model.specs.pick.Pick.{takeAll}
 use Rattle.model.specs.Options.{prioritizePartials, randLoops}
 use Rattle.model.specs.change.Partials.{partialOf}
 use Rattle.model.proofs.base.WalkLaws.{unless-keeps, walkUntil-keeps}
 use Rattle.model.proofs.pick.AsideLaws.{aside-arms}
-use Rattle.model.proofs.pick.FrameLaws.{Closed, anyPartial, every-any, all-keeps, downloading-keeps, blocks-keeps}
+use Rattle.model.proofs.pick.FrameLaws.{Closed, anyPartial, every-any, all-keeps, downloading-keeps, blocks-keeps, run-keeps}
 use Rattle.model.proofs.pick.PhaseLaws.{Kept, closed-kept}
 use Rattle.agreement.specs.Complete.{isGiven}
 
@@ -199,6 +199,10 @@ module _ (i j : ℕ) where
 
   pub blocks-sure : (a : PickRequest) (k : ℕ) (w : PickState) → Sure w → Sure (addBlocks a k w)
   blocks-sure a k w h = blocks-keeps anyPartial Sure sure-closed a k w h
+
+  -- a span in the random walk
+  pub span-sure : (ks : List ℕ) (w : PickState) → Sure w → Sure (takeSpan takeAll ks w)
+  span-sure ks w h = run-keeps anyPartial Sure sure-closed takeAll all-sure ks w h
 
   -- ---- the end
   -- N is spent, or the block is given
