@@ -7,3 +7,4 @@ pub mod Waiting
 pub mod Early
 pub mod Walks
 pub mod Ring
+pub mod Phases
