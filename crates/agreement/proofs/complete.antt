@@ -8,3 +8,4 @@ pub mod Early
 pub mod Walks
 pub mod Ring
 pub mod Phases
+pub mod Reading
