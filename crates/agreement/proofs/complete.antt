@@ -9,3 +9,4 @@ pub mod Walks
 pub mod Ring
 pub mod Phases
 pub mod Reading
+pub mod Wanted

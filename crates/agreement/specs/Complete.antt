@@ -18,7 +18,7 @@ use Rattle.model.specs.change.Partials.{partialOf, blockAt, progress}
 use Rattle.model.specs.pick.Blocks.{PickRequest, option, isPieceFree, PieceBlock, byAnother}
 use Rattle.model.specs.pick.Pick.{inRange, pickPieces}
 use Rattle.model.specs.image.WellFormed.{wellFormed}
-use Rattle.model.specs.Calls.{requestFits}
+use Rattle.model.specs.Calls.{pick-pieces, picked, lentRequest, step}
 
 -- ---- free blocks, and blocks given
 -- of an Open piece each block that holds more than pad bytes, of a partial each in state None
@@ -55,9 +55,15 @@ pub data PassedOver (s : Picker) (a : PickRequest) (i : ℕ) : Type 0 where
   -- case 10 of document 01: a piece of the top priority in the range of a SEQUENTIAL pick
   topInRange : inRange a s i ≡ true → pieceAt s i .priority ≡ topPriority → PassedOver s a i
 
--- For every well-formed picker, every request that is not refused and all draws:
+-- For every well-formed picker, every request and all draws:
 pub record Complete : Type 0 where
   -- where blocks are still wanted at the end, a free block of a free piece is given, or there is a reason
   pub passesNothing :
-      (s : Picker) → wellFormed s ≡ true → (a : PickRequest) → requestFits s a ≡ true → (draws : Draws) → 0 < pickPieces draws s a .left
+      (s : Picker) → wellFormed s ≡ true → (a : PickRequest) (draws : Draws) → 0 < pickPieces draws s a .left
       → (i j : ℕ) → isPieceFree a s i ≡ true → isFree s i j ≡ true → (isGiven i j (pickPieces draws s a .out) ≡ true) ⊎ PassedOver s a i
+  -- the same of a call's answer, where it has fewer blocks than N
+  pub answersAll :
+      (s : Picker) → wellFormed s ≡ true → (a : PickRequest) (lent free : ℕ) (draws : Draws) (blocks : List PieceBlock) (flags : ℕ) (loops : List ℕ)
+      (used : ℕ) → step s (record { lent = lent; action = pick-pieces a free draws }) .answer ≡ picked blocks flags loops used
+      → len blocks < a .wanted
+      → (i j : ℕ) → isPieceFree a s i ≡ true → isFree s i j ≡ true → (isGiven i j blocks ≡ true) ⊎ PassedOver s (lentRequest a) i
