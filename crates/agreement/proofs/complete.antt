@@ -10,3 +10,4 @@ pub mod Ring
 pub mod Phases
 pub mod Reading
 pub mod Wanted
+pub mod Reasons
