@@ -1,27 +1,26 @@
 -- A pick passes nothing over: the theorem holds.
 use mathlib.Core.Path.{_≡_, refl, sym, ap, ap₂, _∙_, subst}
 use mathlib.Core.Logic.{_⊎_, inl, inr, ⊎-elim}
-use Prim.Native.Nat.{ℕ, zero, suc, _+_, _-_, _≤_, _<_, _^_}
-use native.Mathlib.Decide.{ℕ-discrete, decLe}
+use Prim.Native.Nat.{ℕ, zero, suc, _+_, _<_, _^_}
+use native.Mathlib.Decide.{decLe}
 use native.Mathlib.Omega.{arith}
-use mathlib.Core.Bool.{Bool, true, false, cond, not, _&&_, _||_, true≢false}
-use mathlib.Core.List.{List, [], _∷_, _++_}
+use mathlib.Core.Bool.{Bool, true, false, not, _&&_, _||_, true≢false}
+use mathlib.Core.List.{List}
 use mathlib.Core.Option.{Option, none, some}
 use lib.ListN.{getD, replicate}
 use lib.Dec.{eqb, ltb, leb}
 use borrow.Author.Tests.{eqb-true}
 use Rattle.types.specs.declared.refusal.Refusal.{Refusal}
 use Rattle.types.specs.declared.refusal.Refusal.the-variants.{ShortMemory}
-use Rattle.types.specs.Bits.{meets, union}
+use Rattle.types.specs.Bits.{meets}
 use Rattle.types.proofs.Bits.{union-bit}
 use Rattle.model.specs.Lists.{any, nth, len}
-use Rattle.model.specs.State.{DownloadingPiece, Picker, noPiece, maxPieces, topPriority, pieceAt, piecesIn}
+use Rattle.model.specs.State.{Picker, noPiece, maxPieces, topPriority, pieceAt, piecesIn}
 use Rattle.model.specs.Options.{rarestFirst, onParole, prioritizePartials, sequential}
 use Rattle.model.specs.list.Order.{Draws}
-use Rattle.model.specs.change.Partials.{partialOf}
 use Rattle.model.specs.pick.Blocks.{PickRequest, option, hasBit, PickState, startState, flagged, isIgnored, isPieceFree, byAnother}
 use Rattle.model.specs.pick.Blocks.{PieceBlock}
-use Rattle.model.specs.pick.Pick.{isForced, forcedRequest, effectiveRequest, startPick, inRange, ringFuel, phases, pickPieces}
+use Rattle.model.specs.pick.Pick.{isForced, forcedRequest, effectiveRequest, startPick, inRange, pickPieces}
 use Rattle.model.specs.image.WellFormed.{wellFormed}
 use Rattle.model.specs.image.Sound.{Sound}
 use Rattle.model.specs.Calls.{pick-pieces, picked, memoryNeeded, check, refusal, answering, lentRequest, picking, act, unlessRefused, step}
@@ -31,7 +30,8 @@ use Rattle.model.proofs.pick.PhaseLaws.{startPick-keeps}
 use Rattle.model.proofs.pick.SoundPick.{sound-sized}
 use Rattle.model.proofs.sound.PieceLaws.{pieceAt-beyond}
 use Rattle.model.proofs.sound.SoundLaws.{wellFormed-sound}
-use Rattle.agreement.specs.Complete.{isFree, isGiven, byList, PassedOver, notCounted, isLocked, heldByAnother, atRest, topInRange, Complete}
+use Rattle.agreement.specs.Complete.{isFree, isGiven, byList, PassedOver, notCounted, isLocked, heldByAnother, atRest, topInRange}
+use Rattle.agreement.specs.Complete.{Complete}
 use Rattle.agreement.proofs.complete.Giving.{Settled, none-left, given}
 use Rattle.agreement.proofs.complete.Taking.{Way}
 use Rattle.agreement.proofs.complete.Phases.{phases-settle}

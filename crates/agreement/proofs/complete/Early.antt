@@ -1,22 +1,22 @@
 -- Partials and suggestions: after them the block is sure, or its piece waits. Assumes nothing.
 use mathlib.Core.Path.{_≡_, refl, sym, ap, _∙_, subst}
-use mathlib.Core.Logic.{_⊎_, inl, inr, ⊎-elim}
-use Prim.Native.Nat.{ℕ, _+_, _≤_, _<_}
+use Prim.Native.Nat.{ℕ, _+_, _≤_}
 use native.Mathlib.Omega.{arith}
 use mathlib.Core.Bool.{Bool, true, false, cond, not, _&&_, _||_, true≢false}
 use mathlib.Core.List.{List, [], _∷_}
-use mathlib.Core.Option.{Option, none, some}
-use lib.Dec.{eqb, ltb, leb}
+use mathlib.Core.Option.{some}
+use lib.Dec.{eqb, ltb}
 use borrow.Author.Tests.{eqb-true, eq-eqb, ltb-true, lt-ltb, leb-true, not-true}
 use Rattle.types.specs.declared.queue.DownloadQueue.the-variants.{Downloading}
 use Rattle.types.specs.declared.block.BlockState.the-variants.{None}
 use Rattle.types.specs.Queue.{unreverse}
-use Rattle.model.specs.Lists.{bit, count, any, filter, len, unless, when, walk, sortBy}
+use Rattle.model.specs.Lists.{bit, count, any, filter, len, when, walk, sortBy}
 use Rattle.model.specs.State.{DownloadingPiece, Picker, sameQueue, isOpen, sameBlockState, pieceAt}
-use Rattle.model.specs.Options.{onParole, prioritizePartials, prioritizedPartials, rarestFirstPartials, suggestedPieces, partialLoops, suggestLoops}
+use Rattle.model.specs.Options.{onParole, prioritizePartials, prioritizedPartials, rarestFirstPartials, suggestedPieces, partialLoops}
+use Rattle.model.specs.Options.{suggestLoops}
 use Rattle.model.specs.change.Partials.{findDlPiece, partialOf, blockAt, inQueue}
 use Rattle.model.specs.pick.Blocks.{PickRequest, option, hasBit, PickState, spent, flagged, steps, isIgnored, isPieceFree, ignore}
-use Rattle.model.specs.pick.Blocks.{requestedFrom, enoughAside, addBlocksDownloading, addBlocks, appendBlocks, withOut, withBackup}
+use Rattle.model.specs.pick.Blocks.{requestedFrom, enoughAside, addBlocks, appendBlocks, withOut, withBackup}
 use Rattle.model.specs.pick.Pick.{usable, scanPartials, partialCompareRarestFirst, byRarity, orderedPartials, partialStep, walkPartials}
 use Rattle.model.specs.pick.Pick.{pickScanned, pickPartials, suggest, pickSuggested}
 use Rattle.model.proofs.base.Phases.{cond-arms}
@@ -26,10 +26,10 @@ use Rattle.model.proofs.base.WalkLaws.{unless-keeps, when-keeps, walkUntil-keep
 use Rattle.model.proofs.pick.ScanLaws.{scan-work, scan-partials}
 use Rattle.agreement.proofs.complete.Reaching.{walk-reaches}
 use Rattle.agreement.proofs.complete.Giving.{Sure, enough, flags-sure, steps-sure, downloading-sure, append-sure, blocks-sure}
-use Rattle.agreement.proofs.complete.Standing.{any-cons, any-filter}
+use Rattle.agreement.proofs.complete.Standing.{any-filter}
 use Rattle.agreement.proofs.complete.Taking.{Takes, Way, fromNew, fromPartial, when-made, downloading-taken}
 use Rattle.agreement.proofs.complete.Quiet.{Quiet, quiet-self, quiet-flag, quiet-steps, quiet-downloading}
-use Rattle.agreement.proofs.complete.Waiting.{Waiting, Coming, sure, waits, coming-quiet, coming-mark, waiting-quiet, blocks-coming}
+use Rattle.agreement.proofs.complete.Waiting.{Coming, sure, waits, coming-quiet, coming-mark, waiting-quiet, blocks-coming}
 use Rattle.agreement.proofs.complete.Waiting.{blocks-reach}
 
 -- ---- one of a list, by counts

@@ -1,8 +1,7 @@
 -- A block that a pick is to give: it is given, or set aside, or as many blocks are set aside as are wanted. Everything that a pick does
 -- keeps that, and where blocks are wanted at the end the block is given. Assumes nothing.
 use mathlib.Core.Path.{_≡_, refl, sym}
-use mathlib.Core.Logic.{_⊎_, inl, inr, ⊎-elim}
-use Prim.Native.Nat.{ℕ, zero, suc, _+_, _-_, _≤_, _<_}
+use Prim.Native.Nat.{ℕ, _≤_}
 use native.Mathlib.Decide.{decLe}
 use native.Mathlib.Omega.{arith}
 use mathlib.Core.Bool.{Bool, true, false, cond, _&&_, _||_, true≢false}
@@ -11,12 +10,12 @@ use mathlib.Core.Option.{Option, none, some}
 use lib.ListN.{length, length-append, take}
 use lib.Seq.{take-length}
 use lib.Dec.{eqb, leb}
-use borrow.Author.Tests.{eqb-true, eq-eqb, leb-true, le-leb, lt-leb}
+use borrow.Author.Tests.{eqb-true, eq-eqb, leb-true, le-leb}
 use Rattle.model.specs.Lists.{least, any, from, each, len, walk}
 use Rattle.model.specs.State.{DownloadingPiece, Picker, payloadBlocksInPiece}
-use Rattle.model.specs.pick.Blocks.{PickRequest, Contiguous, PieceBlock, PickState, spent, withOut, withContiguous, withBackup, withPicker, ignore}
-use Rattle.model.specs.pick.Blocks.{flagged, steps, shorter, pieceBlock, took, freeFrom, enoughAside, setAside, appendBlocks}
-use Rattle.model.specs.pick.Blocks.{option, contiguousMet, takeSpan, takePayload, addBlocksDownloading, addPartialOf, addStanding, addBlocks}
+use Rattle.model.specs.pick.Blocks.{PickRequest, Contiguous, PieceBlock, PickState, spent, withOut, withContiguous, withBackup, withPicker}
+use Rattle.model.specs.pick.Blocks.{ignore, flagged, steps, pieceBlock, took, freeFrom, setAside, appendBlocks, option, contiguousMet}
+use Rattle.model.specs.pick.Blocks.{takeSpan, takePayload, addBlocksDownloading, addPartialOf, addStanding, addBlocks}
 use Rattle.model.specs.pick.Pick.{takeAll}
 use Rattle.model.specs.Options.{prioritizePartials, randLoops}
 use Rattle.model.specs.change.Partials.{partialOf}

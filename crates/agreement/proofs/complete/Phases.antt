@@ -1,29 +1,26 @@
 -- The phases of a pick one after another: a free block that can be taken is given, where blocks are wanted at the end. Assumes nothing.
 use mathlib.Core.Path.{_≡_, refl, sym, ap, ap₂, _∙_, subst}
 use mathlib.Core.Logic.{_⊎_, inl, inr, ⊎-elim}
-use Prim.Native.Nat.{ℕ, zero, suc, _+_, _-_, _%_, _≤_, _<_}
-use native.Mathlib.Decide.{ℕ-discrete, decLe}
+use Prim.Native.Nat.{ℕ, suc, _+_, _-_, _≤_, _<_}
 use native.Mathlib.Nat.{mod-lt}
 use native.Mathlib.Omega.{arith}
-use mathlib.Core.Bool.{Bool, true, false, cond, not, _&&_, _||_, true≢false}
+use mathlib.Core.Bool.{Bool, true, false, not, _&&_, _||_, true≢false}
 use mathlib.Core.List.{List, [], _∷_, _++_}
-use mathlib.Core.Option.{Option, none, some}
 use lib.Dec.{eqb, ltb, leb}
 use borrow.Author.Tests.{eqb-true, lt-ltb}
 use Rattle.types.specs.declared.queue.DownloadQueue.{DownloadQueue}
 use Rattle.types.specs.declared.queue.DownloadQueue.the-variants.{Downloading, Full, Finished as FinishedQueue, ZeroPrio, Open}
 use Rattle.types.specs.declared.queue.DownloadQueue.the-variants.{DownloadingReverse, FullReverse}
 use Rattle.types.specs.Queue.{unreverse}
-use Rattle.model.specs.Lists.{any, nth, member, unless, when, branch}
+use Rattle.model.specs.Lists.{any, nth, member, unless, when}
 use Rattle.model.specs.State.{Piece, Picker, noPiece, topPriority, sameQueue, isOpen, listOf, pieceAt, piecesIn, blocksInPiece}
 use Rattle.model.specs.State.{payloadBlocksInPiece}
-use Rattle.model.specs.Options.{rarestFirst, onParole, prioritizePartials, sequential, backup1, endGame, randStartLoops}
-use Rattle.model.specs.Options.{busyLoops}
-use Rattle.model.specs.list.Order.{Draws, drawing, draw, unlisted, bucketNumber, bucket, rankOf, rank, updatePieces}
+use Rattle.model.specs.Options.{rarestFirst, onParole, prioritizePartials, sequential, backup1, endGame, randStartLoops, busyLoops}
+use Rattle.model.specs.list.Order.{Draws, drawing, draw, unlisted, bucket, rankOf, rank, updatePieces}
 use Rattle.model.specs.list.Listed.{ListingOk}
 use Rattle.model.specs.change.Partials.{partialOf}
-use Rattle.model.specs.pick.Blocks.{PickRequest, option, hasBit, Contiguous, PieceBlock, PickState, spent, withOut, withPicker, flagged, steps}
-use Rattle.model.specs.pick.Blocks.{isIgnored, isPieceFree, pieceBlock, appendBlocks}
+use Rattle.model.specs.pick.Blocks.{PickRequest, option, hasBit, PickState, spent, withOut, withPicker, flagged, steps, isIgnored}
+use Rattle.model.specs.pick.Blocks.{isPieceFree, pieceBlock, appendBlocks}
 use Rattle.model.specs.pick.Pick.{inRange, pickPartials, pickSuggested, pickSequential, pickRarest, ringFuel, ring, pickRandom, pickEndGame}
 use Rattle.model.specs.pick.Pick.{withListUpdated, pickListed, pickMain, pickRest, phases}
 use Rattle.model.proofs.base.Phases.{branch-arms, unless-arms}
@@ -33,10 +30,9 @@ use Rattle.model.proofs.list.ListedLaws.{listed-member}
 use Rattle.model.proofs.list.ListingLaws.{OnlyListing, updatePieces-only, updatePieces-listed}
 use Rattle.model.proofs.pick.FrameLaws.{anyPartial}
 use Rattle.model.proofs.pick.PhaseLaws.{ring-keeps, pickEndGame-keeps}
-use Rattle.agreement.proofs.complete.Giving.{Sure, spent-sure, flags-sure, steps-sure, picker-sure, sure-kept, Settled, none-left, given}
-use Rattle.agreement.proofs.complete.Giving.{append-settled, given-front}
-use Rattle.agreement.proofs.complete.Taking.{Takes, Way, fromNew, fromPartial}
-use Rattle.agreement.proofs.complete.Quiet.{Quiet}
+use Rattle.agreement.proofs.complete.Giving.{Sure, spent-sure, flags-sure, steps-sure, picker-sure, sure-kept, Settled, none-left}
+use Rattle.agreement.proofs.complete.Giving.{given, append-settled, given-front}
+use Rattle.agreement.proofs.complete.Taking.{Way, fromNew, fromPartial}
 use Rattle.agreement.proofs.complete.Waiting.{Waiting, Coming, sure, waits}
 use Rattle.agreement.proofs.complete.Early.{partials-coming, suggested-coming}
 use Rattle.agreement.proofs.complete.Walks.{rarest-sure, Placed, Due, sequential-due, sequential-gives, rarest-gives}

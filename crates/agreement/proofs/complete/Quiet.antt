@@ -1,39 +1,29 @@
 -- The pieces of a span are Open, and it holds the one that it lies around; which parts of a pick leave picker and marks as they are.
 -- Assumes nothing.
-use mathlib.Core.Path.{_≡_, refl, sym, ap, _∙_, subst}
+use mathlib.Core.Path.{_≡_, refl}
 use mathlib.Core.Logic.{_⊎_, inl, inr, ⊎-elim}
 use Prim.Native.Nat.{ℕ, zero, suc, _+_, _-_, _≤_, _<_}
 use native.Mathlib.Decide.{decLe, ℕ-discrete}
 use native.Mathlib.Omega.{arith}
-use mathlib.Core.Bool.{Bool, true, false, cond, not, _&&_, _||_, true≢false}
-use mathlib.Core.List.{List, [], _∷_, _++_}
+use mathlib.Core.Bool.{Bool, true, false, cond, not, _&&_, _||_}
 use mathlib.Core.Option.{Option, none, some}
-use lib.Seq.{getD-set-other}
-use lib.Dec.{eqb, leb}
-use borrow.Author.Tests.{eqb-true}
-use Rattle.types.specs.declared.queue.DownloadQueue.the-variants.{Downloading}
-use Rattle.types.specs.Queue.{unreverse}
-use Rattle.model.specs.Lists.{least, any, every, from, range, nth, setNth, member, unless, when, branch, walk, walkUntil, forEach}
-use Rattle.model.specs.State.{DownloadingPiece, Picker, sameQueue, isOpen, pieceAt, piecesIn, blocksPerPiece, blocksInPiece}
-use Rattle.model.specs.State.{payloadBlocksInPiece}
+use lib.Dec.{eqb}
+use Rattle.model.specs.Lists.{least, any, every, from, range, member, walk}
+use Rattle.model.specs.State.{DownloadingPiece, Picker, isOpen, pieceAt, piecesIn, blocksPerPiece, blocksInPiece, payloadBlocksInPiece}
 use Rattle.model.specs.Options.{onParole, prioritizePartials, alignExpandedPieces, randLoops, randomPieces}
 use Rattle.model.specs.change.Partials.{partialOf}
-use Rattle.model.specs.pick.Blocks.{PickRequest, option, hasBit, Contiguous, PickState, spent, withOut, withContiguous, withBackup, ignore}
-use Rattle.model.specs.pick.Blocks.{flagged, steps, isIgnored, contiguousIsZero, contiguousAbove, shorter, wholePieces, isPieceFree, canPick}
-use Rattle.model.specs.pick.Blocks.{downBy, upBy, Span, alone, lowestStart, spanFrom, spanOf, expandPiece, piecesOf, took, contiguousMet}
-use Rattle.model.specs.pick.Blocks.{contiguousOver, spanStep, takeSpan, takePayload, addNewPiece, RequestedFrom, requestedFrom, setAside}
-use Rattle.model.specs.pick.Blocks.{freeFrom, freeHalt, takeFree, keepingContiguous, useFree, addBlocksDownloading, addPartialOf}
-use Rattle.model.specs.pick.Blocks.{addStanding, addBlocks}
+use Rattle.model.specs.pick.Blocks.{PickRequest, option, hasBit, Contiguous, PickState, withOut, withContiguous, withBackup, flagged, steps}
+use Rattle.model.specs.pick.Blocks.{contiguousIsZero, contiguousAbove, wholePieces, isPieceFree, canPick, downBy, upBy, alone, lowestStart}
+use Rattle.model.specs.pick.Blocks.{spanFrom, spanOf, expandPiece, piecesOf, took, contiguousMet, contiguousOver, takePayload}
+use Rattle.model.specs.pick.Blocks.{RequestedFrom, requestedFrom, setAside, freeFrom, freeHalt, takeFree, keepingContiguous, useFree}
+use Rattle.model.specs.pick.Blocks.{addBlocksDownloading, addPartialOf, addStanding}
 use Rattle.model.specs.pick.Pick.{randStep, takeAll}
-use Rattle.model.proofs.base.Phases.{branch-arms, cond-arms, unless-arms}
-use Rattle.model.proofs.base.Truths.{and-right, by-test, true-both}
-use Rattle.model.proofs.base.WalkLaws.{unless-keeps, when-keeps, walkUntil-keeps, forEach-keeps, forEach-ends}
-use Rattle.model.proofs.pick.AddLaws.{addBlocks-picker}
+use Rattle.model.proofs.base.Phases.{branch-arms}
+use Rattle.model.proofs.base.Truths.{and-right, true-both}
+use Rattle.model.proofs.base.WalkLaws.{unless-keeps, when-keeps, walkUntil-keeps}
 use Rattle.model.proofs.pick.AsideLaws.{aside-arms}
-use Rattle.model.proofs.pick.FrameLaws.{anyPartial}
-use Rattle.model.proofs.pick.PhaseLaws.{Kept}
 use Rattle.model.proofs.pick.RoundLaws.{member-span}
-use Rattle.model.proofs.pick.SpanLaws.{Around, span-around}
+use Rattle.model.proofs.pick.SpanLaws.{span-around}
 
 -- ---- the pieces of a span are Open
 module _ (a : PickRequest) (s : Picker) where

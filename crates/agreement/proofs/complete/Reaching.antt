@@ -1,12 +1,11 @@
 -- A walk over a list in which an element stands reaches it: what the step at that element gives holds where the walk ends. Assumes nothing.
 use mathlib.Core.Path.{_≡_, refl, sym}
 use mathlib.Core.Logic.{_⊎_, inl, inr, ⊎-elim}
-use Prim.Native.Nat.{ℕ, zero, suc, _≤_}
+use Prim.Native.Nat.{ℕ, zero, suc}
 use mathlib.Core.Bool.{Bool, true, false, _||_, true≢false}
 use mathlib.Core.List.{List, [], _∷_}
 use Rattle.model.specs.Lists.{any, unless, repeat, walkUntil, walk, forEach}
 use Rattle.model.proofs.base.WalkLaws.{walkUntil-ends, forEach-ends}
-use Rattle.model.proofs.base.Truths.{by-test}
 
 -- the element is the first, or stands in the rest
 first-or-rest : (b c : Bool) → (b || c) ≡ true → (b ≡ true) ⊎ (c ≡ true)

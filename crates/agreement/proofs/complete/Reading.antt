@@ -1,32 +1,31 @@
 -- What a free block of a free piece comes to: it can be taken, or there is a reason why its piece is passed over. Assumes nothing.
-use mathlib.Core.Path.{_≡_, refl, sym, ap, _∙_, subst}
+use mathlib.Core.Path.{_≡_, refl, sym, _∙_, subst}
 use mathlib.Core.Logic.{_⊎_, inl, inr, ⊎-elim}
-use Prim.Native.Nat.{ℕ, zero, suc, _+_, _-_, _≤_, _<_}
+use Prim.Native.Nat.{ℕ, zero, suc, _+_, _≤_, _<_}
 use native.Mathlib.Nat.{le-of-suc-le-suc}
-use native.Mathlib.Decide.{ℕ-discrete, decLe}
+use native.Mathlib.Decide.{ℕ-discrete}
 use native.Mathlib.Omega.{arith}
-use mathlib.Core.Bool.{Bool, true, false, cond, not, _&&_, _||_, true≢false}
+use mathlib.Core.Bool.{Bool, true, false, not, _&&_, _||_, true≢false}
 use mathlib.Core.List.{List, [], _∷_}
-use mathlib.Core.Option.{Option, none, some}
+use mathlib.Core.Option.{none, some}
 use lib.ListN.{length, getD}
 use lib.Dec.{eqb, ltb}
 use borrow.Author.Tests.{ne-eqb, ltb-true, lt-ltb, not-true}
-use Rattle.types.specs.declared.queue.DownloadQueue.{DownloadQueue}
-use Rattle.types.specs.declared.queue.DownloadQueue.the-variants.{Downloading, Full, Finished as FinishedQueue, ZeroPrio, Open}
-use Rattle.types.specs.declared.block.BlockState.the-variants.{None, Requested}
+use Rattle.types.specs.declared.queue.DownloadQueue.the-variants.{Downloading}
+use Rattle.types.specs.declared.block.BlockState.the-variants.{None}
 use Rattle.types.specs.Queue.{unreverse}
 use Rattle.model.specs.Lists.{bit, count, any, nth, len}
-use Rattle.model.specs.State.{Block, DownloadingPiece, Picker, noBlock, sameQueue, isOpen, sameBlockState, pieceAt, payloadBlocksInPiece}
+use Rattle.model.specs.State.{DownloadingPiece, Picker, noBlock, sameQueue, sameBlockState, pieceAt, payloadBlocksInPiece}
 use Rattle.model.specs.Options.{onParole}
 use Rattle.model.specs.change.Partials.{partialOf, blockAt, blocksInState, progress, inDirection, newState}
 use Rattle.model.specs.pick.Blocks.{PickRequest, option, hasBit, isPieceFree, byAnother, requestedFrom}
 use Rattle.model.specs.image.WellFormed.{stateOk}
-use Rattle.model.specs.image.Sound.{PartialSound, Sound}
+use Rattle.model.specs.image.Sound.{Sound}
 use Rattle.model.proofs.base.Truths.{and-left, and-right, by-test}
 use Rattle.model.proofs.sound.PartialLaws.{found-or-none}
 use Rattle.model.proofs.sound.SoundBody.{sound-standing}
 use Rattle.agreement.specs.Complete.{freeIn, isFree, PassedOver, isLocked, heldByAnother, atRest}
-use Rattle.agreement.proofs.complete.Taking.{Takes, Way, fromNew, fromPartial}
+use Rattle.agreement.proofs.complete.Taking.{Way, fromNew, fromPartial}
 
 -- ---- a partial with a free block
 one-counted : {A : Type 0} (t : A → Bool) (x : A) (l : List A) (j : ℕ) → j < length l → t (getD l j x) ≡ true → 1 ≤ count t l

@@ -4,22 +4,22 @@ use mathlib.Core.Path.{_≡_, refl, sym, ap, subst}
 use Prim.Native.Nat.{ℕ}
 use native.Mathlib.Omega.{arith}
 use mathlib.Core.Bool.{true, false, true≢false}
-use mathlib.Core.List.{List, [], _∷_}
+use mathlib.Core.List.{[], _∷_}
 use mathlib.Core.Option.{Option, none, some}
 use lib.ListN.{replicate}
 use lib.Dec.{ltb}
 use Rattle.types.specs.declared.queue.DownloadQueue.the-variants.{Full}
 use Rattle.types.specs.declared.block.BlockState.the-variants.{None}
-use Rattle.model.specs.Lists.{any}
 use Rattle.model.specs.State.{DownloadingPiece, Picker, dirty, new}
 use Rattle.model.specs.list.Order.{Draws}
-use Rattle.model.specs.change.Partials.{partialOf, progress}
-use Rattle.model.specs.pick.Blocks.{PickRequest, isPieceFree, byAnother}
+use Rattle.model.specs.change.Partials.{progress}
+use Rattle.model.specs.pick.Blocks.{PickRequest, isPieceFree}
 use Rattle.model.specs.pick.Pick.{noPartial, pickPieces}
 use Rattle.model.specs.image.WellFormed.{wellFormed}
 use Rattle.model.specs.Calls.{Action, inc-refcount, inc-refcount-all, set-piece-priority, mark-as-downloading, lock-piece, Call, run}
 use Rattle.model.proofs.cases.Everything.{everything}
-use Rattle.agreement.specs.Complete.{freeIn, isFree, isGiven, byList, PassedOver, notCounted, isLocked, heldByAnother, atRest, topInRange}
+use Rattle.agreement.specs.Complete.{freeIn, isFree, isGiven, byList, PassedOver, notCounted, isLocked, heldByAnother, atRest}
+use Rattle.agreement.specs.Complete.{topInRange}
 
 -- ---- what an example shows
 -- the reasons by number, in the order of the data type

@@ -1,37 +1,33 @@
 -- The random walk goes round the whole torrent: on the first lap it comes to every piece that waits, and does not end before. Assumes nothing.
 use mathlib.Core.Path.{_≡_, refl, sym, ap, _∙_, subst}
-use mathlib.Core.Logic.{_≢_, _⊎_, inl, inr, ⊎-elim}
-use Prim.Native.Nat.{ℕ, zero, suc, _+_, _-_, _*_, _%_, _≤_, _<_}
+use mathlib.Core.Logic.{_≢_, ⊎-elim}
+use Prim.Native.Nat.{ℕ, suc, _+_, _-_, _≤_, _<_}
 use native.Mathlib.Decide.{ℕ-discrete, decLe}
-use native.Mathlib.Nat.{mod-lt}
 use native.Mathlib.Omega.{arith}
 use mathlib.Core.Bool.{Bool, true, false, cond, not, _&&_, _||_, true≢false}
 use mathlib.Core.List.{List, [], _∷_}
-use lib.Dec.{eqb, ltb, leb}
-use borrow.Author.Tests.{eqb-true, ne-eqb, lt-ltb, le-ltb, leb-true, leb-false}
-use Rattle.model.specs.Lists.{any, every, nth, range, branch, repeat}
-use Rattle.model.specs.State.{Picker, maxPieces, isOpen, pieceAt, piecesIn}
+use lib.Dec.{eqb, leb}
+use borrow.Author.Tests.{eqb-true, ne-eqb, lt-ltb, le-ltb, leb-true}
+use Rattle.model.specs.Lists.{any, every}
+use Rattle.model.specs.State.{Picker, isOpen, pieceAt, piecesIn, blocksPerPiece}
 use Rattle.model.specs.Options.{randomPieces, randStartLoops}
-use Rattle.model.specs.list.Order.{Draws, draw}
-use Rattle.model.specs.pick.Blocks.{PickRequest, PickState, spent, withOut, withBackup, withPicker, ignore, flagged, steps, isIgnored, contiguousAbove, isPieceFree}
-use Rattle.model.specs.pick.Blocks.{wholePieces, Span, expandPiece, piecesOf, takeSpan, addBlocks}
-use Rattle.model.specs.pick.Pick.{standsOpen, onward, Trace, trace, sameTrace, RandomWalk, skipStep, skipDone, skip, takeAll, arrive}
-use Rattle.model.specs.pick.Pick.{randomSpan, randomPiece, randomVisit, ended, marked, lapEnds, lapFrom, lapStep, walkOver, ringFuel, ring}
-use Rattle.model.specs.pick.Pick.{pickRandom}
-use Rattle.model.specs.State.{blocksPerPiece}
-use Rattle.model.proofs.base.Phases.{branch-arms, cond-arms}
-use Rattle.model.proofs.base.Truths.{and-left, and-right, by-test, true-both, or-no-right}
+use Rattle.model.specs.pick.Blocks.{PickRequest, PickState, spent, withOut, withBackup, ignore, flagged, steps, isIgnored, contiguousAbove}
+use Rattle.model.specs.pick.Blocks.{isPieceFree, wholePieces, Span, expandPiece, piecesOf, takeSpan, addBlocks}
+use Rattle.model.specs.pick.Pick.{standsOpen, onward, trace, RandomWalk, skipStep, skipDone, skip, takeAll, arrive, randomSpan, randomPiece}
+use Rattle.model.specs.pick.Pick.{randomVisit, ended, marked, lapEnds, lapFrom, lapStep, walkOver, ringFuel, ring}
+use Rattle.model.proofs.base.Phases.{branch-arms}
+use Rattle.model.proofs.base.Truths.{and-left, and-right, true-both, or-no-right}
 use Rattle.model.proofs.base.WalkLaws.{repeat-keeps}
 use Rattle.model.proofs.pick.AddLaws.{addBlocks-picker}
 use Rattle.model.proofs.pick.FrameLaws.{Blind, blind-closed, anyPartial, run-keeps, all-keeps}
 use Rattle.model.proofs.pick.RoundLaws.{far, far-some, far-next}
 use Rattle.model.proofs.pick.SpanLaws.{Around, span-around}
 use Rattle.agreement.proofs.complete.Reaching.{repeat-reaches}
-use Rattle.agreement.proofs.complete.Giving.{Sure, spent-sure, flags-sure, steps-sure, picker-sure, blocks-sure, span-sure}
+use Rattle.agreement.proofs.complete.Giving.{Sure, spent-sure, flags-sure, steps-sure, blocks-sure, span-sure}
 use Rattle.agreement.proofs.complete.Standing.{stands-range, any-cons}
-use Rattle.agreement.proofs.complete.Quiet.{Quiet, quiet-self, quiet-flag, quiet-steps, span-open}
+use Rattle.agreement.proofs.complete.Quiet.{quiet-self, quiet-flag, quiet-steps, span-open}
 use Rattle.agreement.proofs.complete.Taking.{branch-second}
-use Rattle.agreement.proofs.complete.Waiting.{Waiting, Coming, sure, waits, waiting-quiet, coming-quiet, blocks-coming, blocks-reach}
+use Rattle.agreement.proofs.complete.Waiting.{Waiting, Coming, sure, waits, waiting-quiet, blocks-coming, blocks-reach}
 use Rattle.agreement.proofs.complete.Waiting.{random-coming, random-reaches}
 
 -- ---- round the torrent

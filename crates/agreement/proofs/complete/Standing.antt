@@ -7,15 +7,15 @@ use native.Mathlib.Nat.{mod-lt, div-add-mod'}
 use native.Mathlib.Decide.{ℕ-discrete, decLe}
 use native.Mathlib.Omega.{arith}
 use mathlib.Core.Bool.{Bool, true, false, cond, _&&_, _||_, true≢false}
-use mathlib.Core.List.{List, [], _∷_, _++_}
+use mathlib.Core.List.{List, [], _∷_}
 use lib.Arith.{digits-mod}
-use lib.Dec.{eqb, leb}
+use lib.Dec.{eqb}
 use borrow.Author.Tests.{eqb-true, eq-eqb, ne-eqb, le-leb}
 use Rattle.types.specs.declared.block.BlockState.the-variants.{None}
 use Rattle.model.specs.Lists.{any, from, range, rangeDown, filter, each, len, reversed}
 use Rattle.model.specs.State.{DownloadingPiece, sameBlockState}
 use Rattle.model.specs.change.Partials.{blockAt}
-use Rattle.model.specs.pick.Blocks.{PieceBlock, pieceBlock, freeFrom}
+use Rattle.model.specs.pick.Blocks.{pieceBlock, freeFrom}
 use Rattle.agreement.specs.Complete.{isGiven}
 use Rattle.agreement.proofs.complete.Giving.{any-front, any-back}
 

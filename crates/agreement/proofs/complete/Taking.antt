@@ -1,12 +1,10 @@
 -- What a visit to a piece takes: its free block is given or set aside, or as many are set aside as are wanted. Assumes nothing.
-use mathlib.Core.Path.{_≡_, refl, sym, ap, subst}
-use mathlib.Core.Logic.{_⊎_, inl, inr, ⊎-elim}
-use Prim.Native.Nat.{ℕ, zero, suc, _+_, _-_, _/_, _≤_, _<_}
-use native.Mathlib.Decide.{decLe, ℕ-discrete}
+use mathlib.Core.Path.{_≡_, sym, ap, subst}
+use Prim.Native.Nat.{ℕ, _≤_, _<_}
 use native.Mathlib.Omega.{arith}
-use mathlib.Core.Bool.{Bool, true, false, cond, not, _&&_, _||_, true≢false}
-use mathlib.Core.List.{List, [], _∷_, _++_}
-use mathlib.Core.Option.{Option, none, some}
+use mathlib.Core.Bool.{Bool, true, false, cond, not, _&&_, _||_}
+use mathlib.Core.List.{List}
+use mathlib.Core.Option.{some}
 use lib.ListN.{length}
 use lib.Dec.{eqb, leb}
 use borrow.Author.Tests.{eqb-true, leb-true}
@@ -15,22 +13,21 @@ use Rattle.types.specs.declared.block.BlockState.the-variants.{None}
 use Rattle.types.specs.Queue.{unreverse}
 use Rattle.model.specs.Lists.{least, any, from, each, len, unless, when, branch, walk, walkUntil, forEach}
 use Rattle.model.specs.State.{DownloadingPiece, Picker, sameQueue, isOpen, sameBlockState, pieceAt, blocksInPiece, payloadBlocksInPiece}
-use Rattle.model.specs.Options.{onParole, prioritizePartials, randLoops, randomPieces}
+use Rattle.model.specs.Options.{onParole, randLoops, randomPieces}
 use Rattle.model.specs.change.Partials.{partialOf, blockAt}
-use Rattle.model.specs.pick.Blocks.{PickRequest, option, hasBit, PickState, spent, withOut, withBackup, ignore, flagged, steps, isIgnored}
-use Rattle.model.specs.pick.Blocks.{contiguousIsZero, contiguousAbove, expandPiece, piecesOf, pieceBlock, took, contiguousMet, contiguousOver}
-use Rattle.model.specs.pick.Blocks.{takeSpan, takePayload, addNewPiece, RequestedFrom, requestedFrom, freeFrom, enoughAside, setAside}
-use Rattle.model.specs.pick.Blocks.{freeHalt, takeFree, keepingContiguous, useFree, addBlocksDownloading, addPartialOf, addStanding, addBlocks}
+use Rattle.model.specs.pick.Blocks.{PickRequest, option, hasBit, PickState, spent, withOut, withBackup, flagged, steps, contiguousIsZero}
+use Rattle.model.specs.pick.Blocks.{contiguousAbove, pieceBlock, took, contiguousMet, contiguousOver, takePayload, RequestedFrom}
+use Rattle.model.specs.pick.Blocks.{requestedFrom, freeFrom, enoughAside, setAside, freeHalt, takeFree, keepingContiguous, useFree}
+use Rattle.model.specs.pick.Blocks.{addBlocksDownloading}
 use Rattle.model.specs.pick.Pick.{randStep, takeAll}
 use Rattle.model.proofs.base.Counts.{length-from}
 use Rattle.model.proofs.base.Phases.{branch-arms, cond-arms, unless-arms}
 use Rattle.model.proofs.base.Truths.{and-right, true-both}
 use Rattle.model.proofs.base.WalkLaws.{forEach-ends}
 use Rattle.model.proofs.pick.AsideLaws.{putAside-all}
-use Rattle.model.proofs.pick.SpanLaws.{least-left, least-right}
 use Rattle.agreement.proofs.complete.Reaching.{walkUntil-reaches, forEach-reaches}
-use Rattle.agreement.proofs.complete.Giving.{Sure, enough, out, aside, spent-sure, contiguous-sure, took-sure, took-this, flags-sure}
-use Rattle.agreement.proofs.complete.Giving.{steps-sure, given-back}
+use Rattle.agreement.proofs.complete.Giving.{Sure, enough, aside, spent-sure, contiguous-sure, took-sure, took-this, steps-sure}
+use Rattle.agreement.proofs.complete.Giving.{given-back}
 use Rattle.agreement.proofs.complete.Standing.{stands-from, stands-free, given-each}
 
 -- a phase that is made

@@ -1,18 +1,18 @@
 -- A piece waits for its visit: it is not ignored, and other visits leave it so or give its block. A visit to it gives the block.
 -- Assumes nothing.
 use mathlib.Core.Path.{_≡_, refl, sym, ap, _∙_, subst}
-use mathlib.Core.Logic.{_≢_, _⊎_, inl, inr, ⊎-elim}
+use mathlib.Core.Logic.{_≢_}
 use Prim.Native.Nat.{ℕ, _<_}
 use native.Mathlib.Decide.{ℕ-discrete}
-use mathlib.Core.Bool.{Bool, true, false, not, _&&_, _||_, true≢false}
-use mathlib.Core.List.{List, [], _∷_}
-use mathlib.Core.Option.{Option, none, some}
+use mathlib.Core.Bool.{true, false, not, _||_, true≢false}
+use mathlib.Core.List.{List}
+use mathlib.Core.Option.{some}
 use lib.Seq.{getD-set-other}
 use lib.Dec.{eqb}
 use borrow.Author.Tests.{eqb-true, not-true}
 use Rattle.types.specs.declared.queue.DownloadQueue.the-variants.{Downloading}
 use Rattle.types.specs.Queue.{unreverse}
-use Rattle.model.specs.Lists.{least, any, every, from, nth, setNth, unless, when, branch, forEach}
+use Rattle.model.specs.Lists.{least, any, every, from, nth, setNth, when, branch, forEach}
 use Rattle.model.specs.State.{DownloadingPiece, Picker, sameQueue, isOpen, pieceAt, payloadBlocksInPiece}
 use Rattle.model.specs.Options.{prioritizePartials}
 use Rattle.model.specs.change.Partials.{partialOf}
@@ -21,9 +21,8 @@ use Rattle.model.specs.pick.Blocks.{expandPiece, piecesOf, took, spanStep, take
 use Rattle.model.specs.pick.Blocks.{addPartialOf, addStanding, addBlocks}
 use Rattle.model.specs.pick.Pick.{takeAll}
 use Rattle.model.proofs.base.Phases.{branch-arms}
-use Rattle.model.proofs.base.Truths.{and-left, and-right, by-test}
+use Rattle.model.proofs.base.Truths.{and-left, and-right}
 use Rattle.model.proofs.base.WalkLaws.{unless-keeps, when-keeps, forEach-keeps, forEach-ends}
-use Rattle.model.proofs.pick.PhaseLaws.{Kept}
 use Rattle.agreement.proofs.complete.Reaching.{forEach-reaches}
 use Rattle.agreement.proofs.complete.Giving.{Sure, contiguous-sure, took-sure, marks-sure, payload-sure, all-sure, standing-sure}
 use Rattle.agreement.proofs.complete.Taking.{Takes, Way, fromNew, fromPartial, when-made, unless-made, branch-first, branch-second}

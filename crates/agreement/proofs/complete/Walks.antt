@@ -1,25 +1,22 @@
 -- The walks over pieces, sequential and rarest first: each visits every piece of its list, so that a piece that waits gets its visit.
 -- Assumes nothing.
-use mathlib.Core.Path.{_≡_, refl, sym, ap, _∙_, subst}
-use mathlib.Core.Logic.{_⊎_, inl, inr, ⊎-elim}
-use Prim.Native.Nat.{ℕ, _+_, _≤_, _<_}
-use mathlib.Core.Bool.{Bool, true, false, not, _&&_, _||_, true≢false}
-use mathlib.Core.List.{List, [], _∷_}
+use mathlib.Core.Path.{_≡_, _∙_, subst}
+use Prim.Native.Nat.{ℕ, _≤_, _<_}
+use mathlib.Core.Bool.{Bool, true, false, _&&_}
+use mathlib.Core.List.{List}
 use mathlib.Core.Option.{Option, none, some}
 use lib.Dec.{eqb, ltb, leb}
 use borrow.Author.Tests.{eqb-true, ltb-true, leb-true}
-use Rattle.types.specs.declared.queue.DownloadQueue.the-variants.{Downloading}
-use Rattle.types.specs.Queue.{unreverse}
-use Rattle.model.specs.Lists.{any, from, range, rangeDown, nth, len, removeNth, reversed, unless, when, branch, walk}
-use Rattle.model.specs.State.{DownloadingPiece, Picker, noPiece, topPriority, sameQueue, isOpen, listOf, withRecentExtents, pieceAt}
-use Rattle.model.specs.State.{blocksInPiece, payloadBlocksInPiece, extentStart, extentEnd}
-use Rattle.model.specs.Options.{reverse, prioritizePartials, sequential, pieceExtentAffinity, rarestFirstPieces, reverseRarestFirst}
-use Rattle.model.specs.Options.{prioSequentialPieces, sequentialPieces, reverseSequential, extentAffinity, reverseRareLoops, rareLoops}
-use Rattle.model.specs.change.Partials.{findDlPiece, partialOf}
+use Rattle.model.specs.Lists.{any, from, range, rangeDown, nth, len, removeNth, reversed, unless, when, walk}
+use Rattle.model.specs.State.{Picker, topPriority, listOf, withRecentExtents, pieceAt, blocksInPiece, payloadBlocksInPiece, extentStart}
+use Rattle.model.specs.State.{extentEnd}
+use Rattle.model.specs.Options.{reverse, sequential, pieceExtentAffinity, rarestFirstPieces, reverseRarestFirst, prioSequentialPieces}
+use Rattle.model.specs.Options.{sequentialPieces, reverseSequential, extentAffinity, reverseRareLoops, rareLoops}
+use Rattle.model.specs.change.Partials.{partialOf}
 use Rattle.model.specs.pick.Blocks.{PickRequest, option, PickState, spent, withPicker, flagged, steps, isIgnored, isPieceFree, addBlocks}
 use Rattle.model.specs.pick.Pick.{visit, leadingTop, visitBelowTop, pickRange, pickSequential, inRange, visitOutside, rareStep}
 use Rattle.model.specs.pick.Pick.{reverseRareStep, ExtentWalk, extentStep, forgetExtent, pickExtents, pickForward, pickRarest}
-use Rattle.model.proofs.base.Phases.{branch-arms, unless-arms, when-arms}
+use Rattle.model.proofs.base.Phases.{branch-arms, unless-arms}
 use Rattle.model.proofs.base.Truths.{and-left, and-right}
 use Rattle.model.proofs.base.WalkLaws.{unless-keeps, when-keeps, walkUntil-keeps}
 use Rattle.model.proofs.pick.FrameLaws.{anyPartial}
@@ -27,8 +24,8 @@ use Rattle.model.proofs.pick.PhaseLaws.{pickExtents-keeps, rareWalk-keeps, reve
 use Rattle.agreement.proofs.complete.Reaching.{walk-reaches}
 use Rattle.agreement.proofs.complete.Giving.{Sure, spent-sure, flags-sure, steps-sure, picker-sure, blocks-sure, sure-kept}
 use Rattle.agreement.proofs.complete.Standing.{stands-range, stands-down, any-reversed}
-use Rattle.agreement.proofs.complete.Taking.{Takes, Way, fromNew, fromPartial, when-made, unless-made}
-use Rattle.agreement.proofs.complete.Quiet.{Quiet, quiet-self, quiet-flag}
+use Rattle.agreement.proofs.complete.Taking.{Way, fromNew, fromPartial, when-made, unless-made}
+use Rattle.agreement.proofs.complete.Quiet.{quiet-self, quiet-flag}
 use Rattle.agreement.proofs.complete.Waiting.{Waiting, Coming, sure, waits, waiting-quiet, blocks-coming, blocks-reach}
 use Rattle.agreement.proofs.complete.Early.{flag-coming, steps-coming}
 

@@ -1,20 +1,20 @@
 -- N is at most the blocks given and those still wanted: so where fewer than N are given, blocks are wanted at the end. Assumes nothing.
-use mathlib.Core.Path.{_≡_, refl}
+use mathlib.Core.Path.{_≡_}
 use Prim.Native.Nat.{ℕ, suc, _+_, _-_, _≤_, _<_}
 use native.Mathlib.Omega.{arith}
-use mathlib.Core.Bool.{true, false, _||_}
-use mathlib.Core.List.{List, [], _∷_, _++_}
+use mathlib.Core.Bool.{false, _||_}
+use mathlib.Core.List.{[], _∷_}
 use mathlib.Core.Option.{Option, none, some}
 use lib.ListN.{length, length-append, length-take, take}
 use Rattle.model.specs.Lists.{least, len}
-use Rattle.model.specs.State.{DownloadingPiece, Picker, piecesIn}
-use Rattle.model.specs.Options.{onParole, sequential, rarestFirst, backup1, partialLoops, suggestLoops, reverseRareLoops, rareLoops, randStartLoops}
-use Rattle.model.specs.Options.{randLoops}
+use Rattle.model.specs.State.{Picker, piecesIn}
+use Rattle.model.specs.Options.{onParole, sequential, rarestFirst, backup1, partialLoops, suggestLoops, reverseRareLoops, rareLoops}
+use Rattle.model.specs.Options.{randStartLoops, randLoops}
 use Rattle.model.specs.list.Order.{Draws, draw}
-use Rattle.model.specs.pick.Blocks.{PickRequest, option, Contiguous, PickState, startState, spent, withOut, withContiguous, withBackup, withPicker}
-use Rattle.model.specs.pick.Blocks.{ignore, flagged, steps, pieceBlock, took, setAside, appendBlocks}
+use Rattle.model.specs.pick.Blocks.{PickRequest, option, PickState, startState, spent, withOut, withContiguous, withBackup, withPicker}
+use Rattle.model.specs.pick.Blocks.{ignore, flagged, steps, pieceBlock, took, appendBlocks}
 use Rattle.model.specs.pick.Pick.{effectiveRequest, startPick, forgetExtent, pickRandom, pickEndGame, withListUpdated, pickListed, pickMain}
-use Rattle.model.specs.pick.Pick.{pickRest, phases, pickPieces}
+use Rattle.model.specs.pick.Pick.{pickRest, pickPieces}
 use Rattle.model.proofs.base.Phases.{branch-arms}
 use Rattle.model.proofs.base.WalkLaws.{unless-keeps}
 use Rattle.model.proofs.pick.AsideLaws.{aside-arms}
