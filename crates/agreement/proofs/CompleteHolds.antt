@@ -45,7 +45,8 @@ module _ (s : Picker) (a : PickRequest) where
   unfolding effectiveRequest forcedRequest option
   option-same k h =
       cond-arms (λ b. meets (b .options) (2 ^ k) ≡ meets (a .options) (2 ^ k)) (isForced s a) (forcedRequest a) a
-      (λ e. union-bit k (a .options) prioritizePartials ∙ ap (λ (t : Bool). meets (a .options) (2 ^ k) || t) h ∙ or-none (meets (a .options) (2 ^ k)))
+      (λ e. union-bit k (a .options) prioritizePartials ∙ ap (λ (t : Bool). meets (a .options) (2 ^ k) || t) h ∙ or-none
+      (meets (a .options) (2 ^ k)))
       (λ e. refl)
     where
       or-none : (b : Bool) → (b || false) ≡ b
@@ -127,13 +128,15 @@ module _ (s : Picker) (sound : Sound s) (a : PickRequest) (draws : Draws) (i j :
   -- all phases run where no reason stands against it
   settles : Way (effectiveRequest s a) i j s
       → (byList (effectiveRequest s a) ≡ true → inRange (effectiveRequest s a) s i ≡ true → eqb (pieceAt s i .priority) topPriority ≡ false)
-      → (byList (effectiveRequest s a) ≡ true → inRange (effectiveRequest s a) s i ≡ false → eqb (pieceAt s i .peerCount + s .seeds) 0 ≡ false)
+      → (byList (effectiveRequest s a) ≡ true → inRange (effectiveRequest s a) s i ≡ false → eqb
+      (pieceAt s i .peerCount + s .seeds) 0 ≡ false)
       → Settled i j (pickPieces draws s a)
   unfolding pickPieces byList Fresh
   settles y top counted =
       let f = sound-sized s sound .few in
       let g = fresh-start s a i in
-      phases-settle draws s (effectiveRequest s a) i j within (free-same s a i ∙ free) y (omega arith) (sound .list) top counted (startPick s a) (g .0) (g .1)
+      phases-settle draws s (effectiveRequest s a) i j within (free-same s a i ∙ free) y (omega arith) (sound .list) top counted
+      (startPick s a) (g .0) (g .1)
 
   ends : 0 < pickPieces draws s a .left → Settled i j (pickPieces draws s a) → isGiven i j (pickPieces draws s a .out) ≡ true
   ends l (none-left e) = absurd (omega arith)
@@ -156,7 +159,8 @@ module _ (s : Picker) (sound : Sound s) (a : PickRequest) (draws : Draws) (i j :
       (λ p. inl (ends l (settles y (λ q e. absurd (true≢false (sym e ∙ r))) (λ q e. p)))))
       (λ o. inl (ends l (settles y (λ q e. absurd (true≢false (sym q ∙ o))) (λ q e. absurd (true≢false (sym q ∙ o))))))
 
-  taken : 0 < pickPieces draws s a .left → Way (effectiveRequest s a) i j s → (isGiven i j (pickPieces draws s a .out) ≡ true) ⊎ PassedOver s a i
+  taken : 0 < pickPieces draws s a .left → Way (effectiveRequest s a) i j s
+      → (isGiven i j (pickPieces draws s a .out) ≡ true) ⊎ PassedOver s a i
   taken l y =
       ⊎-elim inl (λ e. inr (reason-same s a i e)) (by-test (inRange (effectiveRequest s a) s i) (λ r. ranged l y r) (λ r. listed l y r))
 
@@ -166,8 +170,10 @@ module _ (s : Picker) (sound : Sound s) (a : PickRequest) (draws : Draws) (i j :
 
 -- ---- a call's answer
 -- the call is not refused, and answers what the pick gives
-answer-out : (s : Picker) (a : PickRequest) (free : ℕ) (draws : Draws) (why : Option Refusal) (blocks : List PieceBlock) (flags : ℕ) (loops : List ℕ) (used : ℕ)
-    → unlessRefused why s (pick-pieces a free draws) .answer ≡ picked blocks flags loops used → pickPieces draws s (lentRequest a) .out ≡ blocks
+answer-out : (s : Picker) (a : PickRequest) (free : ℕ) (draws : Draws) (why : Option Refusal) (blocks : List PieceBlock) (flags : ℕ)
+    (loops : List ℕ) (used : ℕ)
+    → unlessRefused why s (pick-pieces a free draws) .answer ≡ picked blocks flags loops used → pickPieces draws s
+    (lentRequest a) .out ≡ blocks
 unfolding unlessRefused answering act picking
 answer-out s a free draws none blocks flags loops used e = cc
 answer-out s a free draws (some why) blocks flags loops used e = let z : _≡_ {A = ℕ} 0 1 = cc in absurd (omega arith)
@@ -201,5 +207,6 @@ complete-holds = record {
   passesNothing = λ s ok a draws l i j f g. passes s (wellFormed-sound s ok) a draws i j f l g;
   answersAll = λ s ok a lent free draws blocks flags loops used e few i j f g.
       answers s ok a draws blocks
-      (answer-out s a free draws (check (ltb lent (memoryNeeded s)) ShortMemory (refusal s (pick-pieces a free draws))) blocks flags loops used e) few i j f g;
+      (answer-out s a free draws
+      (check (ltb lent (memoryNeeded s)) ShortMemory (refusal s (pick-pieces a free draws))) blocks flags loops used e) few i j f g;
 }

@@ -56,13 +56,15 @@ module _ {A : Type 0} (t : A → Bool) where
   any-sort before l h = count-any (sortBy before l) (omega (arith, count-sort before t l, any-count l h))
 
 -- the partial that is found is one of them
-any-found : (t : DownloadingPiece → Bool) (i : ℕ) (d : DownloadingPiece) (ds : List DownloadingPiece) → findDlPiece i ds ≡ some d → t d ≡ true
+any-found : (t : DownloadingPiece → Bool) (i : ℕ) (d : DownloadingPiece) (ds : List DownloadingPiece) → findDlPiece i ds ≡ some d
+    → t d ≡ true
     → any t ds ≡ true
 unfolding findDlPiece any
 any-found t i d [] e h = let z : _≡_ {A = ℕ} 0 1 = cc in absurd (omega arith)
 any-found t i d (c ∷ ds) e h = go (eqb (c .piece) i) e (any-found t i d ds)
   where
-    go : (b : Bool) → cond b (some c) (findDlPiece i ds) ≡ some d → (findDlPiece i ds ≡ some d → t d ≡ true → any t ds ≡ true) → (t c || any t ds) ≡ true
+    go : (b : Bool) → cond b (some c) (findDlPiece i ds) ≡ some d → (findDlPiece i ds ≡ some d → t d ≡ true → any t ds ≡ true)
+        → (t c || any t ds) ≡ true
     go true q f = let p : c ≡ d = cc in rw (ap t p ∙ h)
     go false q f = or-right (t c) (any t ds) (f q h)
       where
@@ -76,7 +78,8 @@ module _ (a : PickRequest) (i j : ℕ) where
   takesTest d =
       eqb (d .piece) i
       && (not (d .locked)
-      && ((not (option onParole a) || requestedFrom (a .peer) d .exclusive) && (ltb j (len (d .blocks)) && sameBlockState (blockAt d j .state) None)))
+      && ((not (option onParole a) || requestedFrom (a .peer) d .exclusive) &&
+      (ltb j (len (d .blocks)) && sameBlockState (blockAt d j .state) None)))
 
   takes-test : (d : DownloadingPiece) → Takes a i j d → takesTest d ≡ true
   unfolding takesTest
@@ -85,7 +88,8 @@ module _ (a : PickRequest) (i j : ℕ) where
       let f = sameBlockState (blockAt d j .state) None in
       true-both (eqb (d .piece) i) (not (d .locked) && (q && (ltb j (len (d .blocks)) && f))) (eq-eqb (d .piece) i (h .piece))
       (true-both (not (d .locked)) (q && (ltb j (len (d .blocks)) && f)) (ap not (h .unlocked))
-      (true-both q (ltb j (len (d .blocks)) && f) (h .alone) (true-both (ltb j (len (d .blocks))) f (lt-ltb j (len (d .blocks)) (h .inside)) (h .free))))
+      (true-both q (ltb j (len (d .blocks)) && f) (h .alone)
+      (true-both (ltb j (len (d .blocks))) f (lt-ltb j (len (d .blocks)) (h .inside)) (h .free))))
 
   test-takes : (d : DownloadingPiece) → hasBit a i ≡ true → takesTest d ≡ true → Takes a i j d
   unfolding takesTest
@@ -111,12 +115,14 @@ module _ (a : PickRequest) (i j : ℕ) where
   unfolding partialStep
   partialStep-taken d w t = downloading-taken i j a d (flagged prioritizedPartials w) t
 
-  partials-reach : (ds : List DownloadingPiece) (w : PickState) → hasBit a i ≡ true → any takesTest ds ≡ true → Sure i j (walkPartials a ds w)
+  partials-reach : (ds : List DownloadingPiece) (w : PickState) → hasBit a i ≡ true → any takesTest ds ≡ true
+      → Sure i j (walkPartials a ds w)
   unfolding walkPartials enoughAside
   partials-reach ds w b h =
       let v = walk (partialStep a) enoughAside ds w in
       let g = walk-reaches (λ u. Unit {0}) (Sure i j) takesTest (partialStep a) (λ d u k. tt) partialStep-sure
-      (λ d u e k. partialStep-taken d u (test-takes d b e)) enoughAside (λ u e k. enough (leb-true (u .left) (len (u .backup)) e)) ds w h tt in
+      (λ d u e k. partialStep-taken d u (test-takes d b e)) enoughAside
+      (λ u e k. enough (leb-true (u .left) (len (u .backup)) e)) ds w h tt in
       unless-keeps (Sure i j) (spent v) appendBlocks v g (λ e. append-sure i j v g)
 
   -- the partial is among those that are walked
@@ -129,17 +135,21 @@ module _ (a : PickRequest) (i j : ℕ) where
       let queue : DownloadingPiece → Bool = λ c. sameQueue (unreverse (pieceAt (w .picker) (c .piece) .state)) Downloading in
       let p : any takesTest ds ≡ true = rw (scan-partials a w)
       (any-filter takesTest (usable a (w .picker)) (λ c g. can c g) (filter queue (w .picker .partials))
-      (any-filter takesTest queue (λ c g. stands c g) (w .picker .partials) (any-found takesTest i d (w .picker .partials) e (takes-test d t)))) in
+      (any-filter takesTest queue (λ c g. stands c g) (w .picker .partials)
+      (any-found takesTest i d (w .picker .partials) e (takes-test d t)))) in
       cond-arms (λ l. any takesTest l ≡ true) (byRarity a) (sortBy (partialCompareRarestFirst (scanPartials a w .work .picker)) ds) ds
       (λ g. any-sort takesTest (partialCompareRarestFirst (scanPartials a w .work .picker)) ds p) (λ g. p)
     where
-      stands : (c : DownloadingPiece) → takesTest c ≡ true → sameQueue (unreverse (pieceAt (w .picker) (c .piece) .state)) Downloading ≡ true
-      stands c g = subst (λ k. sameQueue (unreverse (pieceAt (w .picker) k .state)) Downloading ≡ true) (sym (test-takes c (t .has) g .piece)) q
+      stands : (c : DownloadingPiece) → takesTest c ≡ true
+          → sameQueue (unreverse (pieceAt (w .picker) (c .piece) .state)) Downloading ≡ true
+      stands c g =
+          subst (λ k. sameQueue (unreverse (pieceAt (w .picker) k .state)) Downloading ≡ true) (sym (test-takes c (t .has) g .piece)) q
 
       can : (c : DownloadingPiece) → takesTest c ≡ true → usable a (w .picker) c ≡ true
       can c g =
           let k = test-takes c (t .has) g in
-          true-both (isPieceFree a (w .picker) (c .piece)) (not (c .locked)) (subst (λ n. isPieceFree a (w .picker) n ≡ true) (sym (k .piece)) f)
+          true-both (isPieceFree a (w .picker) (c .piece)) (not (c .locked))
+          (subst (λ n. isPieceFree a (w .picker) n ≡ true) (sym (k .piece)) f)
           (ap not (k .unlocked))
 
   -- the phase, where partials come first
@@ -169,21 +179,25 @@ module _ (a : PickRequest) (i j : ℕ) where
   unfolding pickPartials pickScanned
   quiet-partials w =
       let x = scanPartials a w in
-      let h : Quiet w (x .work) = rw (scan-work a w) (quiet-steps w (len (inQueue Downloading (w .picker))) partialLoops w (quiet-self w)) in
+      let h : Quiet w (x .work) = rw (scan-work a w)
+      (quiet-steps w (len (inQueue Downloading (w .picker))) partialLoops w (quiet-self w)) in
       when-keeps (Quiet w) (option prioritizePartials a) (λ v. pickScanned a (scanPartials a v)) w (quiet-self w)
       (λ e. quiet-walk w (orderedPartials a (x .work .picker) (x .partials)) (when (byRarity a) (flagged rarestFirstPartials) (x .work))
       (when-keeps (Quiet w) (byRarity a) (flagged rarestFirstPartials) (x .work) h (λ g. quiet-flag w rarestFirstPartials (x .work) h)))
 
   module _ (F : Picker → Type 0) where
     -- after the partials
-    pub partials-coming : (w : PickState) → isPieceFree a (w .picker) i ≡ true → Way a i j (w .picker) → F (w .picker) → isIgnored i w ≡ false
+    pub partials-coming : (w : PickState) → isPieceFree a (w .picker) i ≡ true → Way a i j (w .picker) → F (w .picker)
+        → isIgnored i w ≡ false
         → Coming a i j F (pickPartials a w)
     partials-coming w f y x m = by-test (option prioritizePartials a) (λ e. first y e) (λ e. later (visits-standing e))
       where
         later : (isOpen (pieceAt (w .picker) i .state) || not (option prioritizePartials a)) ≡ true → Coming a i j F (pickPartials a w)
-        later v = waits (waiting-quiet a i j F w (pickPartials a w) (quiet-partials w) (record { way = y; facts = x; unmarked = m; visits = v }))
+        later v =
+            waits (waiting-quiet a i j F w (pickPartials a w) (quiet-partials w) (record { way = y; facts = x; unmarked = m; visits = v }))
 
-        visits-standing : option prioritizePartials a ≡ false → (isOpen (pieceAt (w .picker) i .state) || not (option prioritizePartials a)) ≡ true
+        visits-standing : option prioritizePartials a ≡ false
+            → (isOpen (pieceAt (w .picker) i .state) || not (option prioritizePartials a)) ≡ true
         visits-standing e = rw e (go (isOpen (pieceAt (w .picker) i .state)))
           where
             go : (b : Bool) → (b || true) ≡ true
@@ -214,7 +228,8 @@ module _ (a : PickRequest) (i j : ℕ) where
         let g = flag-coming suggestedPieces v (steps-coming 1 suggestLoops w h) in
         when-keeps (Coming a i j F) (isPieceFree a (w .picker) k) (λ t. ignore k (addBlocks a k (flagged suggestedPieces t))) v
         (steps-coming 1 suggestLoops w h)
-        (λ e. coming-mark a i j F k (addBlocks a k u) (λ q. subst (λ n. Sure i j (addBlocks a n u)) q (reached u g)) (blocks-coming a i j F k u g))
+        (λ e. coming-mark a i j F k (addBlocks a k u) (λ q. subst (λ n. Sure i j (addBlocks a n u)) q (reached u g))
+        (blocks-coming a i j F k u g))
 
     -- after the suggestions
     pub suggested-coming : (w : PickState) → Coming a i j F w → Coming a i j F (pickSuggested a w)

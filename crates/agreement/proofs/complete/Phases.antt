@@ -40,7 +40,8 @@ use Rattle.agreement.proofs.complete.Ring.{Round, ring-gives}
 
 -- ---- a piece stands in the list
 -- Open and Downloading pieces are neither Full nor Finished
-busy-not : (q : DownloadQueue) → (isOpen q ≡ true) ⊎ (sameQueue (unreverse q) Downloading ≡ true) → (sameQueue q Full || sameQueue q FinishedQueue) ≡ false
+busy-not : (q : DownloadQueue) → (isOpen q ≡ true) ⊎ (sameQueue (unreverse q) Downloading ≡ true)
+    → (sameQueue q Full || sameQueue q FinishedQueue) ≡ false
 unfolding isOpen sameQueue
 busy-not Downloading h = refl
 busy-not Full h = absurd (⊎-elim (λ e. true≢false (sym e)) (λ e. true≢false (sym e)) h)
@@ -88,7 +89,8 @@ module _ (a : PickRequest) (i j : ℕ) (s q : Picker) (o : OnlyListing s q) wher
   way-same : Way a i j s → Way a i j q
   way-same (fromNew e l) = fromNew (ap (λ (p : Piece). isOpen (p .state)) piece-same ∙ e) (omega (arith, payload-same))
   way-same (fromPartial e k d f t) =
-      fromPartial (ap (λ (p : Piece). isOpen (p .state)) piece-same ∙ e) (ap (λ (p : Piece). sameQueue (unreverse (p .state)) Downloading) piece-same ∙ k) d
+      fromPartial (ap (λ (p : Piece). isOpen (p .state)) piece-same ∙ e)
+      (ap (λ (p : Piece). sameQueue (unreverse (p .state)) Downloading) piece-same ∙ k) d
       (partial-same ∙ f) t
 
   free-same : isPieceFree a q i ≡ isPieceFree a s i
@@ -99,7 +101,8 @@ module _ (a : PickRequest) (i j : ℕ) (s q : Picker) (o : OnlyListing s q) wher
   unfolding inRange
   range-same = ap₂ (λ (m n : ℕ). option sequential a && (leb m i && ltb i n)) (o .cursor) (o .reverseCursor)
 
-module _ (draws : Draws) (s : Picker) (a : PickRequest) (i j : ℕ) (inside : i < piecesIn s) (free : isPieceFree a s i ≡ true) (way : Way a i j s) where
+module _ (draws : Draws) (s : Picker) (a : PickRequest) (i j : ℕ) (inside : i < piecesIn s) (free : isPieceFree a s i ≡ true)
+    (way : Way a i j s) where
   -- up to the main walk the picker is s
   Begun : Picker → Type 0
   Begun q = q ≡ s
@@ -113,7 +116,8 @@ module _ (draws : Draws) (s : Picker) (a : PickRequest) (i j : ℕ) (inside : i 
     stands : (used : ℕ) → inRange a s i ≡ false → any (eqb i) (listOf (updatePieces draws (drawing used s) .picker .listing)) ≡ true
     unfolding member drawing
     stands used e =
-        listed-member (rank s) (piecesIn s) (listOf (updatePieces draws (drawing used s) .picker .listing)) (updatePieces-listed draws (drawing used s) ok) i inside
+        listed-member (rank s) (piecesIn s) (listOf (updatePieces draws (drawing used s) .picker .listing))
+        (updatePieces-listed draws (drawing used s) ok) i inside
         ∙ lt-ltb 0 (rank s i) (free-ranked a s i free (way-state a i j s way) (outside e))
 
     refreshed : (used : ℕ) → OnlyListing s (updatePieces draws (drawing used s) .picker)
@@ -136,7 +140,8 @@ module _ (draws : Draws) (s : Picker) (a : PickRequest) (i j : ℕ) (inside : i 
     unfolding withListUpdated withPicker Begun isIgnored
     update-waits w h =
         let q = updatePieces draws (drawing (w .used) (w .picker)) .picker in
-        let e : updatePieces draws (drawing (w .used) s) .picker ≡ q = ap (λ (p : Picker). updatePieces draws (drawing (w .used) p) .picker) (sym (h .facts)) in
+        let e : updatePieces draws (drawing (w .used) s) .picker ≡ q = ap
+        (λ (p : Picker). updatePieces draws (drawing (w .used) p) .picker) (sym (h .facts)) in
         record {
           way = subst (Way a i j) e (way-same a i j s (updatePieces draws (drawing (w .used) s) .picker) (refreshed (w .used)) way);
           facts = subst (Placed a i (inRange a s i) (eqb (pieceAt s i .priority) topPriority)) e (placed (w .used));
@@ -149,11 +154,15 @@ module _ (draws : Draws) (s : Picker) (a : PickRequest) (i j : ℕ) (inside : i 
 
     update-ready : (w : PickState) → Coming a i j Begun w → Ready (withListUpdated draws w)
     unfolding Ready Due withListUpdated
-    update-ready w (sure h) = sure (picker-sure i j (updatePieces draws (drawing (w .used) (w .picker)) .picker) (updatePieces draws (drawing (w .used) (w .picker)) .used) w h)
+    update-ready w (sure h) =
+        sure (picker-sure i j (updatePieces draws (drawing (w .used) (w .picker)) .picker)
+        (updatePieces draws (drawing (w .used) (w .picker)) .used) w h)
     update-ready w (waits h) = waits (update-waits w h)
 
     -- in the range: the sequential walk comes to it
-    in-range : (w : PickState) → inRange a s i ≡ true → Ready w → Sure i j (unless (spent (when (option sequential a) (pickSequential a) w)) (pickRarest a) (when (option sequential a) (pickSequential a) w))
+    in-range : (w : PickState) → inRange a s i ≡ true → Ready w
+        → Sure i j (unless (spent (when (option sequential a) (pickSequential a) w)) (pickRarest a)
+        (when (option sequential a) (pickSequential a) w))
     unfolding Ready inRange when
     in-range w e h =
         let v = when (option sequential a) (pickSequential a) w in
@@ -162,11 +171,14 @@ module _ (draws : Draws) (s : Picker) (a : PickRequest) (i j : ℕ) (inside : i 
         unless-keeps (Sure i j) (spent v) (pickRarest a) v g (λ z. rarest-sure a i j v z g)
 
     -- outside it: the list has it
-    out-range : (w : PickState) → inRange a s i ≡ false → Ready w → Sure i j (unless (spent (when (option sequential a) (pickSequential a) w)) (pickRarest a) (when (option sequential a) (pickSequential a) w))
+    out-range : (w : PickState) → inRange a s i ≡ false → Ready w
+        → Sure i j (unless (spent (when (option sequential a) (pickSequential a) w)) (pickRarest a)
+        (when (option sequential a) (pickSequential a) w))
     unfolding Ready
     out-range w e h =
         let v = when (option sequential a) (pickSequential a) w in
-        let g = when-keeps Ready (option sequential a) (pickSequential a) w h (λ q. sequential-due a i j (inRange a s i) (eqb (pieceAt s i .priority) topPriority) w h) in
+        let g = when-keeps Ready (option sequential a) (pickSequential a) w h
+        (λ q. sequential-due a i j (inRange a s i) (eqb (pieceAt s i .priority) topPriority) w h) in
         unless-arms (Sure i j) (spent v) (pickRarest a) v
         (λ z. rarest-gives a i j (inRange a s i) (eqb (pieceAt s i .priority) topPriority) e v g) (λ z. spent-sure i j v z)
 
@@ -194,13 +206,15 @@ module _ (draws : Draws) (s : Picker) (a : PickRequest) (i j : ℕ) (inside : i 
 
   random-from : (start : ℕ) → start < piecesIn s → piecesIn s ≤ ringFuel → (n : ℕ) (w : PickState) → Coming a i j Begun w
       → Sure i j (ring a start (withPicker (w .picker) n w))
-  random-from start l few n w h = ring-gives a i j (piecesIn s) start l inside (withPicker (w .picker) n w) few (random-coming start n l w h)
+  random-from start l few n w h =
+      ring-gives a i j (piecesIn s) start l inside (withPicker (w .picker) n w) few (random-coming start n l w h)
 
   -- the picker is still s, or the block is sure
   random-gives : piecesIn s ≤ ringFuel → (w : PickState) → Coming a i j Begun w → Sure i j (pickRandom draws a w)
   unfolding pickRandom Begun
   random-gives few w (sure h) =
-      ring-keeps a anyPartial (Sure i j) (sure-kept i j a) (steps-sure i j 1 randStartLoops) (draw draws (w .used) (piecesIn (w .picker) - 1))
+      ring-keeps a anyPartial (Sure i j) (sure-kept i j a) (steps-sure i j 1 randStartLoops)
+      (draw draws (w .used) (piecesIn (w .picker) - 1))
       (withPicker (w .picker) (suc (w .used)) w) (picker-sure i j (w .picker) (suc (w .used)) w h)
   random-gives few w (waits h) =
       let e : draw draws (w .used) (piecesIn s - 1) ≡ draw draws (w .used) (piecesIn (w .picker) - 1) =
@@ -210,8 +224,10 @@ module _ (draws : Draws) (s : Picker) (a : PickRequest) (i j : ℕ) (inside : i 
 
   -- ---- the main walk
   module _ (few : piecesIn s ≤ ringFuel) (ok : ListingOk s)
-      (within : (option sequential a || option rarestFirst a) ≡ true → inRange a s i ≡ true → eqb (pieceAt s i .priority) topPriority ≡ false)
-      (outside : (option sequential a || option rarestFirst a) ≡ true → inRange a s i ≡ false → eqb (pieceAt s i .peerCount + s .seeds) 0 ≡ false) where
+      (within : (option sequential a || option rarestFirst a) ≡ true → inRange a s i ≡ true → eqb
+      (pieceAt s i .priority) topPriority ≡ false)
+      (outside : (option sequential a || option rarestFirst a) ≡ true → inRange a s i ≡ false → eqb
+      (pieceAt s i .peerCount + s .seeds) 0 ≡ false) where
     main-gives : (w : PickState) → Coming a i j Begun w → Sure i j (pickMain draws a w)
     unfolding pickMain
     main-gives w h =
@@ -225,7 +241,8 @@ module _ (draws : Draws) (s : Picker) (a : PickRequest) (i j : ℕ) (inside : i 
     settled-try w (given h) = given h
 
     settled-find : (w : PickState) (k m : ℕ) → Settled i j w
-        → Settled i j (flagged endGame (withPicker (w .picker) (suc (w .used)) (withOut (w .left) (w .contiguous) (w .out ++ (pieceBlock k m ∷ [])) w)))
+        → Settled i j (flagged endGame
+        (withPicker (w .picker) (suc (w .used)) (withOut (w .left) (w .contiguous) (w .out ++ (pieceBlock k m ∷ [])) w)))
     unfolding flagged withPicker withOut
     settled-find w k m (none-left h) = none-left h
     settled-find w k m (given h) = given (given-front i j (w .out) (pieceBlock k m ∷ []) h)
@@ -236,7 +253,8 @@ module _ (draws : Draws) (s : Picker) (a : PickRequest) (i j : ℕ) (inside : i 
         let v = appendBlocks (flagged backup1 w) in
         let g = append-settled i j (flagged backup1 w) (flags-sure i j backup1 w h) in
         unless-keeps (Settled i j) (spent v || option onParole a) (pickEndGame draws a) v g
-        (λ e. pickEndGame-keeps (λ n u. Settled i j u) (Settled i j) (λ n u x. settled-try u x) (λ n u k m x. settled-find u k m x) (λ n u x. x) draws a v g)
+        (λ e. pickEndGame-keeps (λ n u. Settled i j u) (Settled i j) (λ n u x. settled-try u x) (λ n u k m x. settled-find u k m x)
+        (λ n u x. x) draws a v g)
 
     spent-settled : (w : PickState) → spent w ≡ true → Settled i j w
     unfolding spent
@@ -249,7 +267,8 @@ module _ (draws : Draws) (s : Picker) (a : PickRequest) (i j : ℕ) (inside : i 
         let w₁ = pickPartials a w in
         let w₂ = unless (spent w₁) (pickSuggested a) w₁ in
         let w₃ = unless (spent w₂) (pickMain draws a) w₂ in
-        let h₁ = partials-coming a i j Begun w (subst (λ (p : Picker). isPieceFree a p i ≡ true) (sym e) free) (subst (Way a i j) (sym e) way) e m in
+        let h₁ = partials-coming a i j Begun w (subst (λ (p : Picker). isPieceFree a p i ≡ true) (sym e) free)
+        (subst (Way a i j) (sym e) way) e m in
         let h₂ = unless-keeps (Coming a i j Begun) (spent w₁) (pickSuggested a) w₁ h₁ (λ z. suggested-coming a i j Begun w₁ h₁) in
         let h₃ = unless-arms (Sure i j) (spent w₂) (pickMain draws a) w₂ (λ z. main-gives w₂ h₂) (λ z. spent-sure i j w₂ z) in
         unless-arms (Settled i j) (spent w₃) (pickRest draws a) w₃ (λ z. rest-settles w₃ h₃) (λ z. spent-settled w₃ z)

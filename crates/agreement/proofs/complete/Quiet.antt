@@ -55,7 +55,9 @@ module _ (a : PickRequest) (s : Picker) where
     | yes e ↦ inl e
     | no e ↦ elim (decLe k c) [
       | yes l ↦ inr (down-open (c - lowestStart a c (suc n)) c k h (omega arith))
-      | no l ↦ inr (up-open (least (cond (option alignExpandedPieces a) (lowestStart a c (suc n)) (downBy a s (c - lowestStart a c (suc n)) c) + suc n) (piecesIn s) - suc c) (suc c) k (omega arith) g)
+      | no l ↦ inr (up-open
+          (least (cond (option alignExpandedPieces a) (lowestStart a c (suc n)) (downBy a s (c - lowestStart a c (suc n)) c) + suc n)
+          (piecesIn s) - suc c) (suc c) k (omega arith) g)
     ]
   ]
 
@@ -67,7 +69,9 @@ module _ (a : PickRequest) (s : Picker) where
 every-from : (ok : ℕ → Bool) (k n : ℕ) → ((m : ℕ) → k ≤ m → m < k + n → ok m ≡ true) → every ok (from k n) ≡ true
 unfolding every from
 every-from ok k zero f = refl
-every-from ok k (suc n) f = true-both (ok k) (every ok (from (suc k) n)) (f k (omega arith) (omega arith)) (every-from ok (suc k) n (λ m h g. f m (omega arith) (omega arith)))
+every-from ok k (suc n) f =
+    true-both (ok k) (every ok (from (suc k) n)) (f k (omega arith) (omega arith))
+    (every-from ok (suc k) n (λ m h g. f m (omega arith) (omega arith)))
 
 -- all Open, around an Open piece
 pub span-open : (a : PickRequest) (c : ℕ) (w : PickState) → isOpen (pieceAt (w .picker) c .state) ≡ true
@@ -124,7 +128,8 @@ module _ (u : PickState) where
   unfolding useFree keepingContiguous
   quiet-use d x w h =
       let first = cond (contiguousIsZero (w .contiguous)) 0 (x .first) in
-      branch-arms (Quiet u) (contiguousAbove (x .longest) (w .contiguous) && x .active) (setAside d first) (keepingContiguous (takeFree d first)) w
+      branch-arms (Quiet u) (contiguousAbove (x .longest) (w .contiguous) && x .active) (setAside d first)
+      (keepingContiguous (takeFree d first)) w
       (λ e. quiet-aside d first w h) (λ e. quiet-run (w .contiguous) (takeFree d first w) (quiet-free d first w h))
 
   -- a partial
@@ -150,7 +155,8 @@ module _ (u : PickState) where
   pub quiet-payload : (k : ℕ) (w : PickState) → Quiet u w → Quiet u (takePayload k w)
   unfolding takePayload walk
   quiet-payload k w h =
-      walkUntil-keeps (Quiet u) (took k) (λ n v. contiguousMet (took k n v)) (quiet-took k) (from 0 (payloadBlocksInPiece (w .picker) k)) w h
+      walkUntil-keeps (Quiet u) (took k) (λ n v. contiguousMet (took k n v)) (quiet-took k)
+      (from 0 (payloadBlocksInPiece (w .picker) k)) w h
 
   pub quiet-all : (k : ℕ) (w : PickState) → Quiet u w → Quiet u (takeAll k w)
   unfolding takeAll walk randStep

@@ -35,7 +35,8 @@ one-counted t x (y ∷ l) zero h e = rw e (omega arith)
 one-counted t x (y ∷ l) (suc j) h e = omega (arith, one-counted t x l j (le-of-suc-le-suc h) e)
 
 -- not all of its blocks are at work
-not-all : (d : DownloadingPiece) (j : ℕ) → j < len (d .blocks) → sameBlockState (blockAt d j .state) None ≡ true → progress d < len (d .blocks)
+not-all : (d : DownloadingPiece) (j : ℕ) → j < len (d .blocks) → sameBlockState (blockAt d j .state) None ≡ true
+    → progress d < len (d .blocks)
 unfolding progress blocksInState blockAt nth len
 not-all d j h e =
     let c = one-counted (λ b. sameBlockState (b .state) None) noBlock (d .blocks) j h e in
@@ -51,7 +52,8 @@ rest-or-downloading s i d h p l n = elim (ℕ-discrete (progress d) 0) [
       let x = lt-ltb (progress d) (len (d .blocks)) l in
       let y = ne-eqb (progress d + bit (d .hashing)) 0 (λ q. e (omega arith)) in
       let z = ne-eqb (progress d) 0 e in
-      absurd (true≢false (sym (second (ltb 0 (pieceAt s i .priority)) (sameQueue (unreverse (pieceAt s i .state)) Downloading) (rw (z, p, y, x) at h)) ∙ n))
+      absurd (true≢false (sym
+      (second (ltb 0 (pieceAt s i .priority)) (sameQueue (unreverse (pieceAt s i .state)) Downloading) (rw (z, p, y, x) at h)) ∙ n))
 ]
   where
     second : (b c : Bool) → ((b && false) || c) ≡ true → c ≡ true
@@ -82,7 +84,8 @@ module _ (s : Picker) (a : PickRequest) (i j : ℕ) (sound : Sound s) (free : is
 
   -- on parole
   alone-or-held : (d : DownloadingPiece)
-      → ((not (option onParole a) || requestedFrom (a .peer) d .exclusive) ≡ true) ⊎ ((option onParole a ≡ true) × (any (byAnother (a .peer)) (d .blocks) ≡ true))
+      → ((not (option onParole a) || requestedFrom (a .peer) d .exclusive) ≡ true) ⊎
+      ((option onParole a ≡ true) × (any (byAnother (a .peer)) (d .blocks) ≡ true))
   unfolding requestedFrom
   alone-or-held d = go (option onParole a) (any (byAnother (a .peer)) (d .blocks))
     where
@@ -97,7 +100,8 @@ module _ (s : Picker) (a : PickRequest) (i j : ℕ) (sound : Sound s) (free : is
       by-test (d .locked) (λ u. inr (isLocked d e u))
       (λ u. ⊎-elim (λ o. standing d e l f u o) (λ o. inr (heldByAnother d e (o .0) (o .1))) (alone-or-held d))
 
-  free-partial : (d : DownloadingPiece) → partialOf s i ≡ some d → freeIn (payloadBlocksInPiece s i) (some d) j ≡ true → Way a i j s ⊎ PassedOver s a i
+  free-partial : (d : DownloadingPiece) → partialOf s i ≡ some d → freeIn (payloadBlocksInPiece s i) (some d) j ≡ true
+      → Way a i j s ⊎ PassedOver s a i
   unfolding freeIn
   free-partial d e g =
       let f = sameBlockState (blockAt d j .state) None in

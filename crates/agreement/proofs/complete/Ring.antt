@@ -1,4 +1,5 @@
--- The random walk goes round the whole torrent: on the first lap it comes to every piece that waits, and does not end before. Assumes nothing.
+-- The random walk goes round the whole torrent: on the first lap it comes to every piece that waits, and does not end before.
+-- Assumes nothing.
 use mathlib.Core.Path.{_≡_, refl, sym, ap, _∙_, subst}
 use mathlib.Core.Logic.{_≢_, ⊎-elim}
 use Prim.Native.Nat.{ℕ, suc, _+_, _-_, _≤_, _<_}
@@ -169,7 +170,8 @@ module _ (a : PickRequest) (i j n start : ℕ) (start-in : start < n) (inside : 
   many-waiting w h = h .facts .many
 
   -- a piece that may not be visited is another one, and comes before it
-  before : (p : ℕ) (w : PickState) → Waits w → p < n → standsOpen a p w ≡ false → far n start i ≤ far n start p → far n start i < far n start p
+  before : (p : ℕ) (w : PickState) → Waits w → p < n → standsOpen a p w ≡ false → far n start i ≤ far n start p
+      → far n start i < far n start p
   before p w h l e c = elim (ℕ-discrete i p) [
     | yes q ↦ absurd (true≢false (sym (open-waiting w h) ∙ subst (λ k. standsOpen a k w ≡ false) (sym q) e))
     | no q ↦ elim (ℕ-discrete (far n start i) (far n start p)) [
@@ -181,7 +183,8 @@ module _ (a : PickRequest) (i j n start : ℕ) (start-in : start < n) (inside : 
   skip-next : (x : RandomWalk) (m : ℕ) (y : RandomWalk) → skipDone a y ≡ false → Skipping x (suc m) y → Skipping x m (skipStep start y)
   unfolding skipStep skipDone
   skip-next x m y e h =
-      let b = before (y .place) (y .work) (h .waiting) (h .place) (or-no-right (y .back) (standsOpen a (y .place) (y .work)) e) (h .coming) in
+      let b = before (y .place) (y .work) (h .waiting) (h .place) (or-no-right (y .back) (standsOpen a (y .place) (y .work)) e)
+      (h .coming) in
       let o = onward-on n start start-in (y .work .picker) (many-waiting (y .work) (h .waiting)) i (y .place) inside (h .place) b in
       let f = o .2 in
       record {
@@ -223,7 +226,8 @@ module _ (a : PickRequest) (i j n start : ℕ) (start-in : start < n) (inside : 
   skip-gives : (x : RandomWalk) → Waits (x .work) → x .place < n → far n start i ≤ far n start (x .place) → Skipped x (skip a start x)
   unfolding skip
   skip-gives x h l c =
-      repeat-reaches (Skipping x) (Skipped x) (skipStep start) (skipDone a) (skip-next x) (skip-over x) (skip-last x) (piecesIn (x .work .picker))
+      repeat-reaches (Skipping x) (Skipped x) (skipStep start) (skipDone a) (skip-next x) (skip-over x) (skip-last x)
+      (piecesIn (x .work .picker))
       (record { work = x .work; place = x .place; back = false; seen = x .seen; over = x .over })
       (record {
         waiting = h;
@@ -254,7 +258,8 @@ module _ (a : PickRequest) (i j n start : ℕ) (start-in : start < n) (inside : 
     walking : Walking m x → Under m x
 
   -- the walk goes on behind piece e, which comes before the piece that waits
-  arrives : (m e : ℕ) (x : RandomWalk) (w : PickState) (s : Picker) → s ≡ w .picker → Coming a i j Round w → e < n → far n start i < far n start e
+  arrives : (m e : ℕ) (x : RandomWalk) (w : PickState) (s : Picker) → s ≡ w .picker → Coming a i j Round w → e < n
+      → far n start i < far n start e
       → far n start e ≤ suc m → Under m (arrive start (onward s e) x w)
   unfolding arrive Waits
   arrives m e x w s q (sure h) l f k = surely h
@@ -270,7 +275,8 @@ module _ (a : PickRequest) (i j n start : ℕ) (start-in : start < n) (inside : 
       })
 
   -- the piece alone
-  piece-under : (m : ℕ) (z : RandomWalk) → Waits (z .work) → z .place < n → far n start i ≤ far n start (z .place) → far n start (z .place) ≤ suc m
+  piece-under : (m : ℕ) (z : RandomWalk) → Waits (z .work) → z .place < n → far n start i ≤ far n start (z .place)
+      → far n start (z .place) ≤ suc m
       → Under m (randomPiece a start z)
   unfolding randomPiece arrive flagged Waits
   piece-under m z h l c k =
@@ -295,7 +301,8 @@ module _ (a : PickRequest) (i j n start : ℕ) (start-in : start < n) (inside : 
       (x .0, x .1)
 
   -- the piece stands in the span
-  span-takes : (p : ℕ) (w : PickState) → Waits w → isOpen (pieceAt (w .picker) p .state) ≡ true → any (eqb i) (piecesOf (expandPiece a p w)) ≡ true
+  span-takes : (p : ℕ) (w : PickState) → Waits w → isOpen (pieceAt (w .picker) p .state) ≡ true
+      → any (eqb i) (piecesOf (expandPiece a p w)) ≡ true
       → Sure i j (takeSpan takeAll (piecesOf (expandPiece a p w)) w)
   unfolding Waits
   span-takes p w h o m =
@@ -307,17 +314,20 @@ module _ (a : PickRequest) (i j n start : ℕ) (start-in : start < n) (inside : 
   among x f t = stands-range i (x .first) (x .end) f t
 
   -- the piece stands behind it
-  past : (m : ℕ) (z : RandomWalk) (x : Span) → Coming a i j Round (takeSpan takeAll (piecesOf x) (z .work)) → x .first ≤ z .place → z .place < x .end
+  past : (m : ℕ) (z : RandomWalk) (x : Span) → Coming a i j Round (takeSpan takeAll (piecesOf x) (z .work)) → x .first ≤ z .place
+      → z .place < x .end
       → x .end ≤ n → far n start i ≤ far n start (z .place) → far n start (z .place) ≤ suc m → (z .place ≤ i → i ≤ x .end - 1 → ⊥)
       → Under m (arrive start (onward (z .work .picker) (x .end - 1)) z (takeSpan takeAll (piecesOf x) (z .work)))
   past m z x g f t y c k out =
       let b = far-beyond n start start-in i (z .place) (x .end - 1) inside (omega arith) (omega arith) c out in
       let e = b .1 in
-      arrives m (x .end - 1) z (takeSpan takeAll (piecesOf x) (z .work)) (z .work .picker) (sym (span-picker (piecesOf x) (z .work))) g (omega arith) (b .0)
+      arrives m (x .end - 1) z (takeSpan takeAll (piecesOf x) (z .work)) (z .work .picker) (sym (span-picker (piecesOf x) (z .work))) g
+      (omega arith) (b .0)
       (omega arith)
 
   -- a whole span
-  span-under : (m : ℕ) (z : RandomWalk) → Waits (z .work) → z .place < n → far n start i ≤ far n start (z .place) → far n start (z .place) ≤ suc m
+  span-under : (m : ℕ) (z : RandomWalk) → Waits (z .work) → z .place < n → far n start i ≤ far n start (z .place)
+      → far n start (z .place) ≤ suc m
       → isOpen (pieceAt (z .work .picker) (z .place) .state) ≡ true → Under m (randomSpan a start z)
   unfolding randomSpan arrive Waits
   span-under m z h l c k o =
@@ -337,7 +347,8 @@ module _ (a : PickRequest) (i j n start : ℕ) (start-in : start < n) (inside : 
         | no p ↦ past m z x g f t (omega arith) c k (λ u v. omega arith)
       ]
 
-  visit-under : (m : ℕ) (z : RandomWalk) → Waits (z .work) → z .place < n → far n start i ≤ far n start (z .place) → far n start (z .place) ≤ suc m
+  visit-under : (m : ℕ) (z : RandomWalk) → Waits (z .work) → z .place < n → far n start i ≤ far n start (z .place)
+      → far n start (z .place) ≤ suc m
       → Under m (randomVisit a start z)
   unfolding randomVisit
   visit-under m z h l c k =
@@ -350,7 +361,8 @@ module _ (a : PickRequest) (i j n start : ℕ) (start-in : start < n) (inside : 
   unfolding randomVisit randomSpan randomPiece arrive
   visit-sure z h =
       let w = z .work in
-      branch-arms (λ y. Sure i j (y .work)) (contiguousAbove 1 (w .contiguous) && isOpen (pieceAt (w .picker) (z .place) .state)) (randomSpan a start)
+      branch-arms (λ y. Sure i j (y .work)) (contiguousAbove 1 (w .contiguous) && isOpen (pieceAt (w .picker) (z .place) .state))
+      (randomSpan a start)
       (randomPiece a start) z
       (λ e. span-sure i j (piecesOf (expandPiece a (z .place) w)) w h)
       (λ e. blocks-sure i j a (z .place) (flagged randomPieces w) (flags-sure i j randomPieces w h))
@@ -361,7 +373,8 @@ module _ (a : PickRequest) (i j n start : ℕ) (start-in : start < n) (inside : 
   lap-sure x h =
       let y = skip a start x in
       let g = skip-sure x h in
-      branch-arms (λ v. Sure i j (v .work)) (lapEnds a y) ended (λ v. randomVisit a start (marked v)) y (λ e. g) (λ e. visit-sure (marked y) g)
+      branch-arms (λ v. Sure i j (v .work)) (lapEnds a y) ended (λ v. randomVisit a start (marked v)) y (λ e. g)
+      (λ e. visit-sure (marked y) g)
 
   goes-on : (x y : RandomWalk) → Skipped x y → lapEnds a y ≡ false
   unfolding lapEnds

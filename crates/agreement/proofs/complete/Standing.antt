@@ -88,7 +88,8 @@ module _ {A B : Type 0} (t : A → Bool) (u : B → Bool) (f : A → B) (h : (x 
   pub any-each : (l : List A) → any t l ≡ true → any u (each f l) ≡ true
   unfolding each
   any-each [] g = absurd (none-there t g)
-  any-each (x ∷ l) g = ⊎-elim (λ e. any-first u (f x) (each f l) (h x e)) (λ e. any-rest u (f x) (each f l) (any-each l e)) (any-cons t x l g)
+  any-each (x ∷ l) g =
+      ⊎-elim (λ e. any-first u (f x) (each f l) (h x e)) (λ e. any-rest u (f x) (each f l) (any-each l e)) (any-cons t x l g)
 
 -- ---- the free blocks of a partial
 -- the block that is turned onto block j
@@ -119,11 +120,13 @@ module _ (d : DownloadingPiece) (j : ℕ) (h : j < len (d .blocks)) (free : same
       (any-each (eqb (x .0)) (eqb j) (λ k. (k + first) % n) (λ k e. eq-eqb j ((k + first) % n) (onto x k (eqb-true (x .0) k e))) (from 0 n)
       (stands-from (x .0) 0 n (omega arith) (let l = x .1 in omega arith)))
     where
-      onto : (x : (k : ℕ) × (k < len (d .blocks)) × ((k + first) % len (d .blocks) ≡ j)) (k : ℕ) → x .0 ≡ k → j ≡ (k + first) % len (d .blocks)
+      onto : (x : (k : ℕ) × (k < len (d .blocks)) × ((k + first) % len (d .blocks) ≡ j)) (k : ℕ) → x .0 ≡ k
+          → j ≡ (k + first) % len (d .blocks)
       onto x k e = rw (sym e) (sym (x .2))
 
 -- the blocks of piece i
 pub given-each : (i j : ℕ) (js : List ℕ) → any (eqb j) js ≡ true → isGiven i j (each (pieceBlock i) js) ≡ true
 unfolding isGiven pieceBlock
 given-each i j js h =
-    any-each (eqb j) (λ b. eqb (b .piece) i && eqb (b .block) j) (pieceBlock i) (λ k e. rw (eq-eqb i i refl, eq-eqb k j (sym (eqb-true j k e)))) js h
+    any-each (eqb j) (λ b. eqb (b .piece) i && eqb (b .block) j) (pieceBlock i)
+    (λ k e. rw (eq-eqb i i refl, eq-eqb k j (sym (eqb-true j k e)))) js h

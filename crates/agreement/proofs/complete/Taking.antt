@@ -112,7 +112,8 @@ module _ (i j : ℕ) where
   use-taken a d h w t =
       let first = cond (contiguousIsZero (w .contiguous)) 0 (h .first) in
       let g = stands-free d j (t .inside) (t .free) first in
-      branch-arms (Sure i j) (contiguousAbove (h .longest) (w .contiguous) && h .active) (setAside d first) (keepingContiguous (takeFree d first)) w
+      branch-arms (Sure i j) (contiguousAbove (h .longest) (w .contiguous) && h .active) (setAside d first)
+      (keepingContiguous (takeFree d first)) w
       (λ e. aside-taken d first w (t .piece) g)
       (λ e. contiguous-sure i j (w .contiguous) (takeFree d first w) (free-taken d first w (t .piece) g))
 

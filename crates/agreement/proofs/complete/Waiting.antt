@@ -100,7 +100,8 @@ module _ (a : PickRequest) (i j : ℕ) (F : Picker → Type 0) where
     step-this : (w : PickState) → Waiting w → isOpen (pieceAt (w .picker) i .state) ≡ true → Sure i j (spanStep takes i w)
     unfolding spanStep ignore
     step-this w h o =
-        branch-second (Sure i j) (isIgnored i w) (λ v. withContiguous (shorter (v .contiguous)) v) (λ v. takes i (ignore i v)) w (h .unmarked)
+        branch-second (Sure i j) (isIgnored i w) (λ v. withContiguous (shorter (v .contiguous)) v) (λ v. takes i (ignore i v)) w
+        (h .unmarked)
         (this (ignore i w) (new-payload (w .picker) (h .way) o))
 
     step-waiting : (k : ℕ) (w : PickState) → isOpen (pieceAt (w .picker) k .state) ≡ true → Waiting w → Coming (spanStep takes k w)
@@ -112,7 +113,8 @@ module _ (a : PickRequest) (i j : ℕ) (F : Picker → Type 0) where
     step-picker : (k : ℕ) (w : PickState) → spanStep takes k w .picker ≡ w .picker
     unfolding spanStep withContiguous withOut ignore
     step-picker k w =
-        branch-arms (λ v. v .picker ≡ w .picker) (isIgnored k w) (λ v. withContiguous (shorter (v .contiguous)) v) (λ v. takes k (ignore k v)) w
+        branch-arms (λ v. v .picker ≡ w .picker) (isIgnored k w) (λ v. withContiguous (shorter (v .contiguous)) v)
+        (λ v. takes k (ignore k v)) w
         (λ e. refl) (λ e. quiet k (ignore k w) .picker)
 
     step-coming : (k : ℕ) (w : PickState) → isOpen (pieceAt (w .picker) k .state) ≡ true → Coming w → Coming (spanStep takes k w)
@@ -120,10 +122,12 @@ module _ (a : PickRequest) (i j : ℕ) (F : Picker → Type 0) where
     step-coming k w o (waits h) = step-waiting k w o h
 
     -- a whole span of Open pieces
-    span-coming : (ks : List ℕ) (w : PickState) → every (λ k. isOpen (pieceAt (w .picker) k .state)) ks ≡ true → Coming w → Coming (takeSpan takes ks w)
+    span-coming : (ks : List ℕ) (w : PickState) → every (λ k. isOpen (pieceAt (w .picker) k .state)) ks ≡ true → Coming w
+        → Coming (takeSpan takes ks w)
     unfolding takeSpan every
     span-coming ks w o h =
-        forEach-ends (λ ms v. (v .picker ≡ w .picker) × (every (λ k. isOpen (pieceAt (w .picker) k .state)) ms ≡ true) × Coming v) (spanStep takes)
+        forEach-ends (λ ms v. (v .picker ≡ w .picker) × (every (λ k. isOpen (pieceAt (w .picker) k .state)) ms ≡ true) × Coming v)
+        (spanStep takes)
         (λ k ms v g. (
           step-picker k v ∙ g .0,
           and-right (isOpen (pieceAt (w .picker) k .state)) (every (λ m. isOpen (pieceAt (w .picker) m .state)) ms) (g .1),
@@ -164,7 +168,8 @@ module _ (a : PickRequest) (i j : ℕ) (F : Picker → Type 0) where
   new-coming k w o h =
       let js = from 0 (least (payloadBlocksInPiece (w .picker) k) (w .left)) in
       branch-arms Coming (contiguousIsZero (w .contiguous)) (forEach (took k) js) (takeSpan takePayload (piecesOf (expandPiece a k w))) w
-      (λ e. coming-quiet w (forEach (took k) js w) (forEach-keeps (Quiet w) (took k) (quiet-took w k) js w (quiet-self w)) (each-took-sure k js w) h)
+      (λ e. coming-quiet w (forEach (took k) js w) (forEach-keeps (Quiet w) (took k) (quiet-took w k) js w (quiet-self w))
+      (each-took-sure k js w) h)
       (λ e. span-coming takePayload (λ n v. quiet-payload v n v (quiet-self v)) (payload-sure i j) (payload-taken i j)
       (piecesOf (expandPiece a k w)) w (span-open a k w o) h)
 
@@ -172,7 +177,8 @@ module _ (a : PickRequest) (i j : ℕ) (F : Picker → Type 0) where
   unfolding addNewPiece
   new-reaches w o h =
       let js = from 0 (least (payloadBlocksInPiece (w .picker) i) (w .left)) in
-      branch-arms (Sure i j) (contiguousIsZero (w .contiguous)) (forEach (took i) js) (takeSpan takePayload (piecesOf (expandPiece a i w))) w
+      branch-arms (Sure i j) (contiguousIsZero (w .contiguous)) (forEach (took i) js)
+      (takeSpan takePayload (piecesOf (expandPiece a i w))) w
       (λ e. plain-taken i j w (new-payload (w .picker) (h .way) o))
       (λ e. span-reaches takePayload (λ n v. quiet-payload v n v (quiet-self v)) (payload-sure i j) (payload-taken i j)
       (piecesOf (expandPiece a i w)) w o (span-holds a i w) h)
@@ -186,11 +192,13 @@ module _ (a : PickRequest) (i j : ℕ) (F : Picker → Type 0) where
       unless-keeps Coming (isIgnored k w) (branch (isOpen q) (keepingContiguous (addNewPiece a k)) f) w h
       (λ e. branch-arms Coming (isOpen q) (keepingContiguous (addNewPiece a k)) f w
       (λ o. let v = addNewPiece a k w in
-      coming-quiet v (withContiguous (w .contiguous) v) (quiet-run v (w .contiguous) v (quiet-self v)) (contiguous-sure i j (w .contiguous) v) (new-coming k w o h))
+      coming-quiet v (withContiguous (w .contiguous) v) (quiet-run v (w .contiguous) v (quiet-self v))
+      (contiguous-sure i j (w .contiguous) v) (new-coming k w o h))
       (λ o. when-keeps Coming (sameQueue (unreverse q) Downloading) (addStanding a k) w h
       (λ z. coming-quiet w (addStanding a k w) (quiet-standing w a k w (quiet-self w)) (standing-sure i j a k w) h)))
 
-  standing-reaches : (w : PickState) (d : DownloadingPiece) → partialOf (w .picker) i ≡ some d → Takes a i j d → option prioritizePartials a ≡ false
+  standing-reaches : (w : PickState) (d : DownloadingPiece) → partialOf (w .picker) i ≡ some d → Takes a i j d
+      → option prioritizePartials a ≡ false
       → Sure i j (addStanding a i w)
   unfolding addStanding addPartialOf
   standing-reaches w d e t p =
@@ -222,7 +230,8 @@ module _ (a : PickRequest) (i j : ℕ) (F : Picker → Type 0) where
   pub random-coming : (k : ℕ) (w : PickState) → isOpen (pieceAt (w .picker) k .state) ≡ true → Coming w
       → Coming (takeSpan takeAll (piecesOf (expandPiece a k w)) w)
   random-coming k w o h =
-      span-coming takeAll (λ n v. quiet-all v n v (quiet-self v)) (all-sure i j) (all-taken i j) (piecesOf (expandPiece a k w)) w (span-open a k w o) h
+      span-coming takeAll (λ n v. quiet-all v n v (quiet-self v)) (all-sure i j) (all-taken i j) (piecesOf (expandPiece a k w)) w
+      (span-open a k w o) h
 
   pub random-reaches : (ks : List ℕ) (w : PickState) → isOpen (pieceAt (w .picker) i .state) ≡ true → any (eqb i) ks ≡ true → Waiting w
       → Sure i j (takeSpan takeAll ks w)

@@ -95,7 +95,8 @@ module _ (a : PickRequest) (i j : ℕ) (r p : Bool) where
   guarded-due b f k w h = unless-keeps Due b (visit a f k) w h (λ e. visit-due f k w h)
 
   -- where it is not left out for the piece
-  guarded-reaches : (b : Bool) (f : ℕ) (w : PickState) → (Placed a i r p (w .picker) → b ≡ false) → Due w → Sure i j (unless b (visit a f i) w)
+  guarded-reaches : (b : Bool) (f : ℕ) (w : PickState) → (Placed a i r p (w .picker) → b ≡ false) → Due w
+      → Sure i j (unless b (visit a f i) w)
   unfolding Due
   guarded-reaches b f w g (sure h) = guarded-sure b f i w h
   guarded-reaches b f w g (waits h) = unless-made (Sure i j) b (visit a f i) w (g (h .facts)) (visit-reaches f w h)
@@ -112,7 +113,8 @@ module _ (a : PickRequest) (i j : ℕ) (r p : Bool) where
     walk-due ks w h = walkUntil-keeps Due step (λ k v. spent (step k v)) due ks w h
 
     -- a walk over a list that has the piece
-    walk-gives : ((w : PickState) → Due w → Sure i j (step i w)) → (ks : List ℕ) (w : PickState) → (Placed a i r p (w .picker) → any (eqb i) ks ≡ true)
+    walk-gives : ((w : PickState) → Due w → Sure i j (step i w)) → (ks : List ℕ) (w : PickState) → (Placed a i r p (w .picker)
+        → any (eqb i) ks ≡ true)
         → Due w → Sure i j (walk step spent ks w)
     unfolding Due
     walk-gives reach ks w m (sure h) = walk-sure ks w h
@@ -139,15 +141,20 @@ module _ (a : PickRequest) (i j : ℕ) (r p : Bool) where
       let s = w .picker in
       branch-arms Due (option reverse a) (walk (visitBelowTop a reverseSequential) spent (rangeDown (s .cursor) (s .reverseCursor)))
       (walk (visitBelowTop a sequentialPieces) spent (range (s .cursor) (s .reverseCursor))) w
-      (λ e. walk-due (visitBelowTop a reverseSequential) (below-due reverseSequential) (below-sure reverseSequential) (rangeDown (s .cursor) (s .reverseCursor)) w h)
-      (λ e. walk-due (visitBelowTop a sequentialPieces) (below-due sequentialPieces) (below-sure sequentialPieces) (range (s .cursor) (s .reverseCursor)) w h)
+      (λ e. walk-due (visitBelowTop a reverseSequential) (below-due reverseSequential) (below-sure reverseSequential)
+      (rangeDown (s .cursor) (s .reverseCursor)) w h)
+      (λ e. walk-due (visitBelowTop a sequentialPieces) (below-due sequentialPieces) (below-sure sequentialPieces)
+      (range (s .cursor) (s .reverseCursor)) w h)
 
   -- a piece in the range lies between the cursors
   between : r ≡ true → (s : Picker) → Placed a i r p s → (s .cursor ≤ i) × (i < s .reverseCursor)
   unfolding inRange
   between e s h =
-      let g = and-right (option sequential a) (leb (s .cursor) i && ltb i (s .reverseCursor)) (h .range ∙ e) in
-      (leb-true (s .cursor) i (and-left (leb (s .cursor) i) (ltb i (s .reverseCursor)) g), ltb-true i (s .reverseCursor) (and-right (leb (s .cursor) i) (ltb i (s .reverseCursor)) g))
+      let g = and-right (option sequential a) (leb (s .cursor) i && ltb i (s .reverseCursor)) (h .range ∙ e) in (
+        leb-true (s .cursor) i (and-left (leb (s .cursor) i) (ltb i (s .reverseCursor)) g),
+        ltb-true i (s .reverseCursor)
+            (and-right (leb (s .cursor) i) (ltb i (s .reverseCursor)) g),
+      )
 
   range-gives : r ≡ true → p ≡ false → (w : PickState) → Due w → Sure i j (pickRange a w)
   unfolding pickRange
@@ -155,13 +162,20 @@ module _ (a : PickRequest) (i j : ℕ) (r p : Bool) where
       let s = w .picker in
       branch-arms (Sure i j) (option reverse a) (walk (visitBelowTop a reverseSequential) spent (rangeDown (s .cursor) (s .reverseCursor)))
       (walk (visitBelowTop a sequentialPieces) spent (range (s .cursor) (s .reverseCursor))) w
-      (λ o. walk-gives (visitBelowTop a reverseSequential) (below-due reverseSequential) (below-sure reverseSequential) (below-reaches q reverseSequential)
-      (rangeDown (s .cursor) (s .reverseCursor)) w (λ g. let b = between e s g in stands-down i (s .cursor) (s .reverseCursor) (b .0) (b .1)) h)
-      (λ o. walk-gives (visitBelowTop a sequentialPieces) (below-due sequentialPieces) (below-sure sequentialPieces) (below-reaches q sequentialPieces)
-      (range (s .cursor) (s .reverseCursor)) w (λ g. let b = between e s g in stands-range i (s .cursor) (s .reverseCursor) (b .0) (b .1)) h)
+      (λ o. walk-gives (visitBelowTop a reverseSequential) (below-due reverseSequential) (below-sure reverseSequential)
+      (below-reaches q reverseSequential)
+      (rangeDown (s .cursor) (s .reverseCursor)) w
+      (λ g. let b = between e s g in stands-down i (s .cursor) (s .reverseCursor) (b .0) (b .1)) h)
+      (λ o. walk-gives (visitBelowTop a sequentialPieces) (below-due sequentialPieces) (below-sure sequentialPieces)
+      (below-reaches q sequentialPieces)
+      (range (s .cursor) (s .reverseCursor)) w
+      (λ g. let b = between e s g in stands-range i (s .cursor) (s .reverseCursor) (b .0) (b .1)) h)
 
-  top-due : (w : PickState) → Due w → Due (walk (visit a prioSequentialPieces) spent (leadingTop (w .picker) (listOf (w .picker .listing))) w)
-  top-due w h = walk-due (visit a prioSequentialPieces) (visit-due prioSequentialPieces) (visit-sure prioSequentialPieces) (leadingTop (w .picker) (listOf (w .picker .listing))) w h
+  top-due : (w : PickState) → Due w
+      → Due (walk (visit a prioSequentialPieces) spent (leadingTop (w .picker) (listOf (w .picker .listing))) w)
+  top-due w h =
+      walk-due (visit a prioSequentialPieces) (visit-due prioSequentialPieces) (visit-sure prioSequentialPieces)
+      (leadingTop (w .picker) (listOf (w .picker .listing))) w h
 
   -- the sequential phase
   pub sequential-due : (w : PickState) → Due w → Due (pickSequential a w)
@@ -253,14 +267,16 @@ module _ (a : PickRequest) (i j : ℕ) (r p : Bool) where
   extent-due k x h =
       let s = x .work .picker in
       let e = nth 0 (s .recentExtents) k in
-      walk-due (visitOutside a extentAffinity) (outside-due extentAffinity) (outside-sure extentAffinity) (range (extentStart s e) (extentEnd s e)) (x .work) h
+      walk-due (visitOutside a extentAffinity) (outside-due extentAffinity) (outside-sure extentAffinity)
+      (range (extentStart s e) (extentEnd s e)) (x .work) h
 
   extents-due : (w : PickState) → Due w → Due (pickExtents a w)
   unfolding pickExtents walk
   extents-due w h =
       let x = walk (extentStep a) (λ y. spent (y .work)) (from 0 (len (w .picker .recentExtents))) (record { work = w; finished = none }) in
       forget-due (x .finished) (x .work)
-      (walkUntil-keeps (λ y. Due (y .work)) (extentStep a) (λ k y. spent (extentStep a k y .work)) extent-due (from 0 (len (w .picker .recentExtents)))
+      (walkUntil-keeps (λ y. Due (y .work)) (extentStep a) (λ k y. spent (extentStep a k y .work)) extent-due
+      (from 0 (len (w .picker .recentExtents)))
       (record { work = w; finished = none }) h)
 
   -- ---- the list

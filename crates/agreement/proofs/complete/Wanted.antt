@@ -70,7 +70,8 @@ module _ (n : ℕ) where
     covers-main w z h =
         let k = covers-kept a in
         branch-arms Covers (option sequential a || option rarestFirst a) (pickListed draws a) (pickRandom draws a) w
-        (λ e. pickListed-keeps a anyPartial Covers Covers k k (λ v g. g) covers-forget (covers-step 1 rareLoops) (covers-step 1 reverseRareLoops) draws w z
+        (λ e. pickListed-keeps a anyPartial Covers Covers k k (λ v g. g) covers-forget (covers-step 1 rareLoops)
+        (covers-step 1 reverseRareLoops) draws w z
         (covers-picker _ _ w h))
         (λ e. ring-keeps a anyPartial Covers k (covers-step 1 randStartLoops) (draw draws (w .used) (piecesIn (w .picker) - 1))
         (withPicker (w .picker) (suc (w .used)) w) (covers-picker (w .picker) (suc (w .used)) w h))
@@ -89,7 +90,8 @@ module _ (n : ℕ) where
         unless-keeps Covers (spent v || option onParole a) (pickEndGame draws a) v g (λ e. covers-end v g)
 
 -- where fewer blocks are given than are wanted
-pub still-wanted : (draws : Draws) (s : Picker) (a : PickRequest) → len (pickPieces draws s a .out) < a .wanted → 0 < pickPieces draws s a .left
+pub still-wanted : (draws : Draws) (s : Picker) (a : PickRequest) → len (pickPieces draws s a .out) < a .wanted
+    → 0 < pickPieces draws s a .left
 unfolding pickPieces Covers startState len
 still-wanted draws s a h =
     let n = a .wanted in
