@@ -1,3 +1,5 @@
 pub mod CasesHold
 pub mod Term3Holds
 pub mod given
+pub mod complete
+pub mod CompleteHolds

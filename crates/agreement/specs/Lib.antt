@@ -1,3 +1,4 @@
 pub mod Cases
 pub mod SoundPick
 pub mod Term3
+pub mod Complete

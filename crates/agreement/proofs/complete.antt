@@ -1,0 +1,13 @@
+pub mod Reaching
+pub mod Giving
+pub mod Standing
+pub mod Taking
+pub mod Quiet
+pub mod Waiting
+pub mod Early
+pub mod Walks
+pub mod Ring
+pub mod Phases
+pub mod Reading
+pub mod Wanted
+pub mod Reasons
