@@ -10,9 +10,10 @@ use Rattle.list_groups.specs.Places.{Rises, NoLower, Splits, Parted, IsG
 use Rattle.list_groups.proofs.WordLaws.{under-top, top-over, over-top}
 
 -- ranks that never fall are split by the highest word of a rank
-pub rises-splits : (rank from end : ℕ) (l : List ℕ) → Rises from end l → Splits (topOf rank) from end l
-rises-splits rank from end l h k m a c d g =
-    top-over rank (getD l k 0) (omega (arith, h k m a c d, under-top rank (getD l m 0) g))
+pub rises-splits : (top rank from end : ℕ) (l : List ℕ) → top ≡ topOf rank → Rises from end l → Splits top from end l
+rises-splits top rank from end l e h k m a c d g =
+    let t : getD l m 0 ≤ topOf rank = omega (arith, e) in
+    omega (arith, e, top-over rank (getD l k 0) (omega (arith, h k m a c d, under-top rank (getD l m 0) t)))
 
 -- what is split is so on a part
 pub splits-within : (top from end low high : ℕ) (l : List ℕ) → from ≤ low → high ≤ end → Splits top from end l → Splits top low high l
@@ -121,18 +122,18 @@ module _ {top from end : ℕ} {l : List ℕ} (split : Splits top from end l) {lo
   pub halves-next : (d : ℕ) → (getD l middle 0 ≤ top → d ≡ half) → (top < getD l middle 0 → d ≡ 0) → Halves top from end l (low + d) (size - half)
   halves-next d under over = elim (decLe (getD l middle 0) top) [
     | yes q ↦ (
-      let e : low + d ≡ middle + 1 = omega (arith, under q) in
-      let f : middle + 1 + (size - half) ≡ low + size = omega arith in
-      record { seen = rw (e, f) (parted-under split (s .seen) middle (omega arith) (omega arith) q); at = omega (arith, s .at, under q) }
-    )
+        let e : low + d ≡ middle + 1 = omega (arith, under q) in
+        let f : middle + 1 + (size - half) ≡ low + size = omega arith in
+        record { seen = rw (e, f) (parted-under split (s .seen) middle (omega arith) (omega arith) q); at = omega (arith, s .at, under q) }
+        )
     | no q ↦ (
-      let e : low + d ≡ low = omega (arith, over (omega arith)) in
-      record {
-        seen = rw e (parted-wider (low + (size - half)) (parted-over split (s .seen) middle (omega arith) (omega arith) (omega arith))
-            (omega arith) (omega (arith, s .at)));
-        at = omega (arith, s .at, over (omega arith));
-      }
-    )
+        let e : low + d ≡ low = omega (arith, over (omega arith)) in
+        record {
+          seen = rw e (parted-wider (low + (size - half)) (parted-over split (s .seen) middle (omega arith) (omega arith) (omega arith))
+              (omega arith) (omega (arith, s .at)));
+          at = omega (arith, s .at, over (omega arith));
+        }
+        )
   ]
 
 -- with none left the search is over

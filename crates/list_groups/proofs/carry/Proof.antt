@@ -1,80 +1,81 @@
+-- `carry` meets its contract. The invariant: what is left to carry from k on gives what is to be made. Assumes nothing.
 use borrow.Author.Needs.{needs}
+use mathlib.Core.Path.{refl}
+use Prim.Native.Nat.{_-_}
+use native.Mathlib.Omega.{arith}
+use lib.ListN.{set, length-set}
+use Rattle.list_groups.specs.Places.{carried}
+use Rattle.list_groups.proofs.Searching.{rises-splits}
+use Rattle.list_groups.proofs.Carrying.{Carries, rises-behind, carries-come, carries-next, carries-end}
 use Rattle.list_groups.proofs.carry.Statement.{statement}
 use Rattle.list_groups.proofs.carry.Tie as tie
-use Rattle.list_groups.proofs.carry.Reads as reads
-use Rattle.list_groups.proofs.carry.Lts as lts
-use Rattle.list_groups.proofs.group_end.Reads as group-end-reads
-use Rattle.list_groups.proofs.top_of.Reads as top-of-reads
 
 abbrev Inv-loop : tie.InvT-loop
-Inv-loop list₀ from end first held₀ k₀ list held k = ?
+Inv-loop list₀ from end first held₀ k₀ list held k = Carries end (carried from end first list₀) list₀ list held k
 
 abbrev μ-loop : tie.MeasureT-loop
-μ-loop list₀ from end first held₀ k₀ list held k = ?
+μ-loop list₀ from end first held₀ k₀ list held k = end - k
 
--- src/lib.rt:90:44
 top-of-requires : tie.Need-top-of-requires Inv-loop μ-loop
-top-of-requires c κs = ?
+top-of-requires c κs = tt
 
--- src/lib.rt:90:9
 group-end-requires : tie.Need-group-end-requires Inv-loop μ-loop
-group-end-requires c κs = ?
+group-end-requires c κs =
+    let t = c .before .before .before in
+    (t .pre .0, (omega (arith, t .pre .1 .0), rises-splits _ _ _ _ (t .args .list .now) (c .top-of .ensures) (t .pre .1 .1 .0)))
 
--- src/lib.rt:91:5
 loop-holds : tie.Need-loop-holds Inv-loop μ-loop
-loop-holds c = ?
+loop-holds c =
+    let t = c .before .before .before .before in
+    carries-come _ (t .args .from) (t .args .end) (t .args .first) _ _ (t .args .list .now) (t .args .list .now) (c .before .top-of .ensures)
+    (t .pre .1 .0) refl refl (t .pre .1 .1 .0) (t .pre .1 .1 .1) (c .group-end .ensures)
 
--- src/lib.rt:92:20
 mul-next : tie.Need-mul-next Inv-loop μ-loop
 mul-next c = search needs
 
--- src/lib.rt:92:20
 slice-read-next : tie.Need-slice-read-next Inv-loop μ-loop
-slice-read-next c = search needs
+slice-read-next c = let l = c .before .before .loop in omega (arith, l .inv .long, c .before .loop-test .taken, c .before .before .before .before .before .before .before .pre .1 .0)
 
--- src/lib.rt:93:9
 mul-list : tie.Need-mul-list Inv-loop μ-loop
 mul-list c = search needs
 
--- src/lib.rt:93:9
 slice-write-list : tie.Need-slice-write-list Inv-loop μ-loop
-slice-write-list c = search needs
+slice-write-list c = let l = c .before .before .loop in omega (arith, l .inv .long, c .before .loop-test .taken, c .before .before .before .before .before .before .before .pre .1 .0)
 
--- src/lib.rt:95:29
 add-group-end : tie.Need-add-group-end Inv-loop μ-loop
 add-group-end c = search needs
 
--- src/lib.rt:95:41
 top-of-requires-2 : tie.Need-top-of-requires-2 Inv-loop μ-loop
-top-of-requires-2 c κs = ?
+top-of-requires-2 c κs = tt
 
--- src/lib.rt:95:9
 group-end-requires-2 : tie.Need-group-end-requires-2 Inv-loop μ-loop
-group-end-requires-2 c κs = ?
+group-end-requires-2 c κs =
+    let l = c .before .before .before .before .loop in
+    let t = c .before .before .before .before .before .before .before .before .before in (
+      omega (arith, c .before .before .before .loop-test .taken),
+      (
+        omega (arith, length-set (l .list) (l .k) (l .held), l .inv .long, t .pre .1 .0),
+        rises-splits _ _ _ _ (set (l .list) (l .k) (l .held)) (c .top-of2 .ensures) (rises-behind (l .k) (l .held) (t .args .end) (l .list) (l .inv .rest)),
+      ),
+    )
 
--- src/lib.rt:91:5
 loop-less : tie.Need-loop-less Inv-loop μ-loop
-loop-less c = search needs
+loop-less c = omega (arith, c .group-end2 .ensures .starts, c .before .before .before .before .loop-test .taken)
 
--- src/lib.rt:91:5
 loop-again : tie.Need-loop-again Inv-loop μ-loop
-loop-again c = ?
+loop-again c = carries-next (c .before .before .before .before .before .loop .inv) (c .before .before .before .before .before .before .before .before .before .before .pre .1 .0) (c .before .before .before .before .loop-test .taken) _ _ (c .before .top-of2 .ensures) (c .group-end2 .ensures)
 
--- src/lib.rt:97:5
 mul-list-2 : tie.Need-mul-list-2 Inv-loop μ-loop
 mul-list-2 c = search needs
 
--- src/lib.rt:97:5
 slice-write-list-2 : tie.Need-slice-write-list-2 Inv-loop μ-loop
-slice-write-list-2 c = search needs
+slice-write-list-2 c = omega (arith, c .before .loop .inv .long, c .before .before .before .before .before .before .pre .1 .0)
 
--- src/lib.rt:82:1
 same-length : tie.Need-same-length Inv-loop μ-loop
-same-length c = search needs
+same-length c = omega (arith, c .before .loop .inv .long, length-set (c .before .loop .list) (c .before .before .before .before .before .before .args .end) (c .before .loop .held))
 
--- src/lib.rt:82:1
 returns : tie.Need-returns Inv-loop μ-loop
-returns c = ?
+returns c = carries-end (c .before .loop .inv) (c .before .before .before .before .before .before .pre .1 .0) (c .loop-test .left)
 
 pub carry-spec : {M : Type 1} → statement M
 carry-spec =

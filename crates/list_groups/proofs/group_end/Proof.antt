@@ -1,22 +1,21 @@
+-- `group_end` meets its contract: a search within the last step. Assumes nothing.
 use borrow.Author.Needs.{needs}
+use native.Mathlib.Omega.{arith}
+use Rattle.list_groups.proofs.Searching.{splits-within, parted-within}
 use Rattle.list_groups.proofs.group_end.Statement.{statement}
 use Rattle.list_groups.proofs.group_end.Tie as tie
-use Rattle.list_groups.proofs.group_end.Reads as reads
-use Rattle.list_groups.proofs.group_end.Lts as lts
-use Rattle.list_groups.proofs.gallop.Reads as gallop-reads
-use Rattle.list_groups.proofs.halve.Reads as halve-reads
 
--- src/lib.rt:77:9
 gallop-requires : tie.Need-gallop-requires
-gallop-requires c κs = search needs
+gallop-requires c κs = c .before .pre
 
--- src/lib.rt:78:5
 halve-requires : tie.Need-halve-requires
-halve-requires c κs = ?
+halve-requires c κs =
+    let t = c .before .before in
+    let s = c .gallop .ensures in
+    (s .rises, (omega (arith, s .ends, t .pre .1 .0), splits-within _ _ _ _ _ (t .args .list .now) (s .starts) (s .ends) (t .pre .1 .1)))
 
--- src/lib.rt:71:1
 returns : tie.Need-returns
-returns c = ?
+returns c = parted-within (c .before .gallop .ensures) (c .halve .ensures)
 
 pub group-end-spec : {M : Type 1} → statement M
 group-end-spec = tie.close (tie.spec gallop-requires halve-requires returns)

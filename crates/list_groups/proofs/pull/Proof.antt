@@ -1,88 +1,84 @@
+-- `pull` meets its contract. The invariant: what is left to pull over the free place gives what is to be made. Assumes nothing.
 use borrow.Author.Needs.{needs}
+use mathlib.Core.Path.{refl}
+use Prim.Native.Nat.{_-_, _+_, suc}
+use native.Mathlib.Omega.{arith}
+use lib.ListN.{length-set}
+use Rattle.list_groups.specs.Places.{pulled}
+use Rattle.list_groups.proofs.Searching.{rises-splits}
+use Rattle.list_groups.proofs.Carrying.{rises-within}
+use Rattle.list_groups.proofs.Pulling.{Pulls, pulls-next, pulls-end}
 use Rattle.list_groups.proofs.pull.Statement.{statement}
 use Rattle.list_groups.proofs.pull.Tie as tie
-use Rattle.list_groups.proofs.pull.Reads as reads
-use Rattle.list_groups.proofs.pull.Lts as lts
-use Rattle.list_groups.proofs.group_end.Reads as group-end-reads
-use Rattle.list_groups.proofs.top_of.Reads as top-of-reads
 
 abbrev Inv-loop : tie.InvT-loop
-Inv-loop list₀ k last hole₀ list hole = ?
+Inv-loop list₀ k last hole₀ list hole = Pulls last (pulled k last list₀) list₀ list hole
 
 abbrev μ-loop : tie.MeasureT-loop
-μ-loop list₀ k last hole₀ list hole = ?
+μ-loop list₀ k last hole₀ list hole = last - hole
 
--- src/lib.rt:122:5
 loop-holds : tie.Need-loop-holds Inv-loop μ-loop
-loop-holds c = ?
+loop-holds c = let t = c .before in record { left = refl; at = t .pre .0; rest = t .pre .1 .1; long = refl }
 
--- src/lib.rt:123:35
 add-group-end : tie.Need-add-group-end Inv-loop μ-loop
 add-group-end c = search needs
 
--- src/lib.rt:123:45
 add-group-end-2 : tie.Need-add-group-end-2 Inv-loop μ-loop
 add-group-end-2 c = search needs
 
--- src/lib.rt:123:67
 add-top-of : tie.Need-add-top-of Inv-loop μ-loop
 add-top-of c = search needs
 
--- src/lib.rt:123:62
 mul-top-of : tie.Need-mul-top-of Inv-loop μ-loop
 mul-top-of c = search needs
 
--- src/lib.rt:123:62
 slice-reshared-read-top-of : tie.Need-slice-reshared-read-top-of Inv-loop μ-loop
-slice-reshared-read-top-of c = ?
+slice-reshared-read-top-of c = omega (arith, c .before .before .loop .inv .long, c .before .loop-test .taken, c .before .before .before .before .pre .1 .0)
 
--- src/lib.rt:123:55
 top-of-requires : tie.Need-top-of-requires Inv-loop μ-loop
-top-of-requires c κs = ?
+top-of-requires c κs = tt
 
--- src/lib.rt:123:13
 group-end-requires : tie.Need-group-end-requires Inv-loop μ-loop
-group-end-requires c κs = ?
+group-end-requires c κs =
+    let l = c .before .before .before .loop in
+    let t = c .before .before .before .before .before in (
+      omega (arith, c .before .before .loop-test .taken),
+      (
+        omega (arith, l .inv .long, t .pre .1 .0),
+        rises-splits _ _ _ _ (l .list) (c .top-of .ensures)
+            (rises-within (suc (l .hole)) (suc (t .args .last)) (l .hole + 2) (t .args .last + 1) (l .list) (omega arith) (omega arith) (l .inv .rest)),
+      ),
+    )
 
--- src/lib.rt:124:27
 sub-list : tie.Need-sub-list Inv-loop μ-loop
 sub-list c = search needs
 
--- src/lib.rt:124:22
 mul-list : tie.Need-mul-list Inv-loop μ-loop
 mul-list c = search needs
 
--- src/lib.rt:124:22
 slice-read-list : tie.Need-slice-read-list Inv-loop μ-loop
-slice-read-list c = search needs
+slice-read-list c = let l = c .before .before .before .before .before .loop in omega (arith, l .inv .long, c .before .before .before .before .loop-test .taken, c .before .group-end .ensures .ends, c .before .group-end .ensures .starts, c .before .before .before .before .before .before .before .pre .1 .0)
 
--- src/lib.rt:124:9
 mul-list-2 : tie.Need-mul-list-2 Inv-loop μ-loop
 mul-list-2 c = search needs
 
--- src/lib.rt:124:9
 slice-write-list : tie.Need-slice-write-list Inv-loop μ-loop
-slice-write-list c = search needs
+slice-write-list c = let l = c .before .before .before .before .before .loop in omega (arith, l .inv .long, c .before .before .before .before .loop-test .taken, c .before .before .before .before .before .before .before .pre .1 .0)
 
--- src/lib.rt:125:16
 sub-hole : tie.Need-sub-hole Inv-loop μ-loop
 sub-hole c = search needs
 
--- src/lib.rt:122:5
 loop-less : tie.Need-loop-less Inv-loop μ-loop
-loop-less c = search needs
+loop-less c = omega (arith, c .before .group-end .ensures .starts, c .before .before .before .before .loop-test .taken)
 
--- src/lib.rt:122:5
 loop-again : tie.Need-loop-again Inv-loop μ-loop
-loop-again c = ?
+loop-again c = pulls-next (c .before .before .before .before .before .loop .inv) (c .before .before .before .before .before .before .before .pre .1 .0) (c .before .before .before .before .loop-test .taken) _ _ (c .before .before .top-of .ensures) (c .before .group-end .ensures)
 
--- src/lib.rt:115:1
 same-length : tie.Need-same-length Inv-loop μ-loop
-same-length c = search needs
+same-length c = c .before .loop .inv .long
 
--- src/lib.rt:115:1
 returns : tie.Need-returns Inv-loop μ-loop
-returns c = ?
+returns c = pulls-end (c .before .loop .inv) (c .before .before .before .pre .1 .0) (c .loop-test .left)
 
 pub pull-spec : {M : Type 1} → statement M
 pull-spec =
