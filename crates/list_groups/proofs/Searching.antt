@@ -1,13 +1,18 @@
 -- One turn of the loops of `gallop` and `halve`, and what a search tells of ranks. Assumes nothing.
-use mathlib.Core.Path.{_≡_, refl}
-use mathlib.Core.List.{List}
-use Prim.Native.Nat.{ℕ, suc, _+_, _*_, _-_, _/_, _≤_, _<_}
-use native.Mathlib.Decide.{decLe}
+use mathlib.Core.Path.{_≡_, sym, ap, _∙_}
+use mathlib.Core.Logic.{_≢_}
+use mathlib.Core.List.{List, [], _∷_}
+use Prim.Native.Nat.{ℕ, zero, suc, _+_, _*_, _-_, _/_, _≤_, _<_}
+use native.Mathlib.Nat.{le-of-suc-le-suc}
+use native.Mathlib.Decide.{decLe, ℕ-discrete}
 use native.Mathlib.Omega.{arith}
-use lib.ListN.{length, getD}
+use lib.ListN.{length, getD, take}
+use lib.Seq.{getD-take, length-take-le}
+use borrow.Author.Tests.{eq-eqb, ne-eqb}
+use Rattle.model.specs.Lists.{placeOf}
 use Rattle.list_groups.specs.Words.{listedRank, topOf}
 use Rattle.list_groups.specs.Places.{Rises, NoLower, Splits, Parted, IsGroup}
-use Rattle.list_groups.proofs.WordLaws.{under-top, top-over, over-top}
+use Rattle.list_groups.proofs.WordLaws.{top-below, under-top, top-over, over-top}
 
 -- ranks that never fall are split by the highest word of a rank
 pub rises-splits : (top rank from end : ℕ) (l : List ℕ) → top ≡ topOf rank → Rises from end l → Splits top from end l
@@ -139,3 +144,82 @@ module _ {top from end : ℕ} {l : List ℕ} (split : Splits top from end l) {lo
 -- with none left the search is over
 pub halves-end : {top from end low size : ℕ} {l : List ℕ} → Halves top from end l low size → size ≤ 0 → Parted top from end l low low
 halves-end {top} {from} {end} {low} {size} {l} s h = let e : low + size ≡ low = omega arith in rw e at (s .seen)
+
+-- ---- `group_of`
+-- from a rank's first place to its last
+pub grouped : {rank from end : ℕ} {l : List ℕ} {top low high : ℕ} → 0 < rank → top ≡ topOf rank
+    → Parted (top - 65536) from end l low low → Parted top low end l high high → IsGroup rank from end l low high
+grouped {rank} {from} {end} {l} {top} {low} {high} h et s t =
+    let b = top-below et h in
+    record {
+      starts = s .starts;
+      rises = t .starts;
+      ends = t .ends;
+      lower = λ k a c. omega (arith, under-top (rank - 1) (getD l k 0) (omega (arith, b, s .under k a c)));
+      same = λ k a c. omega (
+        arith,
+        under-top rank (getD l k 0) (omega (arith, et, t .under k a c)),
+        over-top (rank - 1) (getD l k 0) (omega (arith, b, s .over k a (omega (arith, t .ends)))),
+      );
+      higher = λ k a c. over-top rank (getD l k 0) (omega (arith, et, t .over k a c));
+    }
+
+-- ---- `place_of`
+-- a word of the list stands at its place
+pub place-there : (w : ℕ) (l : List ℕ) → placeOf w l < length l → getD l (placeOf w l) 0 ≡ w
+unfolding placeOf
+place-there w [] h = absurd (omega arith)
+place-there w (v ∷ l) h = elim (ℕ-discrete w v) [
+  | yes e ↦ rw (eq-eqb w v e) (sym e)
+  | no e ↦ (let q = ne-eqb w v e in rw q (place-there w l (le-of-suc-le-suc (rw q at h))))
+]
+
+-- and nowhere before it
+pub place-first : (w k : ℕ) (l : List ℕ) → k < placeOf w l → getD l k 0 ≢ w
+unfolding placeOf
+place-first w k [] h e = absurd (omega arith)
+place-first w zero (v ∷ l) h e = let z : 0 < 0 = rw (eq-eqb w v (sym e)) at h in absurd (omega arith)
+place-first w (suc k) (v ∷ l) h e = elim (ℕ-discrete w v) [
+  | yes q ↦ (let z : suc k < 0 = rw (eq-eqb w v q) at h in absurd (omega arith))
+  | no q ↦ place-first w k l (le-of-suc-le-suc (rw (ne-eqb w v q) at h)) e
+]
+
+-- what holds at the head of the loop: the word does not stand before k
+pub record Seeks (w end : ℕ) (l : List ℕ) (k : ℕ) : Type 0 where
+  pub ahead : k ≤ placeOf w (take end l)
+  pub inside : placeOf w (take end l) < end
+
+module _ (w end : ℕ) (l : List ℕ) (le : end ≤ length l) where
+  there : placeOf w (take end l) < end → getD l (placeOf w (take end l)) 0 ≡ w
+  there h = sym (getD-take end l (placeOf w (take end l)) 0 h) ∙ place-there w (take end l) (omega (arith, length-take-le end l le))
+
+  -- at the start of its group
+  pub seeks-start : {top k : ℕ} → 0 < listedRank w → placeOf w (take end l) < end → top ≡ topOf (listedRank w) → Parted (top - 65536) 0 end l k k
+      → Seeks w end l k
+  seeks-start {top} {k} h inside et s = record {
+    ahead = elim (decLe k (placeOf w (take end l))) [
+      | yes q ↦ q
+      | no q ↦ (
+          let f : w ≤ top - 65536 = rw (there inside) at (s .under (placeOf w (take end l)) (omega arith) (omega arith)) in
+          absurd (omega (arith, under-top (listedRank w - 1) w (omega (arith, top-below et h))))
+          )
+    ];
+    inside = inside;
+  }
+
+  -- another word stands at k
+  pub seeks-next : {k : ℕ} → Seeks w end l k → getD l k 0 ≢ w → Seeks w end l (k + 1)
+  seeks-next {k} s n = record {
+    ahead = elim (ℕ-discrete k (placeOf w (take end l))) [
+      | yes e ↦ absurd (n (ap (λ (m : ℕ). getD l m 0) e ∙ there (s .inside)))
+      | no e ↦ omega (arith, s .ahead)
+    ];
+    inside = s .inside;
+  }
+
+  -- the word stands at k
+  pub seeks-found : {k : ℕ} → Seeks w end l k → getD l k 0 ≡ w → k ≡ placeOf w (take end l)
+  seeks-found {k} s e = elim (decLe (placeOf w (take end l)) k) [
+    | yes q ↦ omega (arith, s .ahead)
+    | no q ↦ absurd (place-first w k (take end l) (omega arith) (getD-take end l k 0 (omega (arith, s .inside)) ∙ e))
+  ]

@@ -31,10 +31,16 @@ pub top-is : (w : ℕ) → w - w % 65536 + 65535 ≡ topOf (listedRank w)
 unfolding topOf listedRank
 top-is w = omega arith
 
--- the highest of the rank below it
-pub top-below : (rank : ℕ) → 1 ≤ rank → topOf rank - 65536 ≡ topOf (rank - 1)
-unfolding topOf
-top-below rank h = omega arith
+module _ {top rank : ℕ} (e : top ≡ topOf rank) (h : 0 < rank) where
+  -- the highest word of the rank below
+  pub top-below : top - 65536 ≡ topOf (rank - 1)
+  unfolding topOf
+  top-below = omega (arith, e)
+
+  -- there is one
+  pub top-least : 65536 ≤ top
+  unfolding topOf
+  top-least = omega (arith, e)
 
 module _ (rank w : ℕ) where
   -- up to the highest word of a rank stand words of no higher rank

@@ -3,9 +3,10 @@
 // words are compared with the highest word of a rank, and nothing is divided.
 ghost use mathlib.Core.Path.{_≡_};
 ghost use Prim.Native.Nat.{suc, _≤_, _<_};
-ghost use lib.ListN.{length};
+ghost use lib.ListN.{length, take};
+ghost use Rattle.model.specs.Lists.{placeOf};
 ghost use Rattle.list_groups.specs.Words.{listedRank, topOf};
-ghost use Rattle.list_groups.specs.Places.{Rises, NoLower, Splits, Parted, carried, pushed, pulled};
+ghost use Rattle.list_groups.specs.Places.{Rises, NoLower, Splits, Parted, IsGroup, carried, pushed, pulled};
 
 // The highest word of w's rank.
 pub fn top_of(w: u64) -> u64
@@ -76,6 +77,36 @@ pub fn group_end(list: &[u64], from: usize, end: usize, top: u64) -> usize
 {
     let near = gallop(list, from, end, top);
     halve(list, near.low, near.high, top)
+}
+
+// Where the group of w's rank stands, or would.
+pub fn group_of(list: &[u64], from: usize, end: usize, w: u64) -> Span
+    requires { ⌜ from ≤ end ⌝ }
+    requires { ⌜ end ≤ length (now list) ⌝ }
+    requires { ⌜ Rises from end (now list) ⌝ }
+    requires { ⌜ 0 < listedRank w ⌝ }
+    ensures { λ r. ⌜ IsGroup (listedRank w) from end (now (list .entry)) (r .low) (r .high) ⌝ }
+{
+    let top = top_of(w);
+    let low = group_end(list, from, end, top - 65536);
+    let high = group_end(list, low, end, top);
+    Span { low, high }
+}
+
+// Where the word w stands, which is among the first. Its group is scanned.
+pub fn place_of(list: &[u64], end: usize, w: u64) -> usize
+    requires { ⌜ end ≤ length (now list) ⌝ }
+    requires { ⌜ Rises 0 end (now list) ⌝ }
+    requires { ⌜ 0 < listedRank w ⌝ }
+    requires { ⌜ placeOf w (take end (now list)) < end ⌝ }
+    ensures { λ r. ⌜ r ≡ placeOf w (take end (now (list .entry))) ⌝ }
+{
+    let top = top_of(w);
+    let mut k = halve(list, 0, end, top - 65536);
+    while list[k] != w {
+        k += 1;
+    }
+    k
 }
 
 // `first` goes to the end of its group; from there the next group's first is held, up to place `end`.
