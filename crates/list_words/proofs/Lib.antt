@@ -1,0 +1,4 @@
+pub mod Groups
+pub mod Moving
+pub mod Changing
+pub mod Natural
