@@ -46,6 +46,26 @@ module _ (v w : ℕ) (ws : List ℕ) (h : placeOf v ws < length ws) where
         (omega (arith, count-set (eqb w) ws (placeOf v ws) w 0 h, bit-le (eqb w w), none))
         (omega (arith, length-set ws (placeOf v ws) w)) (getD-set-same ws (placeOf v ws) w 0 h)
 
+-- ---- ranks of the two words
+-- a lower word of another rank is of a lower one
+pub rank-fell : (v w : ℕ) → listedRank w ≢ listedRank v → w < v → listedRank w < listedRank v
+unfolding listedRank
+rank-fell v w n h = omega (arith, n)
+
+-- and a word that is not lower of a higher one
+pub rank-rose : (v w : ℕ) → listedRank w ≢ listedRank v → v ≤ w → listedRank v < listedRank w
+unfolding listedRank
+rank-rose v w n h = omega (arith, n)
+
+-- the rank at v's place, for any test of it
+pub old-rank : (v n m : ℕ) (l : List ℕ) (P : ℕ → Type 0) → n ≤ length l → placeOf v (take n l) < n → m ≡ placeOf v (take n l) → P (listedRank v)
+    → P (listedRank (getD l m 0))
+old-rank v n m l P le h e p =
+    let f : getD l m 0 ≡ v =
+    ap (λ (k : ℕ). getD l k 0) e ∙ sym (getD-take n l (placeOf v (take n l)) 0 h)
+    ∙ place-there v (take n l) (omega (arith, length-take-le n l le)) in
+    rw f p
+
 -- ---- `change`
 module _ (v w n : ℕ) (l : List ℕ) (le : n ≤ length l) (h : placeOf v (take n l) < n) (none : count (eqb w) (take n l) ≡ 0) {low high : ℕ}
     (g : IsGroup (listedRank w) 0 n l low high) where
@@ -63,10 +83,6 @@ module _ (v w n : ℕ) (l : List ℕ) (le : n ≤ length l) (h : placeOf v (take
 
   inside : k < length ws
   inside = omega (arith, long)
-
-  -- the word at k of all words is v
-  pub old-at : getD l k 0 ≡ v
-  old-at = sym (getD-take n l k 0 h) ∙ old-there v w ws inside
 
   start-earlier : listedRank w < listedRank v → groupStart listedRank w mended ≡ low
   unfolding groupStart replaced setNth

@@ -1,39 +1,62 @@
+-- `to_earlier` meets its contract: a move, and an exchange with a drawn place. Assumes nothing.
 use borrow.Author.Needs.{needs}
+use mathlib.Core.Path.{ap, _∙_}
+use mathlib.Core.List.{List}
+use Prim.Native.Nat.{ℕ, suc, _+_, _-_}
+use native.Mathlib.Omega.{arith}
+use lib.ListN.{set}
+use Rattle.model.specs.list.Order.{earlier, swap}
+use Rattle.list_groups.specs.Words.{listedRank}
+use Rattle.list_words.proofs.Moving.{earlier-pushed, drawn-in}
 use Rattle.list_words.proofs.to_earlier.Statement.{statement}
 use Rattle.list_words.proofs.to_earlier.Tie as tie
-use Rattle.list_words.proofs.to_earlier.Reads as reads
-use Rattle.list_words.proofs.to_earlier.Lts as lts
-use Rattle.list_groups.proofs.push.Reads as push-reads
-use Rattle.list_words.proofs.draw.Reads as draw-reads
-use Rattle.list_words.proofs.swap.Reads as swap-reads
 
--- src/lib.rt:91:31
 sub-draw : tie.Need-sub-draw
 sub-draw c = search needs
 
--- src/lib.rt:91:9
 draw-requires : tie.Need-draw-requires
 draw-requires c κs = search needs
 
--- src/lib.rt:92:5
 push-requires : tie.Need-push-requires
-push-requires c κs = search needs
+push-requires c κs = let t = c .before .before .before .before in t .pre .1
 
--- src/lib.rt:93:22
 add-swap : tie.Need-add-swap
-add-swap c = search needs
+add-swap c =
+    let t = c .before .before .before .before .before .before .before .before in
+    omega (
+      arith,
+      drawn-in (t .args .low) (t .args .high) (suc (t .args .k)) (t .args .draws .now) (t .args .used) (t .pre .0) (omega (arith, t .pre .1 .0)),
+      c .before .before .before .before .before .draw .ensures,
+      t .pre .1 .1 .0,
+    )
 
--- src/lib.rt:93:5
 swap-requires : tie.Need-swap-requires
-swap-requires c κs = ?
+swap-requires c κs =
+    let t = c .before .before .before .before .before .before .before .before in
+    let h = t .pre .1 .0 in
+    let g = t .pre .1 .1 .0 in
+    (
+      omega (arith, h, g),
+      omega (
+        arith,
+        drawn-in (t .args .low) (t .args .high) (suc (t .args .k)) (t .args .draws .now) (t .args .used) (t .pre .0) (omega (arith, h)),
+        c .before .before .before .before .before .draw .ensures,
+        g,
+      ),
+    )
 
--- src/lib.rt:75:1
 same-length : tie.Need-same-length
 same-length c = search needs
 
--- src/lib.rt:75:1
 returns : tie.Need-returns
-returns c = ?
+returns c =
+    let t = c .before .before .before .before .before .before .before .before .before .before .before in
+    let d = c .before .before .before .before .before .before .before .before .draw in
+    let moved = earlier listedRank (t .args .high) (t .args .k) (set (t .args .list .now) (t .args .k) (t .args .w)) in
+    c .before .before .swap .ensures
+    ∙ ap (λ (z : List ℕ). swap z (t .args .high) (t .args .low + d .result))
+    (c .before .before .before .before .before .before .push .ensures ∙ earlier-pushed (t .args .high) (t .args .k) (t .args .w) (t .args .list .now) (t .pre .1 .0) (t .pre .1 .1 .0))
+    ∙ ap (λ (z : ℕ). swap moved (t .args .high) (t .args .low + z)) (d .ensures)
 
 pub to-earlier-spec : {M : Type 1} → statement M
 to-earlier-spec =
