@@ -2,3 +2,5 @@ pub mod Groups
 pub mod Moving
 pub mod Changing
 pub mod Natural
+pub mod Mending
+pub mod Arms

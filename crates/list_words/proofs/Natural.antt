@@ -78,9 +78,9 @@ module _ (r : ℕ → ℕ) where
   count-same [] e = refl
   count-same (w ∷ ws) e = elim (ℕ-discrete (listedRank w) (r (listedPiece w))) [
     | yes q ↦ (
-      let f = rw (eq-eqb (listedRank w) (r (listedPiece w)) q) at e in
-      ap₂ (λ (c : ℕ) (cs : List ℕ). c ∷ cs) q (count-same ws (omega (arith, f)))
-    )
+        let f = rw (eq-eqb (listedRank w) (r (listedPiece w)) q) at e in
+        ap₂ (λ (c : ℕ) (cs : List ℕ). c ∷ cs) q (count-same ws (omega (arith, f)))
+        )
     | no q ↦ (let f = rw (ne-eqb (listedRank w) (r (listedPiece w)) q) at e in absurd (omega (arith, f)))
   ]
 

@@ -173,7 +173,10 @@ pub fn update(
     let w = new * 65536 + i;
     if old == 0 {
         let next = add(list, n, w, draws, used);
-        return Updated { len: n + 1, used: next };
+        return Updated {
+            len: n + 1,
+            used: next,
+        };
     }
     let v = old * 65536 + i;
     if new == 0 {

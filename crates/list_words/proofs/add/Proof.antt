@@ -30,8 +30,7 @@ push-requires : tie.Need-push-requires
 push-requires c κs =
     let t = c .before .before .before .before .before .before .before .before in
     let g = c .before .before .before .before .group-of in
-    let h = added-in (t .args .w) (g .ensures) (omega (arith, t .pre .0)) (t .args .draws .now) (t .args .used) in
-    (
+    let h = added-in (t .args .w) (g .ensures) (omega (arith, t .pre .0)) (t .args .draws .now) (t .args .used) in (
       omega (arith, h, c .before .before .draw .ensures),
       (t .pre .0, λ k m a f d. t .pre .1 .0 k m (omega arith) f d),
     )
@@ -49,8 +48,7 @@ returns : tie.Need-returns
 returns c =
     let t = c .before .before .before .before .before .before .before .before .before .before .before .before in
     let g = c .before .before .before .before .before .before .before .before .group-of in
-    let le = t .pre .0 in
-    (
+    let le = t .pre .0 in (
       c .before .before .before .push .ensures
           ∙ ap (λ (d : ℕ). pushed (g .result .low + d) (t .args .n) (t .args .w) (t .args .list .now)) (c .before .before .before .before .before .before .draw .ensures)
           ∙ pushed-added (t .args .w) (g .ensures) (omega arith) (t .args .draws .now) (t .args .used),

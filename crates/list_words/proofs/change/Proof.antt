@@ -53,8 +53,7 @@ returns c =
     let none = t .pre .1 .1 .1 .1 .1 .1 .0 in
     let q = rank-fell (a .v) (a .w) (t .pre .1 .1 .1 .1 .0) (c .before .before .before .before .before .before .before .before .if1 .taken) in
     let group = group-before (a .list .now) (t .pre .1 .0) (omega (arith, p .ensures, h)) (g .ensures)
-    (old-rank (a .v) (a .n) (p .result) (a .list .now) (λ (rank : ℕ). listedRank (a .w) < rank) (t .pre .0) h (p .ensures) q) in
-    (
+    (old-rank (a .v) (a .n) (p .result) (a .list .now) (λ (rank : ℕ). listedRank (a .w) < rank) (t .pre .0) h (p .ensures) q) in (
       c .before .before .before .before .to-earlier .ensures
           ∙ goes-earlier (a .v) (a .w) (a .n) (a .list .now) (t .pre .0) h none group (a .draws .now) (a .used) q
           (omega (arith, g .ensures .ends, p .ensures)) (p .result) (p .ensures),
@@ -75,8 +74,7 @@ group-of-requires-2 c κs =
 to-later-requires : tie.Need-to-later-requires
 to-later-requires c κs =
     let t = c .before .before .before .before .before .before .before .before in
-    let g = c .before .group-of2 .ensures in
-    (
+    let g = c .before .group-of2 .ensures in (
       omega (arith, g .starts),
       (g .rises, (omega (arith, g .ends, t .pre .0), λ k m a f d. t .pre .1 .0 k m (omega arith) f (omega (arith, g .rises, g .ends)))),
     )
@@ -105,8 +103,7 @@ returns-2 c =
     let none = t .pre .1 .1 .1 .1 .1 .1 .0 in
     let q = rank-rose (a .v) (a .w) (t .pre .1 .1 .1 .1 .0) (c .before .before .before .before .before .before .before .before .if1 .left) in
     let group = group-behind (a .list .now) (t .pre .1 .0) (omega (arith, p .ensures, h)) (g .ensures)
-    (old-rank (a .v) (a .n) (p .result) (a .list .now) (λ (rank : ℕ). rank < listedRank (a .w)) (t .pre .0) h (p .ensures) q) in
-    (
+    (old-rank (a .v) (a .n) (p .result) (a .list .now) (λ (rank : ℕ). rank < listedRank (a .w)) (t .pre .0) h (p .ensures) q) in (
       c .before .before .before .before .to-later .ensures
           ∙ goes-later (a .v) (a .w) (a .n) (a .list .now) (t .pre .0) h none group (a .draws .now) (a .used) q
           (omega (arith, g .ensures .starts, p .ensures)) (p .result) (p .ensures),

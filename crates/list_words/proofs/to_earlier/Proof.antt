@@ -34,8 +34,7 @@ swap-requires : tie.Need-swap-requires
 swap-requires c κs =
     let t = c .before .before .before .before .before .before .before .before in
     let h = t .pre .1 .0 in
-    let g = t .pre .1 .1 .0 in
-    (
+    let g = t .pre .1 .1 .0 in (
       omega (arith, h, g),
       omega (
         arith,

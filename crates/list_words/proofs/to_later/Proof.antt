@@ -46,8 +46,7 @@ swap-requires c κs =
     let kept = length-set (c .before .before .before .pull .last .0) (t .args .low - 1) (t .args .w) in
     let a = t .pre .0 in
     let b = t .pre .1 .0 in
-    let e = t .pre .1 .1 .0 in
-    (
+    let e = t .pre .1 .1 .0 in (
       omega (arith, kept, c .before .before .list .given),
       omega (
         arith,

@@ -1,75 +1,142 @@
+-- `update` meets its contract: one arm for each way in which the rank may have changed. Assumes nothing.
 use borrow.Author.Needs.{needs}
+use mathlib.Core.Path.{sym, _∙_}
+use native.Mathlib.Omega.{arith}
+use lib.ListN.{take}
+use Rattle.list_groups.specs.Words.{listWord}
+use Rattle.list_words.proofs.Arms.{in-words, one-more, words-rise, word-in-list, ranked, ranks-differ, word-none}
+use Rattle.list_words.proofs.Arms.{update-same, update-added, update-removed, update-changed}
 use Rattle.list_words.proofs.update.Statement.{statement}
 use Rattle.list_words.proofs.update.Tie as tie
-use Rattle.list_words.proofs.update.Reads as reads
-use Rattle.list_words.proofs.update.Lts as lts
-use Rattle.list_words.proofs.add.Reads as add-reads
-use Rattle.list_words.proofs.change.Reads as change-reads
-use Rattle.list_words.proofs.remove.Reads as remove-reads
 
--- src/lib.rt:171:9
 returns : tie.Need-returns
-returns c = ?
+returns c =
+    let t = c .before .before .before in
+    let a = t .args in
+    update-same (a .old) (a .new) (a .i) (a .n) (a .list .now) (t .pre .1 .0) (t .pre .0) (t .pre .1 .1 .1 .1 .0) (a .draws .now) (a .used) (c .if1 .taken)
 
--- src/lib.rt:173:13
 mul-w : tie.Need-mul-w
 mul-w c = search needs
 
--- src/lib.rt:173:13
 add-w : tie.Need-add-w
 add-w c = search needs
 
--- src/lib.rt:175:13
 add-requires : tie.Need-add-requires
-add-requires c κs = search needs
+unfolding listWord
+add-requires c κs =
+    let t = c .before .before .before .before .before in
+    let a = t .args in
+    let ready = t .pre .1 .1 .1 .1 .0 in
+    let nz = c .before .before .if1 .left in
+    let z = c .before .if2 .taken in (
+      one-more (a .old) (a .new) (a .i) (a .n) (a .list .now) (t .pre .1 .0) (t .pre .0) ready z,
+      (
+        words-rise (a .old) (a .new) (a .i) (a .n) (a .list .now) (t .pre .1 .0) (t .pre .0) ready,
+        (ranked (a .old) (a .new) (a .i) (a .n) (a .list .now) (t .pre .1 .0) (t .pre .0) ready (a .new) (λ e. nz (e ∙ sym z)), t .pre .1 .1 .1 .1 .1),
+      ),
+    )
 
--- src/lib.rt:176:31
 add-t16 : tie.Need-add-t16
-add-t16 c = search needs
+add-t16 c =
+    let t = c .before .before .before .before .before .before .before .before in
+    let a = t .args in
+    let h = one-more (a .old) (a .new) (a .i) (a .n) (a .list .now) (t .pre .1 .0) (t .pre .0) (t .pre .1 .1 .1 .1 .0) (c .before .before .before .before .if2 .taken) in
+    search needs
 
--- src/lib.rt:176:9
 same-length : tie.Need-same-length
 same-length c = search needs
 
--- src/lib.rt:176:9
 returns-2 : tie.Need-returns-2
-returns-2 c = ?
+unfolding listWord
+returns-2 c =
+    let t = c .before .before .before .before .before .before .before .before in
+    let a = t .args in
+    let d = c .before .before .add in
+    update-added (a .old) (a .new) (a .i) (a .n) (a .list .now) (t .pre .1 .0) (t .pre .0) (t .pre .1 .1 .1 .1 .0) (a .draws .now) (a .used)
+    (c .before .before .before .before .if2 .taken) (c .before .before .before .before .before .if1 .left) (d .last .0) (d .result) (d .ensures .0) (d .ensures .1)
 
--- src/lib.rt:178:13
 mul-v : tie.Need-mul-v
 mul-v c = search needs
 
--- src/lib.rt:178:13
 add-v : tie.Need-add-v
 add-v c = search needs
 
--- src/lib.rt:180:9
 remove-requires : tie.Need-remove-requires
-remove-requires c κs = search needs
+unfolding listWord
+remove-requires c κs =
+    let t = c .before .before .before .before .before .before in
+    let a = t .args in
+    let ready = t .pre .1 .1 .1 .1 .0 in
+    let nz = c .before .before .if2 .left in (
+      in-words (a .old) (a .new) (a .i) (a .n) (a .list .now) (t .pre .1 .0) (t .pre .0) ready,
+      (
+        words-rise (a .old) (a .new) (a .i) (a .n) (a .list .now) (t .pre .1 .0) (t .pre .0) ready,
+        (
+          ranked (a .old) (a .new) (a .i) (a .n) (a .list .now) (t .pre .1 .0) (t .pre .0) ready (a .old) nz,
+          word-in-list (a .old) (a .new) (a .i) (a .n) (a .list .now) (t .pre .1 .0) (t .pre .0) ready nz,
+        ),
+      ),
+    )
 
--- src/lib.rt:181:31
 sub-t20 : tie.Need-sub-t20
-sub-t20 c = search needs
+sub-t20 c =
+    let t = c .before .before .before .before .before .before .before .before .before in
+    let a = t .args in
+    let h = word-in-list (a .old) (a .new) (a .i) (a .n) (a .list .now) (t .pre .1 .0) (t .pre .0) (t .pre .1 .1 .1 .1 .0) (c .before .before .before .before .before .if2 .left) in
+    omega (arith, h)
 
--- src/lib.rt:181:9
 same-length-2 : tie.Need-same-length-2
 same-length-2 c = search needs
 
--- src/lib.rt:181:9
 returns-3 : tie.Need-returns-3
-returns-3 c = ?
+unfolding listWord
+returns-3 c =
+    let t = c .before .before .before .before .before .before .before .before .before in
+    let a = t .args in
+    let d = c .before .before .remove in
+    update-removed (a .old) (a .new) (a .i) (a .n) (a .list .now) (t .pre .1 .0) (t .pre .0) (t .pre .1 .1 .1 .1 .0) (a .draws .now) (a .used)
+    (c .before .before .before .before .before .if2 .left) (c .before .before .before .before .if3 .taken) (d .last .0) (d .ensures)
 
--- src/lib.rt:183:9
 change-requires : tie.Need-change-requires
-change-requires c κs = ?
+unfolding listWord
+change-requires c κs =
+    let t = c .before .before .before .before .before .before in
+    let a = t .args in
+    let ready = t .pre .1 .1 .1 .1 .0 in
+    let ne = c .before .before .before .if1 .left in
+    let nz = c .before .before .if2 .left in
+    let nz′ = c .before .if3 .left in
+    let le = in-words (a .old) (a .new) (a .i) (a .n) (a .list .now) (t .pre .1 .0) (t .pre .0) ready in (
+      le,
+      (
+        words-rise (a .old) (a .new) (a .i) (a .n) (a .list .now) (t .pre .1 .0) (t .pre .0) ready,
+        (
+          ranked (a .old) (a .new) (a .i) (a .n) (a .list .now) (t .pre .1 .0) (t .pre .0) ready (a .old) nz,
+          (
+            ranked (a .old) (a .new) (a .i) (a .n) (a .list .now) (t .pre .1 .0) (t .pre .0) ready (a .new) nz′,
+            (
+              ranks-differ (a .old) (a .new) (a .i) (a .n) (a .list .now) (t .pre .1 .0) (t .pre .0) ready ne,
+              (
+                word-in-list (a .old) (a .new) (a .i) (a .n) (a .list .now) (t .pre .1 .0) (t .pre .0) ready nz,
+                (word-none (a .old) (a .new) (a .i) (t .pre .1 .0) (take (a .n) (a .list .now)) ready (omega (arith, nz)) ne, t .pre .1 .1 .1 .1 .1),
+              ),
+            ),
+          ),
+        ),
+      ),
+    )
 
--- src/lib.rt:153:1
 same-length-3 : tie.Need-same-length-3
 same-length-3 c = search needs
 
--- src/lib.rt:153:1
 returns-4 : tie.Need-returns-4
-returns-4 c = ?
+unfolding listWord
+returns-4 c =
+    let t = c .before .before .before .before .before .before .before .before .before in
+    let a = t .args in
+    let d = c .before .before .change in
+    update-changed (a .old) (a .new) (a .i) (a .n) (a .list .now) (t .pre .1 .0) (t .pre .0) (t .pre .1 .1 .1 .1 .0) (a .draws .now) (a .used)
+    (c .before .before .before .before .before .if2 .left) (c .before .before .before .before .if3 .left) (c .before .before .before .before .before .before .if1 .left) (d .last .0) (d .result) (d .ensures .0) (d .ensures .1)
 
 pub update-spec : {M : Type 1} → statement M
 update-spec =
