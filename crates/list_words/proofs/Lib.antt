@@ -4,3 +4,4 @@ pub mod Changing
 pub mod Natural
 pub mod Mending
 pub mod Arms
+pub mod Listing
