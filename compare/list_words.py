@@ -1,7 +1,7 @@
-"""`python3 -m compare.list_words COUNT SEED`: lists of words, each mended once by the reference, for a program that runs the proved code beside.
+"""`python3 -m compare.list_words COUNT SEED`: lists of words, each mended once by the reference, for a program that runs the proved code.
 
-A line for each: PIECE OLD NEW USED DRAWS WORDS TAIL AFTER NEXT, lists by commas (`-` for none). WORDS are the list with the old ranks, TAIL what
-lies behind it in the lent slice, AFTER the mended list with the new ranks, NEXT the number of the next draw."""
+A line for each: PIECE OLD NEW USED DRAWS WORDS TAIL AFTER NEXT, lists by commas (`-` for none). WORDS are the list with the old ranks,
+TAIL what lies behind it in the lent slice, AFTER the mended list with the new ranks, NEXT the number of the next draw."""
 import argparse
 import random
 

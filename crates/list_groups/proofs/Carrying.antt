@@ -94,7 +94,12 @@ carries-come top from end held k goal l₀ l et le long left rises low s =
     let e : from + (k - from) ≡ k = omega (arith, s .starts) in
     record {
       left = rw e at (sym (carried-stretch end held l le (k - from) from (omega (arith, s .starts, s .ends))
-          (λ m a c. omega (arith, low m a (omega (arith, s .ends)), under-top (listedRank held) (getD l m 0) (omega (arith, et, s .under m a (omega arith))))))
+          (λ m a c. omega (
+            arith,
+            low m a (omega (arith, s .ends)),
+            under-top (listedRank held) (getD l m 0)
+                (omega (arith, et, s .under m a (omega arith))),
+          )))
           ∙ left);
       at = s .ends;
       rest = rises-within from end k end l (s .starts) (omega arith) rises;

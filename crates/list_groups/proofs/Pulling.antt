@@ -1,4 +1,5 @@
--- One turn of the loop of `pull`: the last of the next group goes to the place that is free, and its own place is free then. Assumes nothing.
+-- One turn of the loop of `pull`: the last of the next group goes to the place that is free, and its own place is free then.
+-- Assumes nothing.
 use mathlib.Core.Path.{_≡_, refl, sym, ap, _∙_}
 use mathlib.Core.Logic.{_≢_}
 use mathlib.Core.List.{List, [], _∷_, _++_, append-assoc}
@@ -46,7 +47,8 @@ module _ (r : ℕ → ℕ) where
 slice-split : (a c d : ℕ) (l : List ℕ) → a ≤ c → c ≤ d → d ≤ length l → slice a d l ≡ slice a c l ++ slice c d l
 slice-split a c d l h g le =
     ap (drop a) (sym (take-append-drop c (take d l)))
-    ∙ drop-append-le a (take c (take d l)) (drop c (take d l)) (omega (arith, length-take-le c (take d l) (omega (arith, length-take-le d l le))))
+    ∙ drop-append-le a (take c (take d l)) (drop c (take d l))
+    (omega (arith, length-take-le c (take d l) (omega (arith, length-take-le d l le))))
     ∙ ap (λ (m : List ℕ). drop a m ++ slice c d l) (take-take c d l g)
 
 slice-at : (a d k : ℕ) (l : List ℕ) → a + k < d → getD (slice a d l) k 0 ≡ getD l (a + k) 0
@@ -118,7 +120,8 @@ module _ {last : ℕ} {goal l₀ l : List ℕ} {hole : ℕ} (m : Pulls last goal
             (λ k f g. equal k f (omega arith) ∙ sym (equal (end - 1) (omega arith) (omega arith)))
             (λ g e. absurd (omega (
               arith,
-              over-top (listedRank first) (getD l (suc (end - 1)) 0) (omega (arith, et, s .over (suc (end - 1)) (omega arith) (omega arith))),
+              over-top (listedRank first) (getD l (suc (end - 1)) 0)
+                  (omega (arith, et, s .over (suc (end - 1)) (omega arith) (omega arith))),
               equal (end - 1) (omega arith) (omega arith),
             ))))
             ∙ m .left;

@@ -116,7 +116,8 @@ halves-start top from end l h =
     let e : from + (end - from) ≡ end = omega arith in
     record { seen = rw e (parted-start h); at = omega arith }
 
-module _ {top from end : ℕ} {l : List ℕ} (split : Splits top from end l) {low size : ℕ} (s : Halves top from end l low size) (lt : 0 < size) where
+module _ {top from end : ℕ} {l : List ℕ} (split : Splits top from end l) {low size : ℕ} (s : Halves top from end l low size)
+    (lt : 0 < size) where
   abbrev half : ℕ
   half = size - size / 2
 
@@ -124,7 +125,8 @@ module _ {top from end : ℕ} {l : List ℕ} (split : Splits top from end l) {lo
   middle = low + (half - 1)
 
   -- the half that the middle word tells of is done
-  pub halves-next : (d : ℕ) → (getD l middle 0 ≤ top → d ≡ half) → (top < getD l middle 0 → d ≡ 0) → Halves top from end l (low + d) (size - half)
+  pub halves-next : (d : ℕ) → (getD l middle 0 ≤ top → d ≡ half) → (top < getD l middle 0 → d ≡ 0)
+      → Halves top from end l (low + d) (size - half)
   halves-next d under over = elim (decLe (getD l middle 0) top) [
     | yes q ↦ (
         let e : low + d ≡ middle + 1 = omega (arith, under q) in
@@ -194,7 +196,8 @@ module _ (w end : ℕ) (l : List ℕ) (le : end ≤ length l) where
   there h = sym (getD-take end l (placeOf w (take end l)) 0 h) ∙ place-there w (take end l) (omega (arith, length-take-le end l le))
 
   -- at the start of its group
-  pub seeks-start : {top k : ℕ} → 0 < listedRank w → placeOf w (take end l) < end → top ≡ topOf (listedRank w) → Parted (top - 65536) 0 end l k k
+  pub seeks-start : {top k : ℕ} → 0 < listedRank w → placeOf w (take end l) < end → top ≡ topOf (listedRank w)
+      → Parted (top - 65536) 0 end l k k
       → Seeks w end l k
   seeks-start {top} {k} h inside et s = record {
     ahead = elim (decLe k (placeOf w (take end l))) [

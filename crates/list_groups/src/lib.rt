@@ -1,6 +1,6 @@
 // The groups of a list of words: where one starts and ends, where a word stands, and groups turned by one place.
-// A word is rank · 65,536 + piece, and ranks never fall along the list. A group's end is found by wider and wider steps, then by halving, so that
-// words are compared with the highest word of a rank, and nothing is divided.
+// A word is rank · 65,536 + piece, and ranks never fall along the list. A group's end is found by wider and wider steps, then by
+// halving; words are compared with the highest word of a rank, and nothing is divided.
 ghost use mathlib.Core.Path.{_≡_};
 ghost use Prim.Native.Nat.{suc, _≤_, _<_};
 ghost use lib.ListN.{length, take};

@@ -62,7 +62,8 @@ module _ (old new i : ℕ) (hi : i < 65536) (ws : List ℕ) (m : Ready old i ws)
         let there : getD ps (placeOf w ws) 0 ≡ i =
         pieces-at ws (placeOf w ws) ∙ ap listedPiece (at-place w 0 ws q) ∙ piece-of-word new i hi in
         let same : k ≡ placeOf w ws =
-        sym piece-place ∙ place-only i 0 ps (placeOf w ws) (omega (arith, once)) (omega (arith, place-in w ws q, length-map ws listedPiece)) there in
+        sym piece-place ∙ place-only i 0 ps (placeOf w ws) (omega (arith, once))
+        (omega (arith, place-in w ws q, length-map ws listedPiece)) there in
         let words : v ≡ w = sym (old-there v w ws word-in) ∙ ap (λ (n : ℕ). getD ws n 0) same ∙ at-place w 0 ws q in
         absurd (ne (sym (rank-of-word new i hi) ∙ ap listedRank (sym words) ∙ rank-of-word old i hi))
         )
@@ -97,7 +98,8 @@ module _ (old new i : ℕ) (hi : i < 65536) (ws : List ℕ) (m : Ready old i ws)
         let c : k < suc k = omega arith in
         rw (take-set-le k ws k w, drop-set-lt (suc k) ws k w)
 
-    pub removed-arm : (draws : List ℕ) (used : ℕ) (words words′ : List ℕ) → new ≡ 0 → words′ ≡ removed listedRank k ws ++ drop (length ws - 1) words
+    pub removed-arm : (draws : List ℕ) (used : ℕ) (words words′ : List ℕ) → new ≡ 0
+        → words′ ≡ removed listedRank k ws ++ drop (length ws - 1) words
         → IsUpdated r draws used old i ws words words′ (length ws - 1) used
     unfolding updated updateDraws
     removed-arm draws used words words′ z e =
@@ -157,7 +159,8 @@ module _ (old new i : ℕ) (hi : i < 65536) (ws : List ℕ) (m : Ready old i ws)
         ∙ rw (pieces-replaced, pieces-map, differ, some, some′, piece-of-word new i hi))
 
 -- ---- i was not in the list, or stays where it is
-module _ (old new i : ℕ) (hi : i < 65536) (ws : List ℕ) (m : Ready old i ws) (r : ℕ → ℕ) (ei : r i ≡ new) (ranks : RanksIn (former r old i) ws)
+module _ (old new i : ℕ) (hi : i < 65536) (ws : List ℕ) (m : Ready old i ws) (r : ℕ
+    → ℕ) (ei : r i ≡ new) (ranks : RanksIn (former r old i) ws)
     (draws : List ℕ) (used : ℕ) (words : List ℕ) where
   -- the rank is the same
   pub same-arm : new ≡ old → words ≡ ws ++ drop (length ws) words → IsUpdated r draws used old i ws words words (length ws) used
@@ -237,7 +240,8 @@ module _ (old new i n : ℕ) (l : List ℕ) (hi : i < 65536) (room : n + bit (eq
 
     -- i comes in
     pub update-added : old ≡ 0 → new ≢ old → (l′ : List ℕ) (next : ℕ)
-        → l′ ≡ added listedRank draws used (listWord new i) (take n l) ++ drop (suc n) l → next ≡ used + addDraws listedRank (listWord new i) (take n l)
+        → l′ ≡ added listedRank draws used (listWord new i) (take n l) ++ drop (suc n) l
+        → next ≡ used + addDraws listedRank (listWord new i) (take n l)
         → Updates new draws used old i (take n l) l l′ (n + 1) next
     update-added z ne l′ next e en r ei ranks =
         let one : suc (length (take n l)) ≡ n + 1 = omega (arith, long) in
@@ -252,7 +256,8 @@ module _ (old new i n : ℕ) (l : List ℕ) (hi : i < 65536) (room : n + bit (eq
 
     -- i moves
     pub update-changed : old ≢ 0 → new ≢ 0 → new ≢ old → (l′ : List ℕ) (next : ℕ)
-        → l′ ≡ changed listedRank draws used (listedRank (listWord old i)) (listWord new i) (replaced (listWord old i) (listWord new i) (take n l)) ++ drop n l
+        → l′ ≡ changed listedRank draws used (listedRank (listWord old i)) (listWord new i)
+        (replaced (listWord old i) (listWord new i) (take n l)) ++ drop n l
         → next ≡ used + changeDraws listedRank (listWord new i) (replaced (listWord old i) (listWord new i) (take n l))
         → Updates new draws used old i (take n l) l l′ n next
     update-changed nz nz′ ne l′ next e en r ei ranks =

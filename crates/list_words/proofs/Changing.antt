@@ -58,7 +58,8 @@ unfolding listedRank
 rank-rose v w n h = omega (arith, n)
 
 -- the rank at v's place, for any test of it
-pub old-rank : (v n m : ℕ) (l : List ℕ) (P : ℕ → Type 0) → n ≤ length l → placeOf v (take n l) < n → m ≡ placeOf v (take n l) → P (listedRank v)
+pub old-rank : (v n m : ℕ) (l : List ℕ) (P : ℕ → Type 0) → n ≤ length l → placeOf v (take n l) < n → m ≡ placeOf v (take n l)
+    → P (listedRank v)
     → P (listedRank (getD l m 0))
 old-rank v n m l P le h e p =
     let f : getD l m 0 ≡ v =
@@ -88,7 +89,14 @@ module _ (v w n : ℕ) (l : List ℕ) (le : n ≤ length l) (h : placeOf v (take
   unfolding groupStart replaced setNth
   start-earlier q =
       let e = rw (old-there v w ws inside) at (count-set (λ x. ltb (listedRank x) (listedRank w)) ws k w 0 inside) in
-      omega (arith, e, group-start g le, ge-bit (listedRank v) (listedRank w) (omega arith), ge-bit (listedRank w) (listedRank w) (omega arith))
+      omega (
+        arith,
+        e,
+        group-start g le,
+        ge-bit (listedRank v) (listedRank w) (omega arith),
+        ge-bit (listedRank w) (listedRank w)
+            (omega arith),
+      )
 
   start-later : listedRank v < listedRank w → suc (groupStart listedRank w mended) ≡ low
   unfolding groupStart replaced setNth
@@ -127,7 +135,15 @@ module _ (v w n : ℕ) (l : List ℕ) (le : n ≤ length l) (h : placeOf v (take
         ∙ ap (λ (z : List ℕ). swap z high d) (earlier-front (set ws k w) (drop n l) high k a hk)
         ∙ swap-front (earlier listedRank high k (set ws k w)) (drop n l) high d (omega arith)
         (omega (arith, drawn-in low high (suc k) draws used (g .rises) (omega arith)))
-        ∙ rw (new-place v w ws inside none, start-earlier q, size (λ e. absurd (omega arith)), f, f′, lt-ltb (listedRank w) (listedRank v) q))
+        ∙ rw (
+          new-place v w ws inside none,
+          start-earlier q,
+          size (λ e. absurd (omega arith)),
+          f,
+          f′,
+          lt-ltb (listedRank w)
+              (listedRank v) q,
+        ))
 
     -- back, where it rose
     pub goes-later : listedRank v < listedRank w → k < low → (at : ℕ) → at ≡ k

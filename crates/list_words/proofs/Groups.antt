@@ -57,7 +57,8 @@ module _ {rank n : ℕ} {l : List ℕ} {low high : ℕ} (g : IsGroup rank 0 n l 
   group-start =
       count-between (λ w. ltb (listedRank w) rank) (take n l) 0 low (omega arith) (omega (arith, long, g .rises, g .ends))
       (λ k h. absurd (omega arith))
-      (λ k h q. rw (getD-take n l k 0 (omega (arith, g .rises, g .ends))) (lt-ltb (listedRank (getD l k 0)) rank (g .lower k (omega arith) q)))
+      (λ k h q. rw (getD-take n l k 0 (omega (arith, g .rises, g .ends)))
+      (lt-ltb (listedRank (getD l k 0)) rank (g .lower k (omega arith) q)))
       (λ k h q. rw (getD-take n l k 0 (omega (arith, long))) (le-ltb (listedRank (getD l k 0)) rank (at-least k h (omega (arith, long)))))
       ∙ omega arith
     where

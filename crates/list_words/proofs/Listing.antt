@@ -36,11 +36,13 @@ from-places r (w ∷ ws) all =
     rw (all 0 (omega arith)) (ap (λ (l : List ℕ). r (listedPiece w) ∷ l) (from-places r ws (λ k h. all (suc k) (omega arith))))
 
 -- beside each piece stands its rank if that is so at each place
-pub ranks-places : (r : ℕ → ℕ) (ws : List ℕ) → RanksIn r ws ↔ ((k : ℕ) → k < length ws → listedRank (getD ws k 0) ≡ r (listedPiece (getD ws k 0)))
+pub ranks-places : (r : ℕ → ℕ) (ws : List ℕ) → RanksIn r ws ↔ ((k : ℕ) → k < length ws
+    → listedRank (getD ws k 0) ≡ r (listedPiece (getD ws k 0)))
 ranks-places r ws = (λ e. at-places r ws (ranks-same r ws e), λ all. same-ranks r ws (from-places r ws all))
 
 -- the word of a piece stands as often as the piece
-words-count : (b : ℕ → ℕ) (i : ℕ) (ws : List ℕ) → i < 65536 → Same b ws → count (eqb (listWord (b i) i)) ws ≡ count (eqb i) (map listedPiece ws)
+words-count : (b : ℕ → ℕ) (i : ℕ) (ws : List ℕ) → i < 65536 → Same b ws
+    → count (eqb (listWord (b i) i)) ws ≡ count (eqb i) (map listedPiece ws)
 unfolding count
 words-count b i [] h e = refl
 words-count b i (w ∷ ws) h e =

@@ -55,7 +55,8 @@ module _ (r : ℕ → ℕ) (old i : ℕ) where
   former-other other n = rw (ne-eqb other i n)
 
   -- where i stands at one place only, they are the new ones but there
-  pub former-keys : (ps : List ℕ) (k : ℕ) → k < length ps → getD ps k 0 ≡ i → count (eqb i) ps ≡ 1 → map (former r old i) ps ≡ set (map r ps) k old
+  pub former-keys : (ps : List ℕ) (k : ℕ) → k < length ps → getD ps k 0 ≡ i → count (eqb i) ps ≡ 1
+      → map (former r old i) ps ≡ set (map r ps) k old
   unfolding count
   former-keys [] k h q e = absurd (omega arith)
   former-keys (p ∷ ps) zero h q e =

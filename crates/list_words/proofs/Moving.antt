@@ -16,7 +16,8 @@ use Rattle.list_groups.specs.Places.{IsGroup, pushed, pulled}
 use Rattle.list_words.proofs.Groups.{group-start, group-size}
 
 -- ---- one more, one less
-module _ {n : ℕ} {l : List ℕ} {low high : ℕ} (w : ℕ) (g : IsGroup (listedRank w) 0 n l low high) (le : n ≤ length l) (draws : List ℕ) (used : ℕ) where
+module _ {n : ℕ} {l : List ℕ} {low high : ℕ} (w : ℕ) (g : IsGroup (listedRank w) 0 n l low high) (le : n ≤ length l) (draws : List ℕ)
+    (used : ℕ) where
   starts : groupStart listedRank w (take n l) ≡ low
   unfolding groupStart
   starts = group-start g le
@@ -80,7 +81,8 @@ later-pulled k to w l h le =
     let d : k ≤ k = omega arith in
     let lk : k < length l = omega arith in
     ap (λ (m : List ℕ). set m to w)
-    (ap (λ (m : List ℕ). take k l ++ (turned ++ m)) (drop-cons l to 0 le) ∙ sym (append-assoc (take k l) turned (getD l to 0 ∷ drop (suc to) l)))
+    (ap (λ (m : List ℕ). take k l ++ (turned ++ m)) (drop-cons l to 0 le)
+    ∙ sym (append-assoc (take k l) turned (getD l to 0 ∷ drop (suc to) l)))
     ∙ set-at front (getD l to 0) (drop (suc to) l) w to n
     ∙ append-assoc (take k l) turned (w ∷ drop (suc to) l)
     ∙ rw (
@@ -99,7 +101,8 @@ module _ (ws rest : List ℕ) where
   earlier-front to k h le =
       let a : to ≤ length ws = omega arith in
       let c : k ≤ length ws = omega arith in
-      rw (take-append-le to ws rest, take-append-le k ws rest, drop-append-le (suc k) ws rest, List·getD-append ws rest 0 k) (simp append-assoc)
+      rw (take-append-le to ws rest, take-append-le k ws rest, drop-append-le (suc k) ws rest, List·getD-append ws rest 0 k)
+      (simp append-assoc)
 
   -- back
   pub later-front : (k to : ℕ) → k ≤ to → to < length ws → later listedRank k to (ws ++ rest) ≡ later listedRank k to ws ++ rest

@@ -1,4 +1,5 @@
--- Taking the pieces from words goes with every move: the definition on words, each of its own rank, is the definition on pieces. Assumes nothing.
+-- Taking the pieces from words goes with every move: the definition on words, each of its own rank, is the definition on pieces.
+-- Assumes nothing.
 -- `r` gives the rank of each piece; words are `Same` where each has the rank of its piece.
 use mathlib.Core.Path.{_≡_, refl, sym, ap, ap₂, _∙_}
 use mathlib.Core.Logic.{_≢_}
@@ -70,7 +71,8 @@ module _ (r : ℕ → ℕ) where
   pub same-count : (ws : List ℕ) → Same r ws → count wrong ws ≡ 0
   unfolding count
   same-count [] e = refl
-  same-count (w ∷ ws) e = rw (eq-eqb (listedRank w) (r (listedPiece w)) (same-head w ws e)) (omega (arith, same-count ws (same-tail w ws e)))
+  same-count (w ∷ ws) e = rw (eq-eqb (listedRank w) (r (listedPiece w)) (same-head w ws e))
+      (omega (arith, same-count ws (same-tail w ws e)))
 
   -- and back
   pub count-same : (ws : List ℕ) → count wrong ws ≡ 0 → Same r ws
@@ -85,10 +87,12 @@ module _ (r : ℕ → ℕ) where
   ]
 
   same-take : (n : ℕ) (ws : List ℕ) → Same r ws → Same r (take n ws)
-  same-take n ws e = map-take listedRank n ws ∙ ap (take n) e ∙ sym (ap (map r) (map-take listedPiece n ws) ∙ map-take r n (map listedPiece ws))
+  same-take n ws e = map-take listedRank n ws ∙ ap (take n) e ∙ sym (ap (map r) (map-take listedPiece n ws)
+      ∙ map-take r n (map listedPiece ws))
 
   same-drop : (n : ℕ) (ws : List ℕ) → Same r ws → Same r (drop n ws)
-  same-drop n ws e = map-drop listedRank n ws ∙ ap (drop n) e ∙ sym (ap (map r) (map-drop listedPiece n ws) ∙ map-drop r n (map listedPiece ws))
+  same-drop n ws e = map-drop listedRank n ws ∙ ap (drop n) e ∙ sym (ap (map r) (map-drop listedPiece n ws)
+      ∙ map-drop r n (map listedPiece ws))
 
   -- ---- turning
   carry-pieces : (h : ℕ) (ws : List ℕ) → listedRank h ≡ r (listedPiece h) → Same r ws
@@ -132,7 +136,8 @@ module _ (r : ℕ → ℕ) where
       ∙ ap (bring r (listedPiece w)) (right-pieces ws (same-tail w ws e))
 
   -- ---- the moves
-  pub placed-pieces : (k w : ℕ) (ws : List ℕ) → Same r ws → map listedPiece (placed listedRank k w ws) ≡ placed r k (listedPiece w) (map listedPiece ws)
+  pub placed-pieces : (k w : ℕ) (ws : List ℕ) → Same r ws → map listedPiece (placed listedRank k w ws) ≡ placed r k (listedPiece w)
+      (map listedPiece ws)
   unfolding placed
   placed-pieces k w ws e =
       map-append listedPiece (take k ws) (w ∷ turnLeft listedRank (drop k ws))
@@ -150,7 +155,8 @@ module _ (r : ℕ → ℕ) where
   slice-pieces : (a c : ℕ) (ws : List ℕ) → map listedPiece (slice a c ws) ≡ slice a c (map listedPiece ws)
   slice-pieces a c ws = map-drop listedPiece a (take c ws) ∙ ap (drop a) (map-take listedPiece c ws)
 
-  pub earlier-pieces : (to k : ℕ) (ws : List ℕ) → Same r ws → map listedPiece (earlier listedRank to k ws) ≡ earlier r to k (map listedPiece ws)
+  pub earlier-pieces : (to k : ℕ) (ws : List ℕ) → Same r ws → map listedPiece (earlier listedRank to k ws) ≡ earlier r to k
+      (map listedPiece ws)
   unfolding earlier nth
   earlier-pieces to k ws e =
       map-append listedPiece (take to ws) (getD ws k 0 ∷ (turnLeft listedRank (slice to k ws) ++ drop (suc k) ws))

@@ -1,5 +1,6 @@
 -- What a list of words must be to be mended after one piece's rank changed, and what mending leaves in the lent memory. Assumes nothing.
--- `r` gives the rank of each piece after the change, `i` is the piece, `old` and `new` are its ranks, `ws` are the words of the list; `words` are all
+-- `r` gives the rank of each piece after the change, `i` is the piece, `old` and `new` are its ranks, `ws` are the words of the list;
+-- `words` are all
 -- that are lent, `words′` those at the end, `n` of them the list.
 use Prim.Native.Nat.{ℕ, _+_, _<_}
 use mathlib.Core.Path.{_≡_}

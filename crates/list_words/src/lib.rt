@@ -108,7 +108,8 @@ pub fn to_later(
     requires { ⌜ high ≤ length (now list) ⌝ }
     requires { ⌜ Rises (suc k) low (now list) ⌝ }
     ensures { λ _. ⌜ now (list .exit)
-        ≡ swap (later listedRank k (low - 1) (set (now (list .entry)) k w)) (low - 1) (low - 1 + draw (now (draws .entry)) used (high - low)) ⌝ }
+        ≡ swap (later listedRank k (low - 1) (set (now (list .entry)) k w)) (low - 1)
+        (low - 1 + draw (now (draws .entry)) used (high - low)) ⌝ }
 {
     let d = draw(draws, used, high - low);
     let to = low - 1;
@@ -128,7 +129,8 @@ pub fn change(list: &mut [u64], n: usize, v: u64, w: u64, draws: &[u32], used: u
     requires { ⌜ count (eqb w) (take n (now list)) ≡ 0 ⌝ }
     requires { ⌜ used ≤ length (now draws) ⌝ }
     ensures { λ _. ⌜ now (list .exit)
-        ≡ changed listedRank (now (draws .entry)) used (listedRank v) w (replaced v w (take n (now (list .entry)))) ++ drop n (now (list .entry)) ⌝ }
+        ≡ changed listedRank (now (draws .entry)) used (listedRank v) w (replaced v w (take n (now (list .entry))))
+        ++ drop n (now (list .entry)) ⌝ }
     ensures { λ r. ⌜ r ≡ used + changeDraws listedRank w (replaced v w (take n (now (list .entry)))) ⌝ }
 {
     let k = list_groups::place_of(list, n, v);
@@ -165,7 +167,8 @@ pub fn update(
     requires { ⌜ new < 65536 ⌝ }
     requires { ⌜ Ready old i (take n (now list)) ⌝ }
     requires { ⌜ used ≤ length (now draws) ⌝ }
-    ensures { λ r. ⌜ Updates new (now (draws .entry)) used old i (take n (now (list .entry))) (now (list .entry)) (now (list .exit)) (r .len) (r .used) ⌝ }
+    ensures { λ r. ⌜ Updates new (now (draws .entry)) used old i (take n (now (list .entry)))
+        (now (list .entry)) (now (list .exit)) (r .len) (r .used) ⌝ }
 {
     if new == old {
         return Updated { len: n, used };

@@ -27,20 +27,25 @@ group-end-requires c κs =
 loop-holds : tie.Need-loop-holds Inv-loop μ-loop
 loop-holds c =
     let t = c .before .before .before .before in
-    carries-come _ (t .args .from) (t .args .end) (t .args .first) _ _ (t .args .list .now) (t .args .list .now) (c .before .top-of .ensures)
+    carries-come _ (t .args .from) (t .args .end) (t .args .first) _ _ (t .args .list .now) (t .args .list .now)
+    (c .before .top-of .ensures)
     (t .pre .1 .0) refl refl (t .pre .1 .1 .0) (t .pre .1 .1 .1) (c .group-end .ensures)
 
 mul-next : tie.Need-mul-next Inv-loop μ-loop
 mul-next c = search needs
 
 slice-read-next : tie.Need-slice-read-next Inv-loop μ-loop
-slice-read-next c = let l = c .before .before .loop in omega (arith, l .inv .long, c .before .loop-test .taken, c .before .before .before .before .before .before .before .pre .1 .0)
+slice-read-next c =
+    let l = c .before .before .loop in
+    omega (arith, l .inv .long, c .before .loop-test .taken, c .before .before .before .before .before .before .before .pre .1 .0)
 
 mul-list : tie.Need-mul-list Inv-loop μ-loop
 mul-list c = search needs
 
 slice-write-list : tie.Need-slice-write-list Inv-loop μ-loop
-slice-write-list c = let l = c .before .before .loop in omega (arith, l .inv .long, c .before .loop-test .taken, c .before .before .before .before .before .before .before .pre .1 .0)
+slice-write-list c =
+    let l = c .before .before .loop in
+    omega (arith, l .inv .long, c .before .loop-test .taken, c .before .before .before .before .before .before .before .pre .1 .0)
 
 add-group-end : tie.Need-add-group-end Inv-loop μ-loop
 add-group-end c = search needs
@@ -55,7 +60,8 @@ group-end-requires-2 c κs =
       omega (arith, c .before .before .before .loop-test .taken),
       (
         omega (arith, length-set (l .list) (l .k) (l .held), l .inv .long, t .pre .1 .0),
-        rises-splits _ _ _ _ (set (l .list) (l .k) (l .held)) (c .top-of2 .ensures) (rises-behind (l .k) (l .held) (t .args .end) (l .list) (l .inv .rest)),
+        rises-splits _ _ _ _ (set (l .list) (l .k) (l .held)) (c .top-of2 .ensures)
+            (rises-behind (l .k) (l .held) (t .args .end) (l .list) (l .inv .rest)),
       ),
     )
 
@@ -63,7 +69,9 @@ loop-less : tie.Need-loop-less Inv-loop μ-loop
 loop-less c = omega (arith, c .group-end2 .ensures .starts, c .before .before .before .before .loop-test .taken)
 
 loop-again : tie.Need-loop-again Inv-loop μ-loop
-loop-again c = carries-next (c .before .before .before .before .before .loop .inv) (c .before .before .before .before .before .before .before .before .before .before .pre .1 .0) (c .before .before .before .before .loop-test .taken) _ _ (c .before .top-of2 .ensures) (c .group-end2 .ensures)
+loop-again c = carries-next (c .before .before .before .before .before .loop .inv)
+    (c .before .before .before .before .before .before .before .before .before .before .pre .1 .0)
+    (c .before .before .before .before .loop-test .taken) _ _ (c .before .top-of2 .ensures) (c .group-end2 .ensures)
 
 mul-list-2 : tie.Need-mul-list-2 Inv-loop μ-loop
 mul-list-2 c = search needs
@@ -72,7 +80,12 @@ slice-write-list-2 : tie.Need-slice-write-list-2 Inv-loop μ-loop
 slice-write-list-2 c = omega (arith, c .before .loop .inv .long, c .before .before .before .before .before .before .pre .1 .0)
 
 same-length : tie.Need-same-length Inv-loop μ-loop
-same-length c = omega (arith, c .before .loop .inv .long, length-set (c .before .loop .list) (c .before .before .before .before .before .before .args .end) (c .before .loop .held))
+same-length c = omega (
+  arith,
+  c .before .loop .inv .long,
+  length-set (c .before .loop .list)
+      (c .before .before .before .before .before .before .args .end) (c .before .loop .held),
+)
 
 returns : tie.Need-returns Inv-loop μ-loop
 returns c = carries-end (c .before .loop .inv) (c .before .before .before .before .before .before .pre .1 .0) (c .loop-test .left)

@@ -28,12 +28,14 @@ group-end-requires-2 c κs =
       (
         t .pre .1 .0,
         rises-splits _ _ _ _ (t .args .list .now) (c .before .top-of .ensures)
-            (rises-within (t .args .from) (t .args .end) (c .group-end .result) (t .args .end) (t .args .list .now) (s .starts) (omega arith) (t .pre .1 .1 .0)),
+            (rises-within (t .args .from) (t .args .end) (c .group-end .result) (t .args .end) (t .args .list .now) (s .starts)
+            (omega arith) (t .pre .1 .1 .0)),
       ),
     )
 
 returns : tie.Need-returns
-returns c = grouped (c .before .before .before .before .pre .1 .1 .1) (c .before .before .top-of .ensures) (c .before .group-end .ensures) (c .group-end2 .ensures)
+returns c = grouped (c .before .before .before .before .pre .1 .1 .1) (c .before .before .top-of .ensures)
+    (c .before .group-end .ensures) (c .group-end2 .ensures)
 
 pub group-of-spec : {M : Type 1} → statement M
 group-of-spec =

@@ -44,7 +44,8 @@ loop-less : tie.Need-loop-less Inv-loop μ-loop
 loop-less c = search needs
 
 loop-again : tie.Need-loop-again Inv-loop μ-loop
-loop-again c = halves-next (c .before .before .before .before .before .pre .1 .1) (c .before .before .before .loop .inv) (c .before .before .loop-test .taken) _ (c .up-to .ensures .0) (c .up-to .ensures .1 .0)
+loop-again c = halves-next (c .before .before .before .before .before .pre .1 .1) (c .before .before .before .loop .inv)
+    (c .before .before .loop-test .taken) _ (c .up-to .ensures .0) (c .up-to .ensures .1 .0)
 
 returns : tie.Need-returns Inv-loop μ-loop
 returns c = halves-end (c .before .loop .inv) (c .loop-test .left)

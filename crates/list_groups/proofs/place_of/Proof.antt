@@ -30,25 +30,36 @@ halve-requires c κs =
 loop-holds : tie.Need-loop-holds Inv-loop μ-loop
 loop-holds c =
     let t = c .before .before .before in
-    seeks-start (t .args .w) (t .args .end) (t .args .list .now) (t .pre .0) (t .pre .1 .1 .0) (t .pre .1 .1 .1) (c .before .top-of .ensures) (c .halve .ensures)
+    seeks-start (t .args .w) (t .args .end) (t .args .list .now) (t .pre .0) (t .pre .1 .1 .0) (t .pre .1 .1 .1)
+    (c .before .top-of .ensures) (c .halve .ensures)
 
 mul-if1 : tie.Need-mul-if1 Inv-loop μ-loop
-mul-if1 c = let s = c .loop .inv in let a = s .ahead in let b = s .inside in let d = c .before .before .before .before .pre .0 in search needs
+mul-if1 c =
+    let s = c .loop .inv in let a = s .ahead in let b = s .inside in let d = c .before .before .before .before .pre .0 in
+    search needs
 
 shared-slice-read-if1 : tie.Need-shared-slice-read-if1 Inv-loop μ-loop
-shared-slice-read-if1 c = let s = c .before .loop .inv in omega (arith, s .ahead, s .inside, c .before .before .before .before .before .pre .0)
+shared-slice-read-if1 c =
+    let s = c .before .loop .inv in
+    omega (arith, s .ahead, s .inside, c .before .before .before .before .before .pre .0)
 
 add-k : tie.Need-add-k Inv-loop μ-loop
-add-k c = let s = c .before .before .loop .inv in let a = s .ahead in let b = s .inside in let d = c .before .before .before .before .before .before .pre .0 in search needs
+add-k c =
+    let s = c .before .before .loop .inv in let a = s .ahead in let b = s .inside in
+    let d = c .before .before .before .before .before .before .pre .0 in search needs
 
 loop-less : tie.Need-loop-less Inv-loop μ-loop
 loop-less c = let s = c .before .before .loop .inv in omega (arith, s .ahead, s .inside)
 
 loop-again : tie.Need-loop-again Inv-loop μ-loop
-loop-again c = let t = c .before .before .before .before .before .before in seeks-next (t .args .w) (t .args .end) (t .args .list .now) (t .pre .0) (c .before .before .loop .inv) (c .if1 .taken)
+loop-again c =
+    let t = c .before .before .before .before .before .before in
+    seeks-next (t .args .w) (t .args .end) (t .args .list .now) (t .pre .0) (c .before .before .loop .inv) (c .if1 .taken)
 
 returns : tie.Need-returns Inv-loop μ-loop
-returns c = let t = c .before .before .before .before .before .before in seeks-found (t .args .w) (t .args .end) (t .args .list .now) (t .pre .0) (c .before .before .loop .inv) (c .if1 .left)
+returns c =
+    let t = c .before .before .before .before .before .before in
+    seeks-found (t .args .w) (t .args .end) (t .args .list .now) (t .pre .0) (c .before .before .loop .inv) (c .if1 .left)
 
 pub place-of-spec : {M : Type 1} → statement M
 place-of-spec =

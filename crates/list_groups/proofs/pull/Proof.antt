@@ -33,7 +33,8 @@ mul-top-of : tie.Need-mul-top-of Inv-loop μ-loop
 mul-top-of c = search needs
 
 slice-reshared-read-top-of : tie.Need-slice-reshared-read-top-of Inv-loop μ-loop
-slice-reshared-read-top-of c = omega (arith, c .before .before .loop .inv .long, c .before .loop-test .taken, c .before .before .before .before .pre .1 .0)
+slice-reshared-read-top-of c =
+    let p = c .before .before .before .before .pre in omega (arith, c .before .before .loop .inv .long, c .before .loop-test .taken, p .1 .0)
 
 top-of-requires : tie.Need-top-of-requires Inv-loop μ-loop
 top-of-requires c κs = tt
@@ -46,7 +47,8 @@ group-end-requires c κs =
       (
         omega (arith, l .inv .long, t .pre .1 .0),
         rises-splits _ _ _ _ (l .list) (c .top-of .ensures)
-            (rises-within (suc (l .hole)) (suc (t .args .last)) (l .hole + 2) (t .args .last + 1) (l .list) (omega arith) (omega arith) (l .inv .rest)),
+            (rises-within (suc (l .hole)) (suc (t .args .last)) (l .hole + 2) (t .args .last + 1) (l .list) (omega arith) (omega arith)
+            (l .inv .rest)),
       ),
     )
 
@@ -57,13 +59,20 @@ mul-list : tie.Need-mul-list Inv-loop μ-loop
 mul-list c = search needs
 
 slice-read-list : tie.Need-slice-read-list Inv-loop μ-loop
-slice-read-list c = let l = c .before .before .before .before .before .loop in omega (arith, l .inv .long, c .before .before .before .before .loop-test .taken, c .before .group-end .ensures .ends, c .before .group-end .ensures .starts, c .before .before .before .before .before .before .before .pre .1 .0)
+slice-read-list c =
+    let l = c .before .before .before .before .before .loop in
+    let p = c .before .before .before .before .before .before .before .pre in
+    let g = c .before .group-end .ensures in
+    omega (arith, l .inv .long, c .before .before .before .before .loop-test .taken, g .ends, g .starts, p .1 .0)
 
 mul-list-2 : tie.Need-mul-list-2 Inv-loop μ-loop
 mul-list-2 c = search needs
 
 slice-write-list : tie.Need-slice-write-list Inv-loop μ-loop
-slice-write-list c = let l = c .before .before .before .before .before .loop in omega (arith, l .inv .long, c .before .before .before .before .loop-test .taken, c .before .before .before .before .before .before .before .pre .1 .0)
+slice-write-list c =
+    let l = c .before .before .before .before .before .loop in
+    let p = c .before .before .before .before .before .before .before .pre in
+    omega (arith, l .inv .long, c .before .before .before .before .loop-test .taken, p .1 .0)
 
 sub-hole : tie.Need-sub-hole Inv-loop μ-loop
 sub-hole c = search needs
@@ -72,7 +81,9 @@ loop-less : tie.Need-loop-less Inv-loop μ-loop
 loop-less c = omega (arith, c .before .group-end .ensures .starts, c .before .before .before .before .loop-test .taken)
 
 loop-again : tie.Need-loop-again Inv-loop μ-loop
-loop-again c = pulls-next (c .before .before .before .before .before .loop .inv) (c .before .before .before .before .before .before .before .pre .1 .0) (c .before .before .before .before .loop-test .taken) _ _ (c .before .before .top-of .ensures) (c .before .group-end .ensures)
+loop-again c = pulls-next (c .before .before .before .before .before .loop .inv)
+    (c .before .before .before .before .before .before .before .pre .1 .0) (c .before .before .before .before .loop-test .taken) _ _
+    (c .before .before .top-of .ensures) (c .before .group-end .ensures)
 
 same-length : tie.Need-same-length Inv-loop μ-loop
 same-length c = c .before .loop .inv .long

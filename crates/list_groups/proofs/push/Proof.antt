@@ -36,12 +36,15 @@ carry-requires c κs =
     )
 
 same-length : tie.Need-same-length
-same-length c = let t = c .before .before .before .before .before .before .before in omega (arith, length-set (t .args .list .now) (t .args .k) (t .args .w))
+same-length c =
+    let t = c .before .before .before .before .before .before .before in
+    omega (arith, length-set (t .args .list .now) (t .args .k) (t .args .w))
 
 returns : tie.Need-returns
 returns c =
     let t = c .before .before .before .before .before .before .before in
-    c .before .before .carry .ensures ∙ pushed-carried (t .args .k) (t .args .end) (t .args .w) (t .args .list .now) (c .before .before .before .before .if1 .taken) (t .pre .1 .0)
+    c .before .before .carry .ensures ∙ pushed-carried (t .args .k) (t .args .end) (t .args .w) (t .args .list .now)
+    (c .before .before .before .before .if1 .taken) (t .pre .1 .0)
 
 same-length-2 : tie.Need-same-length-2
 same-length-2 c = search needs

@@ -39,7 +39,10 @@ some-requires : tie.Need-some-requires
 some-requires c κs = tt
 
 add-result : tie.Need-add-result
-add-result c = let t = c .before .before .before .before .before .before .before .before .before .before .before .before in omega (arith, c .some .ensures, bit-le (ltb 0 (c .before .before .before .before .before .before .before .before .group-of .result .high - c .before .before .before .before .before .before .before .before .group-of .result .low)), t .pre .1 .1 .1)
+add-result c =
+    let t = c .before .before .before .before .before .before .before .before .before .before .before .before in
+    let g = c .before .before .before .before .before .before .before .before .group-of .result in
+    omega (arith, c .some .ensures, bit-le (ltb 0 (g .high - g .low)), t .pre .1 .1 .1)
 
 same-length : tie.Need-same-length
 same-length c = search needs
@@ -50,7 +53,8 @@ returns c =
     let g = c .before .before .before .before .before .before .before .before .group-of in
     let le = t .pre .0 in (
       c .before .before .before .push .ensures
-          ∙ ap (λ (d : ℕ). pushed (g .result .low + d) (t .args .n) (t .args .w) (t .args .list .now)) (c .before .before .before .before .before .before .draw .ensures)
+          ∙ ap (λ (d : ℕ). pushed (g .result .low + d) (t .args .n) (t .args .w) (t .args .list .now))
+          (c .before .before .before .before .before .before .draw .ensures)
           ∙ pushed-added (t .args .w) (g .ensures) (omega arith) (t .args .draws .now) (t .args .used),
       ap (λ (d : ℕ). t .args .used + d)
           (c .some .ensures ∙ added-draws (t .args .w) (g .ensures) (omega arith) (t .args .draws .now) (t .args .used)),

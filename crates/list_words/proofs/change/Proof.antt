@@ -37,8 +37,9 @@ some-requires c κs = tt
 
 add-result : tie.Need-add-result
 add-result c =
-    let g = c .before .before .before .before .before .before .group-of in
-    omega (arith, c .some .ensures, bit-le (ltb 0 (g .result .high - g .result .low)), c .before .before .before .before .before .before .before .before .before .before .before .before .before .pre .1 .1 .1 .1 .1 .1 .1)
+    let g = c .before .before .before .before .before .before .group-of .result in
+    let t = c .before .before .before .before .before .before .before .before .before .before .before .before .before in
+    omega (arith, c .some .ensures, bit-le (ltb 0 (g .high - g .low)), t .pre .1 .1 .1 .1 .1 .1 .1)
 
 same-length : tie.Need-same-length
 same-length c = search needs
@@ -51,7 +52,8 @@ returns c =
     let p = c .before .before .before .before .before .before .before .before .before .place-of in
     let h = t .pre .1 .1 .1 .1 .1 .0 in
     let none = t .pre .1 .1 .1 .1 .1 .1 .0 in
-    let q = rank-fell (a .v) (a .w) (t .pre .1 .1 .1 .1 .0) (c .before .before .before .before .before .before .before .before .if1 .taken) in
+    let f = c .before .before .before .before .before .before .before .before .if1 .taken in
+    let q = rank-fell (a .v) (a .w) (t .pre .1 .1 .1 .1 .0) f in
     let group = group-before (a .list .now) (t .pre .1 .0) (omega (arith, p .ensures, h)) (g .ensures)
     (old-rank (a .v) (a .n) (p .result) (a .list .now) (λ (rank : ℕ). listedRank (a .w) < rank) (t .pre .0) h (p .ensures) q) in (
       c .before .before .before .before .to-earlier .ensures
@@ -62,7 +64,9 @@ returns c =
     )
 
 add-group-of : tie.Need-add-group-of
-add-group-of c = let t = c .before .before .before .before .before .before in omega (arith, c .before .before .place-of .ensures, t .pre .1 .1 .1 .1 .1 .0, t .pre .0)
+add-group-of c =
+    let t = c .before .before .before .before .before .before in
+    omega (arith, c .before .before .place-of .ensures, t .pre .1 .1 .1 .1 .1 .0, t .pre .0)
 
 group-of-requires-2 : tie.Need-group-of-requires-2
 group-of-requires-2 c κs =
@@ -87,8 +91,9 @@ some-requires-2 c κs = tt
 
 add-result-2 : tie.Need-add-result-2
 add-result-2 c =
-    let g = c .before .before .before .before .before .before .group-of2 in
-    omega (arith, c .some2 .ensures, bit-le (ltb 0 (g .result .high - g .result .low)), c .before .before .before .before .before .before .before .before .before .before .before .before .before .pre .1 .1 .1 .1 .1 .1 .1)
+    let g = c .before .before .before .before .before .before .group-of2 .result in
+    let t = c .before .before .before .before .before .before .before .before .before .before .before .before .before in
+    omega (arith, c .some2 .ensures, bit-le (ltb 0 (g .high - g .low)), t .pre .1 .1 .1 .1 .1 .1 .1)
 
 same-length-2 : tie.Need-same-length-2
 same-length-2 c = search needs
@@ -101,7 +106,8 @@ returns-2 c =
     let p = c .before .before .before .before .before .before .before .before .before .place-of in
     let h = t .pre .1 .1 .1 .1 .1 .0 in
     let none = t .pre .1 .1 .1 .1 .1 .1 .0 in
-    let q = rank-rose (a .v) (a .w) (t .pre .1 .1 .1 .1 .0) (c .before .before .before .before .before .before .before .before .if1 .left) in
+    let f = c .before .before .before .before .before .before .before .before .if1 .left in
+    let q = rank-rose (a .v) (a .w) (t .pre .1 .1 .1 .1 .0) f in
     let group = group-behind (a .list .now) (t .pre .1 .0) (omega (arith, p .ensures, h)) (g .ensures)
     (old-rank (a .v) (a .n) (p .result) (a .list .now) (λ (rank : ℕ). rank < listedRank (a .w)) (t .pre .0) h (p .ensures) q) in (
       c .before .before .before .before .to-later .ensures

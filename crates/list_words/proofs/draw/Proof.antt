@@ -20,7 +20,9 @@ rem-result : tie.Need-rem-result
 rem-result c = search needs
 
 returns : tie.Need-returns
-returns c = let t = c .before .before .before .before in drawn (t .args .draws .now) (t .args .used) (t .args .limit) (c .u32-to-usize .result) (c .u32-to-usize .ensures)
+returns c =
+    let t = c .before .before .before .before in
+    drawn (t .args .draws .now) (t .args .used) (t .args .limit) (c .u32-to-usize .result) (c .u32-to-usize .ensures)
 
 returns-2 : tie.Need-returns-2
 returns-2 c = let t = c .before .before in drawn-none (t .args .draws .now) (t .args .used) (t .args .limit) (c .if1 .left)

@@ -25,7 +25,8 @@ add-swap c =
     let t = c .before .before .before .before .before .before .before .before in
     omega (
       arith,
-      drawn-in (t .args .low) (t .args .high) (suc (t .args .k)) (t .args .draws .now) (t .args .used) (t .pre .0) (omega (arith, t .pre .1 .0)),
+      drawn-in (t .args .low) (t .args .high) (suc (t .args .k)) (t .args .draws .now) (t .args .used) (t .pre .0)
+          (omega (arith, t .pre .1 .0)),
       c .before .before .before .before .before .draw .ensures,
       t .pre .1 .1 .0,
     )
@@ -54,7 +55,8 @@ returns c =
     let moved = earlier listedRank (t .args .high) (t .args .k) (set (t .args .list .now) (t .args .k) (t .args .w)) in
     c .before .before .swap .ensures
     ∙ ap (λ (z : List ℕ). swap z (t .args .high) (t .args .low + d .result))
-    (c .before .before .before .before .before .before .push .ensures ∙ earlier-pushed (t .args .high) (t .args .k) (t .args .w) (t .args .list .now) (t .pre .1 .0) (t .pre .1 .1 .0))
+    (c .before .before .before .before .before .before .push .ensures
+    ∙ earlier-pushed (t .args .high) (t .args .k) (t .args .w) (t .args .list .now) (t .pre .1 .0) (t .pre .1 .1 .0))
     ∙ ap (λ (z : ℕ). swap moved (t .args .high) (t .args .low + z)) (d .ensures)
 
 pub to-earlier-spec : {M : Type 1} → statement M

@@ -38,7 +38,15 @@ slice-write-list c = search needs
 add-swap : tie.Need-add-swap
 add-swap c =
     let t = c .before .before .before .before .before .before .before .before in
-    omega (arith, draw-le (t .args .draws .now) (t .args .used) (t .args .high - t .args .low), c .before .before .before .before .before .draw .ensures, t .pre .0, t .pre .1 .0, t .pre .1 .1 .0)
+    omega (
+      arith,
+      draw-le (t .args .draws .now) (t .args .used)
+          (t .args .high - t .args .low),
+      c .before .before .before .before .before .draw .ensures,
+      t .pre .0,
+      t .pre .1 .0,
+      t .pre .1 .1 .0,
+    )
 
 swap-requires : tie.Need-swap-requires
 swap-requires c κs =
@@ -58,7 +66,15 @@ swap-requires c κs =
     )
 
 same-length : tie.Need-same-length
-same-length c = let t = c .before .before .before .before .before .before .before .before .before .before .before in omega (arith, length-set (c .before .before .before .before .before .before .pull .last .0) (t .args .low - 1) (t .args .w), c .before .before .before .before .before .list .given, c .before .list2 .given)
+same-length c =
+    let t = c .before .before .before .before .before .before .before .before .before .before .before in
+    omega (
+      arith,
+      length-set (c .before .before .before .before .before .before .pull .last .0) (t .args .low - 1)
+          (t .args .w),
+      c .before .before .before .before .before .list .given,
+      c .before .list2 .given,
+    )
 
 returns : tie.Need-returns
 returns c =
@@ -70,8 +86,10 @@ returns c =
     let b = t .pre .1 .0 in
     let e = t .pre .1 .1 .0 in
     c .before .before .swap .ensures
-    ∙ ap (λ (z : List ℕ). swap (set z to (t .args .w)) to (to + d .result)) (c .before .before .before .before .before .before .pull .ensures)
-    ∙ ap (λ (z : List ℕ). swap z to (to + d .result)) (later-pulled (t .args .k) to (t .args .w) (t .args .list .now) (omega arith) (omega arith))
+    ∙ ap (λ (z : List ℕ). swap (set z to (t .args .w)) to (to + d .result))
+    (c .before .before .before .before .before .before .pull .ensures)
+    ∙ ap (λ (z : List ℕ). swap z to (to + d .result)) (later-pulled (t .args .k) to (t .args .w) (t .args .list .now) (omega arith)
+    (omega arith))
     ∙ ap (λ (z : ℕ). swap moved to (to + z)) (d .ensures)
 
 pub to-later-spec : {M : Type 1} → statement M

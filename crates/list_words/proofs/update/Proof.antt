@@ -13,7 +13,8 @@ returns : tie.Need-returns
 returns c =
     let t = c .before .before .before in
     let a = t .args in
-    update-same (a .old) (a .new) (a .i) (a .n) (a .list .now) (t .pre .1 .0) (t .pre .0) (t .pre .1 .1 .1 .1 .0) (a .draws .now) (a .used) (c .if1 .taken)
+    update-same (a .old) (a .new) (a .i) (a .n) (a .list .now) (t .pre .1 .0) (t .pre .0) (t .pre .1 .1 .1 .1 .0) (a .draws .now)
+    (a .used) (c .if1 .taken)
 
 mul-w : tie.Need-mul-w
 mul-w c = search needs
@@ -32,7 +33,11 @@ add-requires c κs =
       one-more (a .old) (a .new) (a .i) (a .n) (a .list .now) (t .pre .1 .0) (t .pre .0) ready z,
       (
         words-rise (a .old) (a .new) (a .i) (a .n) (a .list .now) (t .pre .1 .0) (t .pre .0) ready,
-        (ranked (a .old) (a .new) (a .i) (a .n) (a .list .now) (t .pre .1 .0) (t .pre .0) ready (a .new) (λ e. nz (e ∙ sym z)), t .pre .1 .1 .1 .1 .1),
+        (
+          ranked (a .old) (a .new) (a .i) (a .n) (a .list .now) (t .pre .1 .0) (t .pre .0) ready (a .new) (λ e. nz (e
+              ∙ sym z)),
+          t .pre .1 .1 .1 .1 .1,
+        ),
       ),
     )
 
@@ -40,7 +45,8 @@ add-t16 : tie.Need-add-t16
 add-t16 c =
     let t = c .before .before .before .before .before .before .before .before in
     let a = t .args in
-    let h = one-more (a .old) (a .new) (a .i) (a .n) (a .list .now) (t .pre .1 .0) (t .pre .0) (t .pre .1 .1 .1 .1 .0) (c .before .before .before .before .if2 .taken) in
+    let h = one-more (a .old) (a .new) (a .i) (a .n) (a .list .now) (t .pre .1 .0) (t .pre .0) (t .pre .1 .1 .1 .1 .0)
+    (c .before .before .before .before .if2 .taken) in
     search needs
 
 same-length : tie.Need-same-length
@@ -53,7 +59,8 @@ returns-2 c =
     let a = t .args in
     let d = c .before .before .add in
     update-added (a .old) (a .new) (a .i) (a .n) (a .list .now) (t .pre .1 .0) (t .pre .0) (t .pre .1 .1 .1 .1 .0) (a .draws .now) (a .used)
-    (c .before .before .before .before .if2 .taken) (c .before .before .before .before .before .if1 .left) (d .last .0) (d .result) (d .ensures .0) (d .ensures .1)
+    (c .before .before .before .before .if2 .taken) (c .before .before .before .before .before .if1 .left) (d .last .0) (d .result)
+    (d .ensures .0) (d .ensures .1)
 
 mul-v : tie.Need-mul-v
 mul-v c = search needs
@@ -82,7 +89,8 @@ sub-t20 : tie.Need-sub-t20
 sub-t20 c =
     let t = c .before .before .before .before .before .before .before .before .before in
     let a = t .args in
-    let h = word-in-list (a .old) (a .new) (a .i) (a .n) (a .list .now) (t .pre .1 .0) (t .pre .0) (t .pre .1 .1 .1 .1 .0) (c .before .before .before .before .before .if2 .left) in
+    let h = word-in-list (a .old) (a .new) (a .i) (a .n) (a .list .now) (t .pre .1 .0) (t .pre .0) (t .pre .1 .1 .1 .1 .0)
+    (c .before .before .before .before .before .if2 .left) in
     omega (arith, h)
 
 same-length-2 : tie.Need-same-length-2
@@ -94,7 +102,8 @@ returns-3 c =
     let t = c .before .before .before .before .before .before .before .before .before in
     let a = t .args in
     let d = c .before .before .remove in
-    update-removed (a .old) (a .new) (a .i) (a .n) (a .list .now) (t .pre .1 .0) (t .pre .0) (t .pre .1 .1 .1 .1 .0) (a .draws .now) (a .used)
+    update-removed (a .old) (a .new) (a .i) (a .n) (a .list .now) (t .pre .1 .0) (t .pre .0) (t .pre .1 .1 .1 .1 .0) (a .draws .now)
+    (a .used)
     (c .before .before .before .before .before .if2 .left) (c .before .before .before .before .if3 .taken) (d .last .0) (d .ensures)
 
 change-requires : tie.Need-change-requires
@@ -118,7 +127,11 @@ change-requires c κs =
               ranks-differ (a .old) (a .new) (a .i) (a .n) (a .list .now) (t .pre .1 .0) (t .pre .0) ready ne,
               (
                 word-in-list (a .old) (a .new) (a .i) (a .n) (a .list .now) (t .pre .1 .0) (t .pre .0) ready nz,
-                (word-none (a .old) (a .new) (a .i) (t .pre .1 .0) (take (a .n) (a .list .now)) ready (omega (arith, nz)) ne, t .pre .1 .1 .1 .1 .1),
+                (
+                  word-none (a .old) (a .new) (a .i) (t .pre .1 .0) (take (a .n) (a .list .now)) ready
+                      (omega (arith, nz)) ne,
+                  t .pre .1 .1 .1 .1 .1,
+                ),
               ),
             ),
           ),
@@ -135,8 +148,10 @@ returns-4 c =
     let t = c .before .before .before .before .before .before .before .before .before in
     let a = t .args in
     let d = c .before .before .change in
-    update-changed (a .old) (a .new) (a .i) (a .n) (a .list .now) (t .pre .1 .0) (t .pre .0) (t .pre .1 .1 .1 .1 .0) (a .draws .now) (a .used)
-    (c .before .before .before .before .before .if2 .left) (c .before .before .before .before .if3 .left) (c .before .before .before .before .before .before .if1 .left) (d .last .0) (d .result) (d .ensures .0) (d .ensures .1)
+    update-changed (a .old) (a .new) (a .i) (a .n) (a .list .now) (t .pre .1 .0) (t .pre .0) (t .pre .1 .1 .1 .1 .0) (a .draws .now)
+    (a .used)
+    (c .before .before .before .before .before .if2 .left) (c .before .before .before .before .if3 .left)
+    (c .before .before .before .before .before .before .if1 .left) (d .last .0) (d .result) (d .ensures .0) (d .ensures .1)
 
 pub update-spec : {M : Type 1} → statement M
 update-spec =
