@@ -21,6 +21,7 @@ struct Updated {
 extern "C" {
     fn lw_update(list: *mut u64, places: usize, n: usize, piece: u64, old: u64, new: u64,
         draws: *const u32, draws_len: usize, used: usize) -> Updated;
+    fn lw_write_ranks(list: *mut u64, places: usize, ranks: *const u16, ranks_len: usize, n: usize);
 }
 
 /// A list of words, and the draws it takes, one after another.
@@ -114,6 +115,19 @@ fn our_round(w: &mut Words, counts: &[u64], pieces: &[usize]) -> Moves {
     [add, (up + down) / 2.0, remove]
 }
 
+/// Ranks put beside the pieces of a list, which a rebuilt list of pieces needs.
+fn write_ranks(counts: &[u64]) -> f64 {
+    let ranks: Vec<u16> = counts.iter().map(|c| rank(*c) as u16).collect();
+    let pieces: Vec<u64> = words(counts).list.iter().map(|w| w % 65536).collect();
+    (0..ROUNDS).fold(f64::MAX, |low, _| {
+        let mut list = pieces.clone();
+        let start = Instant::now();
+        unsafe { lw_write_ranks(list.as_mut_ptr(), list.len(), ranks.as_ptr(), ranks.len(), list.len()) };
+        black_box(&list);
+        low.min(since(start))
+    })
+}
+
 /// The least of all rounds, the two in turns.
 fn row(n: usize, most: usize) {
     let counts = counts(n, most);
@@ -128,11 +142,11 @@ fn row(n: usize, most: usize) {
     for k in 0..3 {
         print!(" {:8.3} {:6.2}", ours[k], ours[k] / theirs[k]);
     }
-    println!();
+    println!(" {:8.3}", write_ranks(&counts));
 }
 
 fn main() {
-    println!("pieces   counts to   add µs, to the Rust    update         remove");
+    println!("pieces   counts to   add µs, to the Rust    update         remove     ranks beside pieces, µs");
     for (n, most) in [(64, 23), (1024, 23), (4096, 23), (64, 900), (1024, 900), (4096, 900)] {
         row(n, most);
     }

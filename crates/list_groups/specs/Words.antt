@@ -1,5 +1,5 @@
 -- A word of the list: the rank of a piece beside the piece. Assumes nothing.
--- `w` is a word, `ws` are words, `i` is a piece, `r` gives the rank of each piece.
+-- `w` is a word, `ws` are words, `i` is a piece, `l` a list of pieces, `r` gives the rank of each piece.
 use Prim.Native.Nat.{ℕ, _+_, _*_, _/_, _%_}
 use mathlib.Core.Path.{_≡_}
 use mathlib.Core.List.{List}
@@ -29,6 +29,10 @@ piecesOf ws = each listedPiece ws
 -- the ranks of words
 unfoldable pub ranksOf : (ws : List ℕ) → List Rank
 ranksOf ws = each listedRank ws
+
+-- the words of pieces, each with its rank
+unfoldable pub wordsOf : (r : Ranks) (l : List ℕ) → List ℕ
+wordsOf r l = each (λ i. listWord (r i) i) l
 
 -- beside each piece stands its rank
 abbrev pub RanksIn : (r : Ranks) (ws : List ℕ) → Type 0

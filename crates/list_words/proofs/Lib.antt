@@ -5,3 +5,4 @@ pub mod Natural
 pub mod Mending
 pub mod Arms
 pub mod Listing
+pub mod Writing
