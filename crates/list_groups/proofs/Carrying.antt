@@ -80,17 +80,18 @@ module _ (end held : ℕ) (l : List ℕ) (le : end < length l) where
   carried-end = rw (slice-empty end l, set-split l end held)
 
 -- what holds at the head of the loop, with `goal` to be made: at k stands a word of a higher rank than the held one
-pub record Carries (end : ℕ) (goal l₀ l : List ℕ) (held k : ℕ) : Type 0 where
+pub record Carries (end : ℕ) (goal l₀ l : List ℕ) (held k near : ℕ) : Type 0 where
   pub left : carried k end held l ≡ goal
   pub at : k ≤ end
   pub rest : Rises k end l
   pub next : k < end → listedRank held < listedRank (getD l k 0)
+  pub some : 0 < near
   pub long : length l ≡ length l₀
 
 -- the words behind place `from` up to the end of the held word's group are passed
-pub carries-come : (top from end held k : ℕ) (goal l₀ l : List ℕ) → top ≡ topOf (listedRank held) → end < length l → length l ≡ length l₀
-    → carried from end held l ≡ goal → Rises from end l → NoLower held from end l → Parted top from end l k k → Carries end goal l₀ l held k
-carries-come top from end held k goal l₀ l et le long left rises low s =
+pub carries-come : (top from end held k near : ℕ) (goal l₀ l : List ℕ) → 0 < near → top ≡ topOf (listedRank held) → end < length l → length l ≡ length l₀
+    → carried from end held l ≡ goal → Rises from end l → NoLower held from end l → Parted top from end l k k → Carries end goal l₀ l held k near
+carries-come top from end held k near goal l₀ l some et le long left rises low s =
     let e : from + (k - from) ≡ k = omega (arith, s .starts) in
     record {
       left = rw e at (sym (carried-stretch end held l le (k - from) from (omega (arith, s .starts, s .ends))
@@ -104,15 +105,16 @@ carries-come top from end held k goal l₀ l et le long left rises low s =
       at = s .ends;
       rest = rises-within from end k end l (s .starts) (omega arith) rises;
       next = λ h. over-top (listedRank held) (getD l k 0) (omega (arith, et, s .over k (omega arith) h));
+      some = some;
       long = long;
     }
 
-module _ {end : ℕ} {goal l₀ l : List ℕ} {held k : ℕ} (m : Carries end goal l₀ l held k) (h : end < length l₀) where
+module _ {end : ℕ} {goal l₀ l : List ℕ} {held k near : ℕ} (m : Carries end goal l₀ l held k near) (h : end < length l₀) where
   -- a turn: the held word is stored
-  pub carries-next : k < end → (top f : ℕ) → top ≡ topOf (listedRank (getD l k 0)) → Parted top (k + 1) end (set l k held) f f
-      → Carries end goal l₀ (set l k held) (getD l k 0) f
-  carries-next lt top f e s =
-      carries-come top (k + 1) end (getD l k 0) f goal l₀ (set l k held) e (omega (arith, length-set l k held, m .long))
+  pub carries-next : k < end → (top f far : ℕ) → 0 < far → top ≡ topOf (listedRank (getD l k 0)) → Parted top (k + 1) end (set l k held) f f
+      → Carries end goal l₀ (set l k held) (getD l k 0) f far
+  carries-next lt top f far some e s =
+      carries-come top (k + 1) end (getD l k 0) f far goal l₀ (set l k held) some e (omega (arith, length-set l k held, m .long))
       (length-set l k held ∙ m .long)
       (sym (carried-other end held l (omega (arith, m .long)) k lt (λ e. absurd (omega (arith, m .next lt)))) ∙ m .left)
       (rises-behind k held end l (m .rest)) (lower-behind k held end l (m .rest)) s

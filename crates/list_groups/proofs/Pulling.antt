@@ -95,16 +95,17 @@ module _ (hole p last : ℕ) (l : List ℕ) (a : hole < p) (c : p ≤ last) (le 
 
 -- ---- `pull`
 -- what holds at the head of the loop, with `goal` to be made: what is left to pull over the free place
-pub record Pulls (last : ℕ) (goal l₀ l : List ℕ) (hole : ℕ) : Type 0 where
+pub record Pulls (last : ℕ) (goal l₀ l : List ℕ) (hole near : ℕ) : Type 0 where
   pub left : pulled hole last l ≡ goal
   pub at : hole ≤ last
   pub rest : Rises (suc hole) (suc last) l
+  pub some : 0 < near
   pub long : length l ≡ length l₀
 
-module _ {last : ℕ} {goal l₀ l : List ℕ} {hole : ℕ} (m : Pulls last goal l₀ l hole) (h : last < length l₀) where
+module _ {last : ℕ} {goal l₀ l : List ℕ} {hole near : ℕ} (m : Pulls last goal l₀ l hole near) (h : last < length l₀) where
   -- the next group ends before `end`
   pub pulls-next : hole < last → (top end : ℕ) → top ≡ topOf (listedRank (getD l (hole + 1) 0)) → Parted top (hole + 2) (last + 1) l end end
-      → Pulls last goal l₀ (set l hole (getD l (end - 1) 0)) (end - 1)
+      → Pulls last goal l₀ (set l hole (getD l (end - 1) 0)) (end - 1) (end - 1 - hole)
   pulls-next lt top end et s =
       let first = getD l (hole + 1) 0 in
       let a = s .starts in
@@ -128,6 +129,7 @@ module _ {last : ℕ} {goal l₀ l : List ℕ} {hole : ℕ} (m : Pulls last goal
         at = omega arith;
         rest = rises-set hole (getD l (end - 1) 0) (suc (end - 1)) (suc last) l (omega arith)
             (rises-within (suc hole) (suc last) (suc (end - 1)) (suc last) l (omega arith) (omega arith) (m .rest));
+        some = omega arith;
         long = length-set l hole (getD l (end - 1) 0) ∙ m .long;
       }
     where

@@ -87,8 +87,8 @@ pub record Gallops (top from end : ℕ) (l : List ℕ) (low step : ℕ) : Type 0
   pub some : 1 ≤ step
 
 -- at the start nothing is known
-pub gallops-start : (top from end : ℕ) (l : List ℕ) → from ≤ end → Gallops top from end l from 1
-gallops-start top from end l h = record { seen = parted-start h; at = h; some = omega arith }
+pub gallops-start : (top from end step : ℕ) (l : List ℕ) → from ≤ end → 0 < step → Gallops top from end l from step
+gallops-start top from end step l h s = record { seen = parted-start h; at = h; some = s }
 
 module _ {top from end : ℕ} {l : List ℕ} (split : Splits top from end l) {low step : ℕ} (s : Gallops top from end l low step)
     (lt : step ≤ end - low) where

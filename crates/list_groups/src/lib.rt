@@ -21,15 +21,16 @@ pub struct Span {
     pub high: usize,
 }
 
-// Wider and wider steps, up to the first that comes to a word above `top`.
-pub fn gallop(list: &[u64], from: usize, end: usize, top: u64) -> Span
+// Wider and wider steps, the first of `near` places, up to one that comes to a word above `top`.
+pub fn gallop(list: &[u64], from: usize, end: usize, near: usize, top: u64) -> Span
     requires { ⌜ from ≤ end ⌝ }
     requires { ⌜ end ≤ length (now list) ⌝ }
     requires { ⌜ Splits top from end (now list) ⌝ }
+    requires { ⌜ 0 < near ⌝ }
     ensures { λ r. ⌜ Parted top from end (now (list .entry)) (r .low) (r .high) ⌝ }
 {
     let mut low = from;
-    let mut step = 1;
+    let mut step = near;
     while step <= end - low {
         let k = low + (step - 1);
         if top < list[k] {
@@ -68,15 +69,16 @@ pub fn halve(list: &[u64], from: usize, end: usize, top: u64) -> usize
     low
 }
 
-// The first word above `top`, which is not far off.
-pub fn group_end(list: &[u64], from: usize, end: usize, top: u64) -> usize
+// The first word above `top`, which may be about `near` places off.
+pub fn group_end(list: &[u64], from: usize, end: usize, near: usize, top: u64) -> usize
     requires { ⌜ from ≤ end ⌝ }
     requires { ⌜ end ≤ length (now list) ⌝ }
     requires { ⌜ Splits top from end (now list) ⌝ }
+    requires { ⌜ 0 < near ⌝ }
     ensures { λ r. ⌜ Parted top from end (now (list .entry)) r r ⌝ }
 {
-    let near = gallop(list, from, end, top);
-    halve(list, near.low, near.high, top)
+    let within = gallop(list, from, end, near, top);
+    halve(list, within.low, within.high, top)
 }
 
 // Where the group of w's rank stands, or would.
@@ -88,8 +90,8 @@ pub fn group_of(list: &[u64], from: usize, end: usize, w: u64) -> Span
     ensures { λ r. ⌜ IsGroup (listedRank w) from end (now (list .entry)) (r .low) (r .high) ⌝ }
 {
     let top = top_of(w);
-    let low = group_end(list, from, end, top - 65536);
-    let high = group_end(list, low, end, top);
+    let low = group_end(list, from, end, 1, top - 65536);
+    let high = group_end(list, low, end, 1, top);
     Span { low, high }
 }
 
@@ -109,7 +111,8 @@ pub fn place_of(list: &[u64], end: usize, w: u64) -> usize
     k
 }
 
-// `first` goes to the end of its group; from there the next group's first is held, up to place `end`.
+// `first` goes to the end of its group; from there the next group's first is held, up to place `end`. A group may be about as long as the
+// one before.
 pub fn carry(list: &mut [u64], from: usize, end: usize, first: u64)
     requires { ⌜ from ≤ end ⌝ }
     requires { ⌜ end < length (now list) ⌝ }
@@ -118,12 +121,15 @@ pub fn carry(list: &mut [u64], from: usize, end: usize, first: u64)
     ensures { λ _. ⌜ now (list .exit) ≡ carried from end first (now (list .entry)) ⌝ }
 {
     let mut held = first;
-    let mut k = group_end(list, from, end, top_of(first));
+    let mut near = 1;
+    let mut k = group_end(list, from, end, near, top_of(first));
     while k < end {
         let next = list[k];
         list[k] = held;
         held = next;
-        k = group_end(list, k + 1, end, top_of(held));
+        let start = k + 1;
+        k = group_end(list, start, end, near, top_of(held));
+        near = k - start + 1;
     }
     list[end] = held;
 }
@@ -150,9 +156,11 @@ pub fn pull(list: &mut [u64], k: usize, last: usize)
     ensures { λ _. ⌜ now (list .exit) ≡ pulled k last (now (list .entry)) ⌝ }
 {
     let mut hole = k;
+    let mut near = 1;
     while hole < last {
-        let end = group_end(list, hole + 2, last + 1, top_of(list[hole + 1]));
+        let end = group_end(list, hole + 2, last + 1, near, top_of(list[hole + 1]));
         list[hole] = list[end - 1];
+        near = end - 1 - hole;
         hole = end - 1;
     }
 }

@@ -6,13 +6,13 @@ use Rattle.list_groups.proofs.gallop.Statement.{statement}
 use Rattle.list_groups.proofs.gallop.Tie as tie
 
 abbrev Inv-loop : tie.InvT-loop
-Inv-loop list from end top low₀ step₀ low step = Gallops top from end list low step
+Inv-loop list from end near top low₀ step₀ low step = Gallops top from end list low step
 
 abbrev μ-loop : tie.MeasureT-loop
-μ-loop list from end top low₀ step₀ low step = end - low
+μ-loop list from end near top low₀ step₀ low step = end - low
 
 loop-holds : tie.Need-loop-holds Inv-loop μ-loop
-loop-holds c = gallops-start _ _ _ _ (c .pre .0)
+loop-holds c = gallops-start _ _ _ _ _ (c .pre .0) (c .pre .1 .1 .1)
 
 sub-loop : tie.Need-sub-loop Inv-loop μ-loop
 sub-loop c = search needs
@@ -30,8 +30,8 @@ shared-slice-read-if1 : tie.Need-shared-slice-read-if1 Inv-loop μ-loop
 shared-slice-read-if1 c = search needs
 
 returns : tie.Need-returns Inv-loop μ-loop
-returns c = gallops-stop (c .before .before .before .before .pre .1 .1) (c .before .before .before .loop .inv)
-    (c .before .before .loop-test .taken) (c .if1 .taken)
+returns c =
+    gallops-stop (c .before .before .before .before .pre .1 .1 .0) (c .before .before .before .loop .inv) (c .before .before .loop-test .taken) (c .if1 .taken)
 
 add-low : tie.Need-add-low Inv-loop μ-loop
 add-low c = search needs
@@ -43,8 +43,8 @@ loop-less : tie.Need-loop-less Inv-loop μ-loop
 loop-less c = search needs
 
 loop-again : tie.Need-loop-again Inv-loop μ-loop
-loop-again c = gallops-next (c .before .before .before .before .pre .1 .1) (c .before .before .before .loop .inv)
-    (c .before .before .loop-test .taken) (c .if1 .left)
+loop-again c =
+    gallops-next (c .before .before .before .before .pre .1 .1 .0) (c .before .before .before .loop .inv) (c .before .before .loop-test .taken) (c .if1 .left)
 
 returns-2 : tie.Need-returns-2 Inv-loop μ-loop
 returns-2 c = c .before .loop .inv .seen

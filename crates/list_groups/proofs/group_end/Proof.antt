@@ -12,7 +12,7 @@ halve-requires : tie.Need-halve-requires
 halve-requires c κs =
     let t = c .before .before in
     let s = c .gallop .ensures in
-    (s .rises, (omega (arith, s .ends, t .pre .1 .0), splits-within _ _ _ _ _ (t .args .list .now) (s .starts) (s .ends) (t .pre .1 .1)))
+    (s .rises, (omega (arith, s .ends, t .pre .1 .0), splits-within _ _ _ _ _ (t .args .list .now) (s .starts) (s .ends) (t .pre .1 .1 .0)))
 
 returns : tie.Need-returns
 returns c = parted-within (c .before .gallop .ensures) (c .halve .ensures)

@@ -3,7 +3,6 @@ use borrow.Author.Needs.{needs}
 use mathlib.Core.Path.{refl}
 use Prim.Native.Nat.{_-_, _+_, suc}
 use native.Mathlib.Omega.{arith}
-use lib.ListN.{length-set}
 use Rattle.list_groups.specs.Places.{pulled}
 use Rattle.list_groups.proofs.Searching.{rises-splits}
 use Rattle.list_groups.proofs.Carrying.{rises-within}
@@ -12,13 +11,13 @@ use Rattle.list_groups.proofs.pull.Statement.{statement}
 use Rattle.list_groups.proofs.pull.Tie as tie
 
 abbrev Inv-loop : tie.InvT-loop
-Inv-loop list₀ k last hole₀ list hole = Pulls last (pulled k last list₀) list₀ list hole
+Inv-loop list₀ k last hole₀ near₀ list hole near = Pulls last (pulled k last list₀) list₀ list hole near
 
 abbrev μ-loop : tie.MeasureT-loop
-μ-loop list₀ k last hole₀ list hole = last - hole
+μ-loop list₀ k last hole₀ near₀ list hole near = last - hole
 
 loop-holds : tie.Need-loop-holds Inv-loop μ-loop
-loop-holds c = let t = c .before in record { left = refl; at = t .pre .0; rest = t .pre .1 .1; long = refl }
+loop-holds c = let t = c .before in record { left = refl; at = t .pre .0; rest = t .pre .1 .1; some = omega arith; long = refl }
 
 add-group-end : tie.Need-add-group-end Inv-loop μ-loop
 add-group-end c = search needs
@@ -42,14 +41,11 @@ top-of-requires c κs = tt
 group-end-requires : tie.Need-group-end-requires Inv-loop μ-loop
 group-end-requires c κs =
     let l = c .before .before .before .loop in
-    let t = c .before .before .before .before .before in (
+    let t = c .before .before .before .before .before in
+    let last = t .args .last in
+    let rises = rises-within (suc (l .hole)) (suc last) (l .hole + 2) (last + 1) (l .list) (omega arith) (omega arith) (l .inv .rest) in (
       omega (arith, c .before .before .loop-test .taken),
-      (
-        omega (arith, l .inv .long, t .pre .1 .0),
-        rises-splits _ _ _ _ (l .list) (c .top-of .ensures)
-            (rises-within (suc (l .hole)) (suc (t .args .last)) (l .hole + 2) (t .args .last + 1) (l .list) (omega arith) (omega arith)
-            (l .inv .rest)),
-      ),
+      (omega (arith, l .inv .long, t .pre .1 .0), (rises-splits _ _ _ _ (l .list) (c .top-of .ensures) rises, l .inv .some)),
     )
 
 sub-list : tie.Need-sub-list Inv-loop μ-loop
@@ -74,6 +70,12 @@ slice-write-list c =
     let p = c .before .before .before .before .before .before .before .pre in
     omega (arith, l .inv .long, c .before .before .before .before .loop-test .taken, p .1 .0)
 
+sub-near : tie.Need-sub-near Inv-loop μ-loop
+sub-near c = search needs
+
+sub-near-2 : tie.Need-sub-near-2 Inv-loop μ-loop
+sub-near-2 c = search needs
+
 sub-hole : tie.Need-sub-hole Inv-loop μ-loop
 sub-hole c = search needs
 
@@ -81,15 +83,16 @@ loop-less : tie.Need-loop-less Inv-loop μ-loop
 loop-less c = omega (arith, c .before .group-end .ensures .starts, c .before .before .before .before .loop-test .taken)
 
 loop-again : tie.Need-loop-again Inv-loop μ-loop
-loop-again c = pulls-next (c .before .before .before .before .before .loop .inv)
-    (c .before .before .before .before .before .before .before .pre .1 .0) (c .before .before .before .before .loop-test .taken) _ _
-    (c .before .before .top-of .ensures) (c .before .group-end .ensures)
+loop-again c =
+    let p = c .before .before .before .before .before .before .before .pre in
+    pulls-next (c .before .before .before .before .before .loop .inv) (p .1 .0) (c .before .before .before .before .loop-test .taken) _ _ (c .before .before .top-of .ensures) (c .before .group-end .ensures)
 
 same-length : tie.Need-same-length Inv-loop μ-loop
 same-length c = c .before .loop .inv .long
 
 returns : tie.Need-returns Inv-loop μ-loop
-returns c = pulls-end (c .before .loop .inv) (c .before .before .before .pre .1 .0) (c .loop-test .left)
+returns c =
+    let p = c .before .before .before .pre in pulls-end (c .before .loop .inv) (p .1 .0) (c .loop-test .left)
 
 pub pull-spec : {M : Type 1} → statement M
 pull-spec =
@@ -110,6 +113,8 @@ pull-spec =
     slice-read-list
     mul-list-2
     slice-write-list
+    sub-near
+    sub-near-2
     sub-hole
     loop-less
     loop-again
