@@ -1,0 +1,4 @@
+pub mod WordLaws
+pub mod Searching
+pub mod Carrying
+pub mod Pulling

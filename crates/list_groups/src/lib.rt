@@ -1,0 +1,166 @@
+// The groups of a list of words: where one starts and ends, where a word stands, and groups turned by one place.
+// A word is rank · 65,536 + piece, and ranks never fall along the list. A group's end is found by wider and wider steps, then by
+// halving; words are compared with the highest word of a rank, and nothing is divided.
+ghost use mathlib.Core.Path.{_≡_};
+ghost use Prim.Native.Nat.{suc, _≤_, _<_};
+ghost use lib.ListN.{length, take};
+ghost use Rattle.model.specs.Lists.{placeOf};
+ghost use Rattle.list_groups.specs.Words.{listedRank, topOf};
+ghost use Rattle.list_groups.specs.Places.{Rises, NoLower, Splits, Parted, IsGroup, carried, pushed, pulled};
+
+// The highest word of w's rank.
+pub fn top_of(w: u64) -> u64
+    ensures { λ r. ⌜ r ≡ topOf (listedRank w) ⌝ }
+{
+    w - w % 65536 + 65535
+}
+
+// Places that a search has come to: words up to the one sought stand before `low`, higher ones from `high` on.
+pub struct Span {
+    pub low: usize,
+    pub high: usize,
+}
+
+// Wider and wider steps, the first of `near` places, up to one that comes to a word above `top`.
+pub fn gallop(list: &[u64], from: usize, end: usize, near: usize, top: u64) -> Span
+    requires { ⌜ from ≤ end ⌝ }
+    requires { ⌜ end ≤ length (now list) ⌝ }
+    requires { ⌜ Splits top from end (now list) ⌝ }
+    requires { ⌜ 0 < near ⌝ }
+    ensures { λ r. ⌜ Parted top from end (now (list .entry)) (r .low) (r .high) ⌝ }
+{
+    let mut low = from;
+    let mut step = near;
+    while step <= end - low {
+        let k = low + (step - 1);
+        if top < list[k] {
+            return Span { low, high: k };
+        }
+        low = k + 1;
+        step = 4 * step;
+    }
+    Span { low, high: end }
+}
+
+// As many places as are asked for where w is up to `top`, and none otherwise.
+pub fn up_to(w: u64, top: u64, places: usize) -> usize
+    ensures { λ r. ⌜ (w ≤ top → r ≡ places) ⌝ }
+    ensures { λ r. ⌜ (top < w → r ≡ 0) ⌝ }
+    ensures { λ r. ⌜ r ≤ places ⌝ }
+{
+    if w <= top { places } else { 0 }
+}
+
+// The first word above `top`, by halving.
+pub fn halve(list: &[u64], from: usize, end: usize, top: u64) -> usize
+    requires { ⌜ from ≤ end ⌝ }
+    requires { ⌜ end ≤ length (now list) ⌝ }
+    requires { ⌜ Splits top from end (now list) ⌝ }
+    ensures { λ r. ⌜ Parted top from end (now (list .entry)) r r ⌝ }
+{
+    let mut low = from;
+    let mut size = end - from;
+    while 0 < size {
+        let half = size - size / 2;
+        let w = list[low + (half - 1)];
+        low = low + up_to(w, top, half);
+        size = size - half;
+    }
+    low
+}
+
+// The first word above `top`, which may be about `near` places off.
+pub fn group_end(list: &[u64], from: usize, end: usize, near: usize, top: u64) -> usize
+    requires { ⌜ from ≤ end ⌝ }
+    requires { ⌜ end ≤ length (now list) ⌝ }
+    requires { ⌜ Splits top from end (now list) ⌝ }
+    requires { ⌜ 0 < near ⌝ }
+    ensures { λ r. ⌜ Parted top from end (now (list .entry)) r r ⌝ }
+{
+    let within = gallop(list, from, end, near, top);
+    halve(list, within.low, within.high, top)
+}
+
+// Where the group of w's rank stands, or would.
+pub fn group_of(list: &[u64], from: usize, end: usize, w: u64) -> Span
+    requires { ⌜ from ≤ end ⌝ }
+    requires { ⌜ end ≤ length (now list) ⌝ }
+    requires { ⌜ Rises from end (now list) ⌝ }
+    requires { ⌜ 0 < listedRank w ⌝ }
+    ensures { λ r. ⌜ IsGroup (listedRank w) from end (now (list .entry)) (r .low) (r .high) ⌝ }
+{
+    let top = top_of(w);
+    let low = group_end(list, from, end, 1, top - 65536);
+    let high = group_end(list, low, end, 1, top);
+    Span { low, high }
+}
+
+// Where the word w stands, which is among the first. Its group is scanned.
+pub fn place_of(list: &[u64], end: usize, w: u64) -> usize
+    requires { ⌜ end ≤ length (now list) ⌝ }
+    requires { ⌜ Rises 0 end (now list) ⌝ }
+    requires { ⌜ 0 < listedRank w ⌝ }
+    requires { ⌜ placeOf w (take end (now list)) < end ⌝ }
+    ensures { λ r. ⌜ r ≡ placeOf w (take end (now (list .entry))) ⌝ }
+{
+    let top = top_of(w);
+    let mut k = halve(list, 0, end, top - 65536);
+    while list[k] != w {
+        k += 1;
+    }
+    k
+}
+
+// `first` goes to the end of its group; from there the next group's first is held, up to place `end`. A group may be about as long as the
+// one before.
+pub fn carry(list: &mut [u64], from: usize, end: usize, first: u64)
+    requires { ⌜ from ≤ end ⌝ }
+    requires { ⌜ end < length (now list) ⌝ }
+    requires { ⌜ Rises from end (now list) ⌝ }
+    requires { ⌜ NoLower first from end (now list) ⌝ }
+    ensures { λ _. ⌜ now (list .exit) ≡ carried from end first (now (list .entry)) ⌝ }
+{
+    let mut held = first;
+    let mut near = 1;
+    let mut k = group_end(list, from, end, near, top_of(first));
+    while k < end {
+        let next = list[k];
+        list[k] = held;
+        held = next;
+        let start = k + 1;
+        k = group_end(list, start, end, near, top_of(held));
+        near = k - start + 1;
+    }
+    list[end] = held;
+}
+
+// w comes in at place k, and what stood there and in the groups behind it moves up, to place `end`.
+pub fn push(list: &mut [u64], k: usize, end: usize, w: u64)
+    requires { ⌜ k ≤ end ⌝ }
+    requires { ⌜ end < length (now list) ⌝ }
+    requires { ⌜ Rises k end (now list) ⌝ }
+    ensures { λ _. ⌜ now (list .exit) ≡ pushed k end w (now (list .entry)) ⌝ }
+{
+    let first = list[k];
+    list[k] = w;
+    if k < end {
+        carry(list, k + 1, end, first);
+    }
+}
+
+// The groups behind place k, up to and with place `last`, move down over it: each group's last goes to where the one before it ended.
+pub fn pull(list: &mut [u64], k: usize, last: usize)
+    requires { ⌜ k ≤ last ⌝ }
+    requires { ⌜ last < length (now list) ⌝ }
+    requires { ⌜ Rises (suc k) (suc last) (now list) ⌝ }
+    ensures { λ _. ⌜ now (list .exit) ≡ pulled k last (now (list .entry)) ⌝ }
+{
+    let mut hole = k;
+    let mut near = 1;
+    while hole < last {
+        let end = group_end(list, hole + 2, last + 1, near, top_of(list[hole + 1]));
+        list[hole] = list[end - 1];
+        near = end - 1 - hole;
+        hole = end - 1;
+    }
+}
