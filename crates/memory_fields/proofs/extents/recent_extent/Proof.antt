@@ -1,0 +1,17 @@
+-- `recent_extent` meets its contract. Assumes nothing.
+use Rattle.memory_fields.proofs.ExtentLaws.{extent-read}
+use borrow.Author.Needs.{needs}
+use Rattle.memory_fields.proofs.extents.recent_extent.Statement.{statement}
+use Rattle.memory_fields.proofs.extents.recent_extent.Tie as tie
+
+add-head-word : tie.Need-add-head-word
+add-head-word c = search needs
+
+head-word-requires : tie.Need-head-word-requires
+head-word-requires c κs = search needs
+
+returns : tie.Need-returns
+returns c = extent-read (c .before .before .args .words .now) (c .before .before .args .k) (c .before .before .pre .1 .0) (c .head-word .result) (c .head-word .ensures)
+
+pub recent-extent-spec : {M : Type 1} → statement M
+recent-extent-spec = tie.close (tie.spec add-head-word head-word-requires returns)
