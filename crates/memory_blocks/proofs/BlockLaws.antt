@@ -12,6 +12,7 @@ use Rattle.model.specs.State.{Block}
 use Rattle.model.specs.change.Partials.{blockAt}
 use Rattle.memory_records.specs.declared.record.DownloadingPiece.{DownloadingPiece as Record}
 use Rattle.memory_layout.specs.declared.shape.Shape.{Shape}
+use Rattle.memory_layout.specs.Tables.{choose}
 use Rattle.memory_layout.specs.Offsets.{peerAt, blockCellAt}
 use Rattle.memory_layout.specs.Decode.{recordAt, peerWord, blockCell, stateFrom, yes?, peerFrom, blockFrom, blockHeld, decode}
 use Rattle.memory_layout.specs.Changes.{partialIn, withPartial, withBlock}
@@ -19,10 +20,11 @@ use Rattle.memory_layout.specs.Bounds.{Spans, InBounds, WordsSpan, CellsSpan}
 use Rattle.memory_layout.specs.Stores.{Became}
 use Rattle.memory_layout.proofs.Numbers.{number-state}
 use Rattle.memory_layout.proofs.Meanings.{block-is}
-use Rattle.memory_layout.proofs.stores.BlockStores.{BlockPut, block-put, block-became, block-elsewhere}
+use Rattle.memory_layout.proofs.stores.BlockStores.{BlockPut, block-none, block-cell-put, block-put, put-is, block-became}
+use Rattle.memory_layout.proofs.stores.BlockStores.{block-elsewhere}
 use Rattle.memory_layout.proofs.stores.ListFrames.{block-list-kept}
 use Rattle.memory_blocks.specs.declared.info.BlockInfo.{BlockInfo}
-use Rattle.memory_blocks.specs.Blocks.{blockOf, BlockIs, Live, BlockRead, BlockStored}
+use Rattle.memory_blocks.specs.Blocks.{blockOf, BlockIs, Live, BlockRead, BlockStored, BlockFresh}
 
 -- ---- reading
 module _ (s : Shape) (words cells : List ℕ) (p j : ℕ) (x : BlockInfo) where
@@ -101,3 +103,35 @@ block-set s words cells r p j x w a b cells′ words′ hp hj h ew ea eb ec ed =
     block-stored s words cells words′ cells′ p j x h
     (rw (ed, ec, eb, ea, ew)
     (block-put s words cells (r .inWords) (r .inCells) p j (x .state) (x .«num_peers») (bit (x .«has_peer»)) (x .peer) hp hj))
+
+-- ---- a fresh block
+module _ (s : Shape) (cells : List ℕ) (r : CellsSpan s cells) (p j state : ℕ) (hp : p < s .places) (hj : j < s .blocks) (h : state ≤ 3) where
+  -- the cells after the three stores
+  abbrev afterFresh : List ℕ
+  afterFresh =
+      set (set (set cells (blockCellAt (s .pieces) (s .blocks) 0 p j) state) (blockCellAt (s .pieces) (s .blocks) 1 p j) 0)
+      (blockCellAt (s .pieces) (s .blocks) 2 p j) 0
+
+  put : (words : List ℕ) → BlockPut s words cells words afterFresh p j state 0 0 (peerWord words (s .pieces) (s .blocks) p j)
+  unfolding choose
+  put words =
+      let a = block-cell-put s words cells words cells p j _ _ _ _ hp hj (block-none s words cells p j) r 0 state (omega arith) in
+      let b = block-cell-put s words cells words _ p j _ _ _ _ hp hj a r 1 0 (omega arith) in
+      block-cell-put s words cells words _ p j _ _ _ _ hp hj b r 2 0 (omega arith)
+
+  fresh : BlockFresh s cells afterFresh p j state
+  unfolding blockFrom peerFrom yes?
+  fresh = record {
+    put = put;
+    held = λ words. put-is s words cells words afterFresh p j state 0 0 (peerWord words (s .pieces) (s .blocks) p j) (put words);
+    plain = record { state = rw (put cells .stateIs) h; has = rw (put cells .hasIs) (omega arith) };
+    elsewhere = λ records words q none.
+        block-elsewhere s words cells words afterFresh p j state 0 0 (peerWord words (s .pieces) (s .blocks) p j) (put words) records q none;
+  }
+
+  -- the three stores
+  pub block-fresh : (a b cells′ : List ℕ) → a ≡ set cells (blockCellAt (s .pieces) (s .blocks) 0 p j) state
+      → b ≡ set a (blockCellAt (s .pieces) (s .blocks) 1 p j) 0
+      → cells′ ≡ set b (blockCellAt (s .pieces) (s .blocks) 2 p j) 0
+      → BlockFresh s cells cells′ p j state
+  block-fresh a b cells′ ea eb ec = rw (ec, eb, ea) fresh

@@ -11,9 +11,9 @@ use Rattle.model.specs.State.{Block}
 use Rattle.model.specs.change.Partials.{blockAt}
 use Rattle.memory_records.specs.declared.record.DownloadingPiece.{DownloadingPiece as Record}
 use Rattle.memory_layout.specs.declared.shape.Shape.{Shape}
-use Rattle.memory_layout.specs.Decode.{headWord, recordAt, blocksOf, stateFrom, blockHeld, decode}
+use Rattle.memory_layout.specs.Decode.{headWord, peerWord, recordAt, blocksOf, stateFrom, blockHeld, decode}
 use Rattle.memory_layout.specs.Changes.{partialIn, withPartial, withBlock}
-use Rattle.memory_layout.specs.Bounds.{InBounds}
+use Rattle.memory_layout.specs.Bounds.{InBounds, PlainBlock}
 use Rattle.memory_layout.specs.Stores.{Became, ListKept}
 use Rattle.memory_layout.proofs.stores.BlockStores.{BlockPut}
 use Rattle.memory_blocks.specs.declared.info.BlockInfo.{BlockInfo}
@@ -51,3 +51,17 @@ pub record BlockStored (s : Shape) (words cells words′ cells′ : List ℕ) (p
   pub elsewhere : (records : List Record) → InBounds s records words cells
       → ((k : ℕ) → k < headWord words 7 → recordAt records k .«info_idx» ≢ p)
       → Became s (λ d. d) records words cells words′ cells′
+
+-- a block in a state, with no peers, stands at place p beside any words, its numbers plain; where no live record has the place the picker
+-- is as it was
+pub record BlockFresh (s : Shape) (cells cells′ : List ℕ) (p j state : ℕ) : Type 0 where
+  pub put : (words : List ℕ) → BlockPut s words cells words cells′ p j state 0 0 (peerWord words (s .pieces) (s .blocks) p j)
+  pub held : (words : List ℕ) → blockHeld words cells′ (s .pieces) (s .blocks) p j ≡ record {
+    state = stateFrom state;
+    numPeers = 0;
+    peer = none;
+  }
+  pub plain : PlainBlock (s .pieces) (s .blocks) cells′ p j
+  pub elsewhere : (records : List Record) (words : List ℕ) → InBounds s records words cells
+      → ((k : ℕ) → k < headWord words 7 → recordAt records k .«info_idx» ≢ p)
+      → Became s (λ d. d) records words cells words cells′

@@ -8,8 +8,8 @@ use memory_layout::peer_word;
 use memory_layout::set_block_cell;
 use memory_layout::set_peer_word;
 ghost use Prim.Native.Nat.{_<_, _≤_};
-ghost use Rattle.memory_layout.specs.Bounds.{Spans};
-ghost use Rattle.memory_blocks.specs.Blocks.{BlockRead, BlockStored};
+ghost use Rattle.memory_layout.specs.Bounds.{CellsSpan, Spans};
+ghost use Rattle.memory_blocks.specs.Blocks.{BlockRead, BlockStored, BlockFresh};
 
 pub fn get_block(words: &[u64], cells: &[u16], s: Shape, p: usize, j: usize) -> BlockInfo
     requires { ⌜ Spans s (now words) (now cells) ⌝ }
@@ -39,4 +39,16 @@ pub fn put_block(words: &mut [u64], cells: &mut [u16], s: Shape, p: usize, j: us
     set_block_cell(cells, s, 1, p, j, x.num_peers);
     set_block_cell(cells, s, 2, p, j, has);
     set_peer_word(words, s, p, j, x.peer);
+}
+
+// A block that nobody asked for, in a state: no peer, so that the word of the peer is left.
+pub fn fresh_block(cells: &mut [u16], s: Shape, p: usize, j: usize, state: u16)
+    requires { ⌜ CellsSpan s (now cells) ⌝ }
+    requires { ⌜ (p < s .places) × (j < s .blocks) ⌝ }
+    requires { ⌜ state ≤ 3 ⌝ }
+    ensures { λ _. ⌜ BlockFresh s (now (cells .entry)) (now (cells .exit)) p j state ⌝ }
+{
+    set_block_cell(cells, s, 0, p, j, state);
+    set_block_cell(cells, s, 1, p, j, 0);
+    set_block_cell(cells, s, 2, p, j, 0);
 }

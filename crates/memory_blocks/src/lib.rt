@@ -4,6 +4,7 @@
 mod blocks;
 mod info;
 
+pub use blocks::fresh_block;
 pub use blocks::get_block;
 pub use blocks::put_block;
 pub use info::BlockInfo;

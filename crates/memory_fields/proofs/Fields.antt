@@ -10,11 +10,12 @@ use Rattle.memory_layout.specs.Offsets.{pieceWordAt, pieceCellAt}
 use Rattle.memory_layout.specs.Decode.{pieceWord, pieceCell, queueFrom, yes?}
 use Rattle.memory_layout.specs.Changes.{withCell, withPadBytes}
 use Rattle.memory_layout.specs.Bounds.{WordsSpan, CellsSpan}
-use Rattle.memory_layout.specs.Stores.{WordsBecame, CellsBecame, ListKept}
+use Rattle.memory_layout.specs.Stores.{CellsBecame}
 use Rattle.memory_layout.proofs.Meanings.{peer-count-is, state-is, priority-is, flushed-is, pad-bytes-is}
 use Rattle.memory_layout.proofs.stores.PieceStores.{piece-cell-stored, pad-bytes-stored}
 use Rattle.memory_layout.proofs.stores.ListFrames.{pad-list-kept}
 use Rattle.memory_fields.specs.Reading.{CellsSay, WordsSay}
+use Rattle.memory_fields.specs.Storing.{WordsStored}
 
 -- ---- reading
 module _ (s : Shape) (cells : List ℕ) (i : ℕ) (h : i < s .pieces) where
@@ -53,5 +54,6 @@ field-stored s cells cells′ r f i v hf hi state flag e = rw e (piece-cell-stor
 -- the pad bytes
 pub pad-bytes-set : (s : Shape) (words words′ : List ℕ) → WordsSpan s words → (i v : ℕ) → i < s .pieces
     → words′ ≡ set words (pieceWordAt (s .pieces) 0 i) v
-    → (WordsBecame s (withPiece i (withPadBytes v)) words words′) × (ListKept s words words′)
-pad-bytes-set s words words′ r i v h e = rw e (pad-bytes-stored s words r i v h, pad-list-kept s words v i h)
+    → WordsStored s (withPiece i (withPadBytes v)) words words′
+pad-bytes-set s words words′ r i v h e =
+    rw e (record { became = pad-bytes-stored s words r i v h; list = pad-list-kept s words v i h })

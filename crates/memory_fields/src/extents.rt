@@ -12,8 +12,8 @@ ghost use Rattle.model.specs.Lists.{nth, len, removeNth};
 ghost use Rattle.model.specs.State.{maxExtents, withRecentExtents};
 ghost use Rattle.memory_layout.specs.Decode.{headWord};
 ghost use Rattle.memory_layout.specs.Bounds.{WordsSpan};
-ghost use Rattle.memory_layout.specs.Stores.{WordsBecame, ListKept};
 ghost use Rattle.memory_fields.specs.Reading.{HeadSays};
+ghost use Rattle.memory_fields.specs.Storing.{WordsStored};
 
 pub fn num_recent_extents(words: &[u64]) -> usize
     requires { ⌜ 16 ≤ length (now words) ⌝ }
@@ -34,7 +34,7 @@ pub fn recent_extent(words: &[u64], k: usize) -> u64
 pub fn push_recent_extent(words: &mut [u64], s: Shape, v: u64)
     requires { ⌜ WordsSpan s (now words) ⌝ }
     requires { ⌜ headWord (now words) 8 < maxExtents ⌝ }
-    ensures { λ _. ⌜ (WordsBecame s (λ d. withRecentExtents (d .recentExtents ++ (v ∷ [])) d) (now (words .entry)) (now (words .exit))) × (ListKept s (now (words .entry)) (now (words .exit))) ⌝ }
+    ensures { λ _. ⌜ WordsStored s (λ d. withRecentExtents (d .recentExtents ++ (v ∷ [])) d) (now (words .entry)) (now (words .exit)) ⌝ }
 {
     let n = u64_to_usize(head_word(words, 8));
     set_head_word(words, 9 + n, v);
@@ -46,7 +46,7 @@ pub fn push_recent_extent(words: &mut [u64], s: Shape, v: u64)
 pub fn remove_recent_extent(words: &mut [u64], s: Shape, p: usize)
     requires { ⌜ WordsSpan s (now words) ⌝ }
     requires { ⌜ (p < headWord (now words) 8) × (headWord (now words) 8 ≤ maxExtents) ⌝ }
-    ensures { λ _. ⌜ (WordsBecame s (λ d. withRecentExtents (removeNth p (d .recentExtents)) d) (now (words .entry)) (now (words .exit))) × (ListKept s (now (words .entry)) (now (words .exit))) ⌝ }
+    ensures { λ _. ⌜ WordsStored s (λ d. withRecentExtents (removeNth p (d .recentExtents)) d) (now (words .entry)) (now (words .exit)) ⌝ }
 {
     let n = u64_to_usize(head_word(words, 8));
     let mut j = p;

@@ -4,21 +4,21 @@ use memory_layout::head_word;
 use memory_layout::set_head_word;
 use types::u64_to_usize;
 ghost use mathlib.Core.Path.{_≡_};
-ghost use Prim.Native.Nat.{ℕ, _≤_};
+ghost use Prim.Native.Nat.{_≤_};
 ghost use lib.ListN.{length};
 ghost use Rattle.model.specs.Lists.{len};
-ghost use Rattle.model.specs.State.{isDirty, listOf, withSeeds, withCursors, markDirty};
+ghost use Rattle.model.specs.State.{isDirty, listOf, withSeeds, withCursors};
 ghost use Rattle.memory_layout.specs.Decode.{headWord};
 ghost use Rattle.memory_layout.specs.Changes.{withHead};
-ghost use Rattle.memory_layout.specs.Bounds.{WordsSpan, RanksHeld};
-ghost use Rattle.memory_layout.specs.Stores.{WordsBecame, ListKept};
+ghost use Rattle.memory_layout.specs.Bounds.{WordsSpan};
 ghost use Rattle.memory_fields.specs.Reading.{HeadSays, WordsSay};
+ghost use Rattle.memory_fields.specs.Storing.{WordsStored, DirtyMarked};
 
 // Word k of the head stored: 2 seeds, 3 cursor, 4 reverse cursor.
 fn set_word(words: &mut [u64], s: Shape, k: usize, v: u64)
     requires { ⌜ WordsSpan s (now words) ⌝ }
     requires { ⌜ (2 ≤ k) × (k ≤ 4) ⌝ }
-    ensures { λ _. ⌜ (WordsBecame s (withHead k v) (now (words .entry)) (now (words .exit))) × (ListKept s (now (words .entry)) (now (words .exit))) ⌝ }
+    ensures { λ _. ⌜ WordsStored s (withHead k v) (now (words .entry)) (now (words .exit)) ⌝ }
 {
     set_head_word(words, k, v);
 }
@@ -32,7 +32,7 @@ pub fn seeds(words: &[u64]) -> u64
 
 pub fn set_seeds(words: &mut [u64], s: Shape, v: u64)
     requires { ⌜ WordsSpan s (now words) ⌝ }
-    ensures { λ _. ⌜ (WordsBecame s (withSeeds v) (now (words .entry)) (now (words .exit))) × (ListKept s (now (words .entry)) (now (words .exit))) ⌝ }
+    ensures { λ _. ⌜ WordsStored s (withSeeds v) (now (words .entry)) (now (words .exit)) ⌝ }
 {
     set_word(words, s, 2, v);
 }
@@ -46,7 +46,7 @@ pub fn cursor(words: &[u64]) -> u64
 
 pub fn set_cursor(words: &mut [u64], s: Shape, v: u64)
     requires { ⌜ WordsSpan s (now words) ⌝ }
-    ensures { λ _. ⌜ (WordsBecame s (λ d. withCursors v (d .reverseCursor) d) (now (words .entry)) (now (words .exit))) × (ListKept s (now (words .entry)) (now (words .exit))) ⌝ }
+    ensures { λ _. ⌜ WordsStored s (λ d. withCursors v (d .reverseCursor) d) (now (words .entry)) (now (words .exit)) ⌝ }
 {
     set_word(words, s, 3, v);
 }
@@ -60,7 +60,7 @@ pub fn reverse_cursor(words: &[u64]) -> u64
 
 pub fn set_reverse_cursor(words: &mut [u64], s: Shape, v: u64)
     requires { ⌜ WordsSpan s (now words) ⌝ }
-    ensures { λ _. ⌜ (WordsBecame s (λ d. withCursors (d .cursor) v d) (now (words .entry)) (now (words .exit))) × (ListKept s (now (words .entry)) (now (words .exit))) ⌝ }
+    ensures { λ _. ⌜ WordsStored s (λ d. withCursors (d .cursor) v d) (now (words .entry)) (now (words .exit)) ⌝ }
 {
     set_word(words, s, 4, v);
 }
@@ -84,7 +84,7 @@ pub fn list_length(words: &[u64], s: Shape) -> usize
 // The list has to be rebuilt from here on: no place, then the flag. No rank is left to be held.
 pub fn mark_dirty(words: &mut [u64], s: Shape)
     requires { ⌜ WordsSpan s (now words) ⌝ }
-    ensures { λ _. ⌜ (WordsBecame s markDirty (now (words .entry)) (now (words .exit))) × ((rank : ℕ → ℕ) → RanksHeld (s .pieces) (now (words .exit)) rank) ⌝ }
+    ensures { λ _. ⌜ DirtyMarked s (now (words .entry)) (now (words .exit)) ⌝ }
 {
     set_head_word(words, 6, 0);
     set_head_word(words, 5, 1);

@@ -11,8 +11,9 @@ ghost use Rattle.model.specs.State.{pieceAt, withPiece, withPeerCount, withStat
 ghost use Rattle.memory_layout.specs.Decode.{queueFrom};
 ghost use Rattle.memory_layout.specs.Changes.{withCell, withPadBytes};
 ghost use Rattle.memory_layout.specs.Bounds.{WordsSpan, CellsSpan};
-ghost use Rattle.memory_layout.specs.Stores.{WordsBecame, CellsBecame, ListKept};
+ghost use Rattle.memory_layout.specs.Stores.{CellsBecame};
 ghost use Rattle.memory_fields.specs.Reading.{CellsSay, WordsSay};
+ghost use Rattle.memory_fields.specs.Storing.{WordsStored};
 
 // Column f of piece i stored: 0 peer count, 1 state, 2 priority, 3 flushed.
 fn set_field(cells: &mut [u16], s: Shape, f: usize, i: usize, v: u16)
@@ -109,7 +110,7 @@ pub fn pad_bytes(words: &[u64], s: Shape, i: usize) -> u64
 pub fn set_pad_bytes(words: &mut [u64], s: Shape, i: usize, v: u64)
     requires { ⌜ WordsSpan s (now words) ⌝ }
     requires { ⌜ i < s .pieces ⌝ }
-    ensures { λ _. ⌜ (WordsBecame s (withPiece i (withPadBytes v)) (now (words .entry)) (now (words .exit))) × (ListKept s (now (words .entry)) (now (words .exit))) ⌝ }
+    ensures { λ _. ⌜ WordsStored s (withPiece i (withPadBytes v)) (now (words .entry)) (now (words .exit)) ⌝ }
 {
     set_piece_word(words, s, 0, i, v);
 }

@@ -23,10 +23,14 @@ peer-word-requires c κs = search needs
 
 returns : tie.Need-returns
 unfolding yes?
-returns c = 
-    let a = c .before .before .before .before .before .before .before .args in
-    block-read (a .s) (a .words .now) (a .cells .now) (a .p) (a .j) _ (c .before .before .before .before .block-cell .result) (c .before .block-cell3 .result)
-    (c .before .before .before .state-number .ensures) (c .before .before .before .before .block-cell .ensures) (c .before .before .block-cell2 .ensures) refl (c .before .block-cell3 .ensures)
+returns c =
+    let c2 = c .before .before in
+    let c3 = c2 .before in
+    let c4 = c3 .before in
+    let c7 = c4 .before .before .before in
+    let a = c7 .args in
+    block-read (a .s) (a .words .now) (a .cells .now) (a .p) (a .j) _ (c4 .block-cell .result) (c .before .block-cell3 .result)
+    (c3 .state-number .ensures) (c4 .block-cell .ensures) (c2 .block-cell2 .ensures) refl (c .before .block-cell3 .ensures)
     (c .peer-word .ensures)
 
 pub get-block-spec : {M : Type 1} → statement M

@@ -26,13 +26,19 @@ same-length-2 : tie.Need-same-length-2
 same-length-2 c = search needs
 
 returns : tie.Need-returns
-returns c = 
-    let a = c .before .before .before .before .before .before .before .before .before .before .before .before .before .before .before .before .before .before .before .args in
-    let q = c .before .before .before .before .before .before .before .before .before .before .before .before .before .before .before .before .before .before .before .pre in
-    block-set (a .s) (a .words .now) (a .cells .now) (q .0) (a .p) (a .j) (a .x) (c .before .before .before .before .before .before .before .before .before .before .before .before .before .before .before .before .bit-of .result)
-    (c .before .before .before .before .before .before .before .before .before .before .before .before .before .before .set-block-cell .last .0) (c .before .before .before .before .before .before .before .before .before .before .set-block-cell2 .last .0) _ _ (q .1 .0 .0) (q .1 .0 .1) (q .1 .1)
-    (c .before .before .before .before .before .before .before .before .before .before .before .before .before .before .before .before .bit-of .ensures) (c .before .before .before .before .before .before .before .before .before .before .before .before .before .before .set-block-cell .ensures) (c .before .before .before .before .before .before .before .before .before .before .set-block-cell2 .ensures)
-    (c .before .before .before .before .before .before .set-block-cell3 .ensures) (c .before .before .set-peer-word .ensures)
+returns c =
+    let c2 = c .before .before in
+    let c6 = c2 .before .before .before .before in
+    let c10 = c6 .before .before .before .before in
+    let c14 = c10 .before .before .before .before in
+    let c16 = c14 .before .before in
+    let c19 = c16 .before .before .before in
+    let a = c19 .args in
+    let q = c19 .pre in
+    block-set (a .s) (a .words .now) (a .cells .now) (q .0) (a .p) (a .j) (a .x) (c16 .bit-of .result)
+    (c14 .set-block-cell .last .0) (c10 .set-block-cell2 .last .0) _ _ (q .1 .0 .0) (q .1 .0 .1) (q .1 .1)
+    (c16 .bit-of .ensures) (c14 .set-block-cell .ensures) (c10 .set-block-cell2 .ensures)
+    (c6 .set-block-cell3 .ensures) (c2 .set-peer-word .ensures)
 
 pub put-block-spec : {M : Type 1} → statement M
 put-block-spec = tie.close (tie.spec bit-of-requires set-block-cell-requires set-block-cell-requires-2 set-block-cell-requires-3 set-peer-word-requires same-length same-length-2 returns)

@@ -11,7 +11,9 @@ head-word-requires : tie.Need-head-word-requires
 head-word-requires c κs = search needs
 
 returns : tie.Need-returns
-returns c = extent-read (c .before .before .args .words .now) (c .before .before .args .k) (c .before .before .pre .1 .0) (c .head-word .result) (c .head-word .ensures)
+returns c =
+    let c2 = c .before .before in
+    extent-read (c2 .args .words .now) (c2 .args .k) (c2 .pre .1 .0) (c .head-word .result) (c .head-word .ensures)
 
 pub recent-extent-spec : {M : Type 1} → statement M
 recent-extent-spec = tie.close (tie.spec add-head-word head-word-requires returns)

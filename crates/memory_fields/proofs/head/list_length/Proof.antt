@@ -15,7 +15,8 @@ u64-to-usize-requires c κs = search needs
 
 returns : tie.Need-returns
 returns c =
-    let a = c .before .before .before .args in
+    let c3 = c .before .before .before in
+    let a = c3 .args in
     list-length-read (a .s) (a .words .now) (c .u64-to-usize .result) (c .u64-to-usize .ensures ∙ c .before .head-word .ensures)
 
 pub list-length-spec : {M : Type 1} → statement M

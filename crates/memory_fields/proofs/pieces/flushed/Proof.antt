@@ -11,8 +11,9 @@ piece-cell-requires c κs = search needs
 returns : tie.Need-returns
 unfolding yes?
 returns c =
-    let a = c .before .before .args in
-    flushed-read (a .s) (a .cells .now) (a .i) (c .before .before .pre .1) (c .piece-cell .result) (c .piece-cell .ensures)
+    let c2 = c .before .before in
+    let a = c2 .args in
+    flushed-read (a .s) (a .cells .now) (a .i) (c2 .pre .1) (c .piece-cell .result) (c .piece-cell .ensures)
 
 pub flushed-spec : {M : Type 1} → statement M
 flushed-spec = tie.close (tie.spec piece-cell-requires returns)

@@ -9,8 +9,9 @@ piece-word-requires c κs = search needs
 
 returns : tie.Need-returns
 returns c =
-    let a = c .before .before .args in
-    pad-bytes-read (a .s) (a .words .now) (a .i) (c .before .before .pre .1) (c .piece-word .result) (c .piece-word .ensures)
+    let c2 = c .before .before in
+    let a = c2 .args in
+    pad-bytes-read (a .s) (a .words .now) (a .i) (c2 .pre .1) (c .piece-word .result) (c .piece-word .ensures)
 
 pub pad-bytes-spec : {M : Type 1} → statement M
 pad-bytes-spec = tie.close (tie.spec piece-word-requires returns)

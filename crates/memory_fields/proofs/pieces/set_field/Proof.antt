@@ -12,9 +12,11 @@ same-length c = search needs
 
 returns : tie.Need-returns
 returns c =
-    let a = c .before .before .before .before .before .args in
-    let p = c .before .before .before .before .before .pre in
-    field-stored (a .s) (a .cells .now) _ (p .0) (a .f) (a .i) (a .v) (p .1 .0 .0) (p .1 .0 .1) (p .1 .1 .0) (p .1 .1 .1) (c .before .before .set-piece-cell .ensures)
+    let c2 = c .before .before in
+    let c5 = c2 .before .before .before in
+    let a = c5 .args in
+    let p = c5 .pre in
+    field-stored (a .s) (a .cells .now) _ (p .0) (a .f) (a .i) (a .v) (p .1 .0 .0) (p .1 .0 .1) (p .1 .1 .0) (p .1 .1 .1) (c2 .set-piece-cell .ensures)
 
 pub set-field-spec : {M : Type 1} → statement M
 set-field-spec = tie.close (tie.spec set-piece-cell-requires same-length returns)

@@ -12,9 +12,11 @@ same-length c = search needs
 
 returns : tie.Need-returns
 returns c =
-    let a = c .before .before .before .before .before .args in
-    let p = c .before .before .before .before .before .pre in
-    pad-bytes-set (a .s) (a .words .now) _ (p .0) (a .i) (a .v) (p .1) (c .before .before .set-piece-word .ensures)
+    let c2 = c .before .before in
+    let c5 = c2 .before .before .before in
+    let a = c5 .args in
+    let p = c5 .pre in
+    pad-bytes-set (a .s) (a .words .now) _ (p .0) (a .i) (a .v) (p .1) (c2 .set-piece-word .ensures)
 
 pub set-pad-bytes-spec : {M : Type 1} → statement M
 set-pad-bytes-spec = tie.close (tie.spec set-piece-word-requires same-length returns)

@@ -12,8 +12,9 @@ state-number-requires c κs = search needs
 
 returns : tie.Need-returns
 returns c =
-    let a = c .before .before .before .args in
-    state-read (a .s) (a .cells .now) (a .i) (c .before .before .before .pre .1) (c .state-number .result) (c .before .piece-cell .result) (c .state-number .ensures)
+    let c3 = c .before .before .before in
+    let a = c3 .args in
+    state-read (a .s) (a .cells .now) (a .i) (c3 .pre .1) (c .state-number .result) (c .before .piece-cell .result) (c .state-number .ensures)
     (c .before .piece-cell .ensures)
 
 pub state-spec : {M : Type 1} → statement M
