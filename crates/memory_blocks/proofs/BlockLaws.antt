@@ -105,7 +105,8 @@ block-set s words cells r p j x w a b cells′ words′ hp hj h ew ea eb ec ed =
     (block-put s words cells (r .inWords) (r .inCells) p j (x .state) (x .«num_peers») (bit (x .«has_peer»)) (x .peer) hp hj))
 
 -- ---- a fresh block
-module _ (s : Shape) (cells : List ℕ) (r : CellsSpan s cells) (p j state : ℕ) (hp : p < s .places) (hj : j < s .blocks) (h : state ≤ 3) where
+module _ (s : Shape) (cells : List ℕ) (r : CellsSpan s cells) (p j state : ℕ) (hp : p < s .places) (hj : j < s .blocks)
+    (h : state ≤ 3) where
   -- the cells after the three stores
   abbrev afterFresh : List ℕ
   afterFresh =
@@ -126,7 +127,8 @@ module _ (s : Shape) (cells : List ℕ) (r : CellsSpan s cells) (p j state : ℕ
     held = λ words. put-is s words cells words afterFresh p j state 0 0 (peerWord words (s .pieces) (s .blocks) p j) (put words);
     plain = record { state = rw (put cells .stateIs) h; has = rw (put cells .hasIs) (omega arith) };
     elsewhere = λ records words q none.
-        block-elsewhere s words cells words afterFresh p j state 0 0 (peerWord words (s .pieces) (s .blocks) p j) (put words) records q none;
+        block-elsewhere s words cells words afterFresh p j state 0 0 (peerWord words (s .pieces) (s .blocks) p j) (put words) records q
+        none;
   }
 
   -- the three stores

@@ -34,4 +34,12 @@ returns c =
     (c .peer-word .ensures)
 
 pub get-block-spec : {M : Type 1} → statement M
-get-block-spec = tie.close (tie.spec block-cell-requires state-number-requires block-cell-requires-2 block-cell-requires-3 peer-word-requires returns)
+get-block-spec =
+    tie.close
+    (tie.spec
+    block-cell-requires
+    state-number-requires
+    block-cell-requires-2
+    block-cell-requires-3
+    peer-word-requires
+    returns)

@@ -41,4 +41,14 @@ returns c =
     (c6 .set-block-cell3 .ensures) (c2 .set-peer-word .ensures)
 
 pub put-block-spec : {M : Type 1} → statement M
-put-block-spec = tie.close (tie.spec bit-of-requires set-block-cell-requires set-block-cell-requires-2 set-block-cell-requires-3 set-peer-word-requires same-length same-length-2 returns)
+put-block-spec =
+    tie.close
+    (tie.spec
+    bit-of-requires
+    set-block-cell-requires
+    set-block-cell-requires-2
+    set-block-cell-requires-3
+    set-peer-word-requires
+    same-length
+    same-length-2
+    returns)

@@ -24,8 +24,10 @@ add-set-head-word c =
 set-head-word-requires : tie.Need-set-head-word-requires
 set-head-word-requires c κs =
     let c2 = c .before .before in
-    let c5 = c2 .before .before .before in
-    (head-in (c5 .args .s) (c5 .args .words .now) (c5 .pre .0), omega (arith, c .before .u64-to-usize .ensures, c2 .head-word .ensures, c5 .pre .1))
+    let c5 = c2 .before .before .before in (
+      head-in (c5 .args .s) (c5 .args .words .now) (c5 .pre .0),
+      omega (arith, c .before .u64-to-usize .ensures, c2 .head-word .ensures, c5 .pre .1),
+    )
 
 add-usize-to-u64 : tie.Need-add-usize-to-u64
 add-usize-to-u64 c =
@@ -60,4 +62,15 @@ returns c =
     (c4 .usize-to-u64 .ensures) (c2 .set-head-word2 .ensures)
 
 pub push-recent-extent-spec : {M : Type 1} → statement M
-push-recent-extent-spec = tie.close (tie.spec head-word-requires u64-to-usize-requires add-set-head-word set-head-word-requires add-usize-to-u64 usize-to-u64-requires set-head-word-requires-2 same-length returns)
+push-recent-extent-spec =
+    tie.close
+    (tie.spec
+    head-word-requires
+    u64-to-usize-requires
+    add-set-head-word
+    set-head-word-requires
+    add-usize-to-u64
+    usize-to-u64-requires
+    set-head-word-requires-2
+    same-length
+    returns)

@@ -17,7 +17,8 @@ abbrev μ-loop : tie.MeasureT-loop
 μ-loop words₀ p n j₀ words j = n - j
 
 head-word-requires : tie.Need-head-word-requires Inv-loop μ-loop
-head-word-requires c κs = (head-in (c .before .before .args .s) (c .before .before .args .words .now) (c .before .before .pre .0), omega arith)
+head-word-requires c κs =
+    (head-in (c .before .before .args .s) (c .before .before .args .words .now) (c .before .before .pre .0), omega arith)
 
 u64-to-usize-requires : tie.Need-u64-to-usize-requires Inv-loop μ-loop
 u64-to-usize-requires c κs = search needs
@@ -69,7 +70,8 @@ set-head-word-requires-2 c κs = omega arith
 same-length : tie.Need-same-length Inv-loop μ-loop
 same-length c =
     let o = c .before .before .before .before .before .before .loop in
-    ap length (c .before .before .set-head-word2 .ensures) ∙ length-set (o .words) 8 (c .before .before .before .before .usize-to-u64 .result)
+    ap length (c .before .before .set-head-word2 .ensures)
+    ∙ length-set (o .words) 8 (c .before .before .before .before .usize-to-u64 .result)
     ∙ o .inv .behind (c .before .before .before .before .before .before .before .before .before .before .before .args .s) .long
 
 returns : tie.Need-returns Inv-loop μ-loop
@@ -77,8 +79,8 @@ returns c =
     let a = c .before .before .before .before .before .before .before .before .before .before .before .args in
     let p = c .before .before .before .before .before .before .before .before .before .before .before .pre in
     let o = c .before .before .before .before .before .before .loop in
-    extent-gone (a .s) (a .words .now) (p .0) (a .p) (c .before .before .before .before .before .before .before .u64-to-usize .result) (o .j)
-    (o .words) _ (o .inv)
+    extent-gone (a .s) (a .words .now) (p .0) (a .p) (c .before .before .before .before .before .before .before .u64-to-usize .result)
+    (o .j) (o .words) _ (o .inv)
     (c .before .before .before .before .before .before .before .u64-to-usize .ensures
     ∙ c .before .before .before .before .before .before .before .before .head-word .ensures)
     (omega arith) (c .before .before .before .before .usize-to-u64 .result) (c .before .before .before .before .usize-to-u64 .ensures)

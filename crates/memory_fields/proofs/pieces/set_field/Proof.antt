@@ -16,7 +16,8 @@ returns c =
     let c5 = c2 .before .before .before in
     let a = c5 .args in
     let p = c5 .pre in
-    field-stored (a .s) (a .cells .now) _ (p .0) (a .f) (a .i) (a .v) (p .1 .0 .0) (p .1 .0 .1) (p .1 .1 .0) (p .1 .1 .1) (c2 .set-piece-cell .ensures)
+    field-stored (a .s) (a .cells .now) _ (p .0) (a .f) (a .i) (a .v) (p .1 .0 .0) (p .1 .0 .1)
+    (p .1 .1 .0) (p .1 .1 .1) (c2 .set-piece-cell .ensures)
 
 pub set-field-spec : {M : Type 1} → statement M
 set-field-spec = tie.close (tie.spec set-piece-cell-requires same-length returns)

@@ -14,8 +14,8 @@ returns : tie.Need-returns
 returns c =
     let c3 = c .before .before .before in
     let a = c3 .args in
-    state-read (a .s) (a .cells .now) (a .i) (c3 .pre .1) (c .state-number .result) (c .before .piece-cell .result) (c .state-number .ensures)
-    (c .before .piece-cell .ensures)
+    state-read (a .s) (a .cells .now) (a .i) (c3 .pre .1) (c .state-number .result) (c .before .piece-cell .result)
+    (c .state-number .ensures) (c .before .piece-cell .ensures)
 
 pub state-spec : {M : Type 1} → statement M
 state-spec = tie.close (tie.spec piece-cell-requires state-number-requires returns)
