@@ -7,7 +7,6 @@ use types::usize_to_u64;
 ghost use mathlib.Core.Path.{_≡_};
 ghost use mathlib.Core.List.{_++_, _∷_, []};
 ghost use Prim.Native.Nat.{_≤_, _<_};
-ghost use lib.ListN.{length};
 ghost use Rattle.model.specs.Lists.{nth, len, removeNth};
 ghost use Rattle.model.specs.State.{maxExtents, withRecentExtents};
 ghost use Rattle.memory_layout.specs.Decode.{headWord};
@@ -15,15 +14,15 @@ ghost use Rattle.memory_layout.specs.Bounds.{WordsSpan};
 ghost use Rattle.memory_fields.specs.Reading.{HeadSays};
 ghost use Rattle.memory_fields.specs.Storing.{WordsStored};
 
-pub fn num_recent_extents(words: &[u64]) -> usize
-    requires { ⌜ 16 ≤ length (now words) ⌝ }
+pub fn num_recent_extents(words: &[u64], s: Shape) -> usize
+    requires { ⌜ WordsSpan s (now words) ⌝ }
     ensures { λ r. ⌜ (r ≡ headWord (now (words .entry)) 8) × (HeadSays (now (words .entry)) (λ d. len (d .recentExtents)) r) ⌝ }
 {
     u64_to_usize(head_word(words, 8))
 }
 
-pub fn recent_extent(words: &[u64], k: usize) -> u64
-    requires { ⌜ 16 ≤ length (now words) ⌝ }
+pub fn recent_extent(words: &[u64], s: Shape, k: usize) -> u64
+    requires { ⌜ WordsSpan s (now words) ⌝ }
     requires { ⌜ (k < headWord (now words) 8) × (headWord (now words) 8 ≤ maxExtents) ⌝ }
     ensures { λ r. ⌜ HeadSays (now (words .entry)) (λ d. nth 0 (d .recentExtents) k) r ⌝ }
 {

@@ -5,7 +5,6 @@ use memory_layout::set_head_word;
 use types::u64_to_usize;
 ghost use mathlib.Core.Path.{_≡_};
 ghost use Prim.Native.Nat.{_≤_};
-ghost use lib.ListN.{length};
 ghost use Rattle.model.specs.Lists.{len};
 ghost use Rattle.model.specs.State.{isDirty, listOf, withSeeds, withCursors};
 ghost use Rattle.memory_layout.specs.Decode.{headWord};
@@ -23,8 +22,8 @@ fn set_word(words: &mut [u64], s: Shape, k: usize, v: u64)
     set_head_word(words, k, v);
 }
 
-pub fn seeds(words: &[u64]) -> u64
-    requires { ⌜ 16 ≤ length (now words) ⌝ }
+pub fn seeds(words: &[u64], s: Shape) -> u64
+    requires { ⌜ WordsSpan s (now words) ⌝ }
     ensures { λ r. ⌜ HeadSays (now (words .entry)) (λ d. d .seeds) r ⌝ }
 {
     head_word(words, 2)
@@ -37,8 +36,8 @@ pub fn set_seeds(words: &mut [u64], s: Shape, v: u64)
     set_word(words, s, 2, v);
 }
 
-pub fn cursor(words: &[u64]) -> u64
-    requires { ⌜ 16 ≤ length (now words) ⌝ }
+pub fn cursor(words: &[u64], s: Shape) -> u64
+    requires { ⌜ WordsSpan s (now words) ⌝ }
     ensures { λ r. ⌜ HeadSays (now (words .entry)) (λ d. d .cursor) r ⌝ }
 {
     head_word(words, 3)
@@ -51,8 +50,8 @@ pub fn set_cursor(words: &mut [u64], s: Shape, v: u64)
     set_word(words, s, 3, v);
 }
 
-pub fn reverse_cursor(words: &[u64]) -> u64
-    requires { ⌜ 16 ≤ length (now words) ⌝ }
+pub fn reverse_cursor(words: &[u64], s: Shape) -> u64
+    requires { ⌜ WordsSpan s (now words) ⌝ }
     ensures { λ r. ⌜ HeadSays (now (words .entry)) (λ d. d .reverseCursor) r ⌝ }
 {
     head_word(words, 4)
@@ -66,8 +65,8 @@ pub fn set_reverse_cursor(words: &mut [u64], s: Shape, v: u64)
 }
 
 // The list has to be rebuilt.
-pub fn is_dirty(words: &[u64]) -> bool
-    requires { ⌜ 16 ≤ length (now words) ⌝ }
+pub fn is_dirty(words: &[u64], s: Shape) -> bool
+    requires { ⌜ WordsSpan s (now words) ⌝ }
     ensures { λ r. ⌜ HeadSays (now (words .entry)) (λ d. isDirty (d .listing)) r ⌝ }
 {
     head_word(words, 5) == 1
@@ -90,8 +89,8 @@ pub fn mark_dirty(words: &mut [u64], s: Shape)
     set_head_word(words, 5, 1);
 }
 
-pub fn num_partials(words: &[u64]) -> usize
-    requires { ⌜ 16 ≤ length (now words) ⌝ }
+pub fn num_partials(words: &[u64], s: Shape) -> usize
+    requires { ⌜ WordsSpan s (now words) ⌝ }
     ensures { λ r. ⌜ (r ≡ headWord (now (words .entry)) 7) × (HeadSays (now (words .entry)) (λ d. len (d .partials)) r) ⌝ }
 {
     u64_to_usize(head_word(words, 7))

@@ -1,4 +1,6 @@
 -- `recent_extent` meets its contract. Assumes nothing.
+use native.Mathlib.Omega.{arith}
+use Rattle.memory_layout.proofs.OffsetLaws.{head-in}
 use Rattle.memory_fields.proofs.ExtentLaws.{extent-read}
 use borrow.Author.Needs.{needs}
 use Rattle.memory_fields.proofs.extents.recent_extent.Statement.{statement}
@@ -8,7 +10,7 @@ add-head-word : tie.Need-add-head-word
 add-head-word c = search needs
 
 head-word-requires : tie.Need-head-word-requires
-head-word-requires c κs = search needs
+head-word-requires c κs = (head-in (c .before .args .s) (c .before .args .words .now) (c .before .pre .0), omega arith)
 
 returns : tie.Need-returns
 returns c =

@@ -1,12 +1,13 @@
 -- `is_dirty` meets its contract. Assumes nothing.
+use native.Mathlib.Omega.{arith}
 use Rattle.memory_layout.specs.Decode.{yes?}
+use Rattle.memory_layout.proofs.OffsetLaws.{head-in}
 use Rattle.memory_fields.proofs.HeadLaws.{dirty-read}
-use borrow.Author.Needs.{needs}
 use Rattle.memory_fields.proofs.head.is_dirty.Statement.{statement}
 use Rattle.memory_fields.proofs.head.is_dirty.Tie as tie
 
 head-word-requires : tie.Need-head-word-requires
-head-word-requires c κs = search needs
+head-word-requires c κs = (head-in (c .before .args .s) (c .before .args .words .now) (c .before .pre), omega arith)
 
 returns : tie.Need-returns
 unfolding yes?
