@@ -10,13 +10,12 @@ use Rattle.types.specs.Block.{blockStateNumber}
 use Rattle.model.specs.Lists.{bit}
 use Rattle.model.specs.State.{Block}
 use Rattle.model.specs.change.Partials.{blockAt}
-use Rattle.memory_records.specs.declared.record.DownloadingPiece.{DownloadingPiece as Record}
 use Rattle.memory_layout.specs.declared.shape.Shape.{Shape}
 use Rattle.memory_layout.specs.Tables.{choose}
 use Rattle.memory_layout.specs.Offsets.{peerAt, blockCellAt}
-use Rattle.memory_layout.specs.Decode.{recordAt, peerWord, blockCell, stateFrom, yes?, peerFrom, blockFrom, blockHeld, decode}
+use Rattle.memory_layout.specs.Decode.{peerWord, blockCell, stateFrom, yes?, peerFrom, blockFrom, blockHeld, decode}
 use Rattle.memory_layout.specs.Changes.{partialIn, withPartial, withBlock}
-use Rattle.memory_layout.specs.Bounds.{Spans, InBounds, WordsSpan, CellsSpan}
+use Rattle.memory_layout.specs.Bounds.{Spans, CellsSpan}
 use Rattle.memory_layout.specs.Stores.{Became}
 use Rattle.memory_layout.proofs.Numbers.{number-state}
 use Rattle.memory_layout.proofs.Meanings.{block-is}
@@ -24,7 +23,7 @@ use Rattle.memory_layout.proofs.stores.BlockStores.{BlockPut, block-none, block
 use Rattle.memory_layout.proofs.stores.BlockStores.{block-elsewhere}
 use Rattle.memory_layout.proofs.stores.ListFrames.{block-list-kept}
 use Rattle.memory_blocks.specs.declared.info.BlockInfo.{BlockInfo}
-use Rattle.memory_blocks.specs.Blocks.{blockOf, BlockIs, Live, BlockRead, BlockStored, BlockFresh}
+use Rattle.memory_blocks.specs.Blocks.{blockOf, BlockIs, BlockRead, BlockStored, BlockFresh}
 
 -- ---- reading
 module _ (s : Shape) (words cells : List ℕ) (p j : ℕ) (x : BlockInfo) where

@@ -2,7 +2,6 @@
 use native.Mathlib.Omega.{arith}
 use Rattle.model.specs.State.{withPiece, withPriority}
 use Rattle.memory_layout.specs.Tables.{choose}
-use Rattle.memory_layout.specs.Decode.{yes?}
 use Rattle.memory_layout.specs.Changes.{withCell}
 use borrow.Author.Needs.{needs}
 use Rattle.memory_fields.proofs.pieces.set_priority.Statement.{statement}
