@@ -1,0 +1,4 @@
+pub mod Fields
+pub mod HeadLaws
+pub mod ExtentLaws
+pub mod ByNumber
