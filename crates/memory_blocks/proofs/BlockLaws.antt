@@ -17,9 +17,10 @@ use Rattle.memory_layout.specs.Decode.{peerWord, blockCell, stateFrom, yes?, pe
 use Rattle.memory_layout.specs.Changes.{partialIn, withPartial, withBlock}
 use Rattle.memory_layout.specs.Bounds.{Spans, CellsSpan}
 use Rattle.memory_layout.specs.Stores.{Became}
+use Rattle.memory_layout.specs.Frames.{BlockPut}
 use Rattle.memory_layout.proofs.Numbers.{number-state}
 use Rattle.memory_layout.proofs.Meanings.{block-is}
-use Rattle.memory_layout.proofs.stores.BlockStores.{BlockPut, block-none, block-cell-put, block-put, put-is, block-became}
+use Rattle.memory_layout.proofs.stores.BlockStores.{block-none, block-cell-put, block-put, put-is, block-became}
 use Rattle.memory_layout.proofs.stores.BlockStores.{block-elsewhere}
 use Rattle.memory_layout.proofs.stores.ListFrames.{block-list-kept}
 use Rattle.memory_blocks.specs.declared.info.BlockInfo.{BlockInfo}

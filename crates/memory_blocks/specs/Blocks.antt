@@ -15,7 +15,7 @@ use Rattle.memory_layout.specs.Decode.{headWord, peerWord, recordAt, blocksOf, 
 use Rattle.memory_layout.specs.Changes.{partialIn, withPartial, withBlock}
 use Rattle.memory_layout.specs.Bounds.{InBounds, PlainBlock}
 use Rattle.memory_layout.specs.Stores.{Became, ListKept}
-use Rattle.memory_layout.proofs.stores.BlockStores.{BlockPut}
+use Rattle.memory_layout.specs.Frames.{BlockPut}
 use Rattle.memory_blocks.specs.declared.info.BlockInfo.{BlockInfo}
 
 -- the block of these numbers: without a peer its number means nothing

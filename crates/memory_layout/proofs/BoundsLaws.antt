@@ -15,7 +15,7 @@ use Rattle.memory_layout.specs.Offsets.{placesFor}
 use Rattle.memory_layout.specs.Decode.{headWord, recordAt, piecesOn, blocksOn, blocksOf, yes?, partialsHeld, decode, decodeAt}
 use Rattle.memory_layout.specs.Bounds.{InBounds, PlainPieces, PlainBlock, Plain}
 use Rattle.memory_layout.specs.Stores.{WordsKept, CellsKept, Became, WordsBecame, CellsBecame, BothBecame}
-use Rattle.memory_layout.proofs.Same.{SamePeers, SameBlocks}
+use Rattle.memory_layout.specs.Frames.{SamePeers, SameBlocks}
 use Rattle.memory_layout.proofs.Parts.{blocks-of-same, block-same, partials-same}
 
 -- ---- what they give

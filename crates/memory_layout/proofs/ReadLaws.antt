@@ -17,9 +17,9 @@ use Rattle.memory_layout.specs.Decode.{headWord, pieceWord, peerWord, pi
 use Rattle.memory_layout.specs.Decode.{yes?}
 use Rattle.memory_layout.specs.Decode.{partialHeld, partialsHeld, decode, decodeAt}
 use Rattle.memory_layout.specs.Bounds.{InBounds, Plain, RanksHeld}
+use Rattle.memory_layout.specs.Frames.{SameColumn, SameFields}
 use Rattle.memory_layout.proofs.TableLaws.{tabulate-ext}
 use Rattle.memory_layout.proofs.OffsetLaws.{piece-word-below, peer-below, piece-cell-below, block-cell-below, words-from, cells-from}
-use Rattle.memory_layout.proofs.Same.{SameColumn, SameFields}
 use Rattle.memory_layout.proofs.Parts.{pieces-same, list-same, listing-same, extents-same, blocks-of-same, block-same, partials-same}
 use Rattle.memory_layout.proofs.BoundsLaws.{decode-at, blocks-within, place-room}
 

@@ -1,4 +1,4 @@
--- Regions in which two buffers hold the same numbers, and what one store leaves the same. Assumes nothing.
+-- What one store leaves the same. Assumes nothing.
 use mathlib.Core.Path.{_≡_, sym}
 use mathlib.Core.Logic.{_≢_}
 use mathlib.Core.List.{List}
@@ -10,34 +10,11 @@ use lib.Seq.{getD-set-same, getD-set-other}
 use Rattle.memory_layout.specs.Tables.{choose}
 use Rattle.memory_layout.specs.Offsets.{placesFor, pieceWordAt, peerAt, pieceCellAt, blockCellAt}
 use Rattle.memory_layout.specs.Decode.{headWord, pieceWord, peerWord, pieceCell, blockCell}
+use Rattle.memory_layout.specs.Frames.{SameHead, SameColumn, SamePeers, SameFields, SameBlocks, SameFrom}
 use Rattle.memory_layout.proofs.TableLaws.{choose-same, choose-other}
 use Rattle.memory_layout.proofs.OffsetLaws.{piece-word-from, piece-word-below, piece-word-column, piece-word-piece, peer-from}
 use Rattle.memory_layout.proofs.OffsetLaws.{peer-place, peer-block, piece-cell-below, piece-cell-column, piece-cell-piece}
 use Rattle.memory_layout.proofs.OffsetLaws.{block-cell-from, block-cell-column, block-cell-place, block-cell-block}
-
--- ---- regions
-abbrev pub SameHead : (words words′ : List ℕ) → Type 0
-SameHead words words′ = (k : ℕ) → k < 16 → headWord words′ k ≡ headWord words k
-
--- word column f of n pieces
-abbrev pub SameColumn : (n f : ℕ) (words words′ : List ℕ) → Type 0
-SameColumn n f words words′ = (i : ℕ) → i < n → pieceWord words′ n f i ≡ pieceWord words n f i
-
--- the peers of all places
-abbrev pub SamePeers : (n b : ℕ) (words words′ : List ℕ) → Type 0
-SamePeers n b words words′ = (p j : ℕ) → p < placesFor n → j < b → peerWord words′ n b p j ≡ peerWord words n b p j
-
--- the cells of n pieces
-abbrev pub SameFields : (n : ℕ) (cells cells′ : List ℕ) → Type 0
-SameFields n cells cells′ = (f i : ℕ) → f < 4 → i < n → pieceCell cells′ n f i ≡ pieceCell cells n f i
-
--- the cells of all places
-abbrev pub SameBlocks : (n b : ℕ) (cells cells′ : List ℕ) → Type 0
-SameBlocks n b cells cells′ = (f p j : ℕ) → f < 3 → p < placesFor n → j < b → blockCell cells′ n b f p j ≡ blockCell cells n b f p j
-
--- all from a need on
-abbrev pub SameFrom : (need : ℕ) (xs xs′ : List ℕ) → Type 0
-SameFrom need xs xs′ = (k : ℕ) → need ≤ k → getD xs′ k 0 ≡ getD xs k 0
 
 -- a store below the need leaves what lies beyond
 pub beyond-same : (need : ℕ) (xs : List ℕ) (a v : ℕ) → a < need → SameFrom need xs (set xs a v)

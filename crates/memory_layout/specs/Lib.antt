@@ -4,4 +4,5 @@ pub mod Decode
 pub mod Changes
 pub mod Bounds
 pub mod Stores
+pub mod Frames
 pub mod Good

@@ -19,9 +19,11 @@ use Rattle.memory_layout.specs.Decode.{partialHeld, partialsHeld, decode
 use Rattle.memory_layout.specs.Changes.{partialIn, withPartial, withBlock}
 use Rattle.memory_layout.specs.Bounds.{WordsSpan, CellsSpan, InBounds, PlainBlock, Plain}
 use Rattle.memory_layout.specs.Stores.{WordsKept, CellsKept, Became}
+use Rattle.memory_layout.specs.Frames.{BlockPut}
+use Rattle.memory_layout.specs.Frames.{SameHead, SameColumn, SameFields}
 use Rattle.memory_layout.proofs.TableLaws.{tabulate-len, tabulate-nth, tabulate-ext, tabulate-set, set-past}
 use Rattle.memory_layout.proofs.OffsetLaws.{peer-from, peer-below, peer-in, block-cell-from, block-cell-below, block-cell-in}
-use Rattle.memory_layout.proofs.Same.{SameHead, SameColumn, SameFields, beyond-same, head-same, column-above, fields-above}
+use Rattle.memory_layout.proofs.Same.{beyond-same, head-same, column-above, fields-above}
 use Rattle.memory_layout.proofs.Same.{peer-stored}
 use Rattle.memory_layout.proofs.Same.{peer-others, block-stored, block-others}
 use Rattle.memory_layout.proofs.Parts.{pieces-same, list-same, listing-same, extents-same, blocks-of-same, block-same, partial-same}
@@ -30,22 +32,6 @@ use Rattle.memory_layout.proofs.BoundsLaws.{blocks-within, place-room, 
 use Rattle.memory_layout.proofs.BoundsLaws.{cells-kept-none}
 
 -- ---- the four numbers of one block
--- block j of place p has these numbers, and all else is as it was
-pub record BlockPut (s : Shape) (words cells words′ cells′ : List ℕ) (p j state numPeers has peer : ℕ) : Type 0 where
-  pub wordsKept : WordsKept s words words′
-  pub cellsKept : CellsKept s cells cells′
-  pub head : SameHead words words′
-  pub columns : (f : ℕ) → f < 2 → SameColumn (s .pieces) f words words′
-  pub fields : SameFields (s .pieces) cells cells′
-  pub stateIs : blockCell cells′ (s .pieces) (s .blocks) 0 p j ≡ state
-  pub numPeersIs : blockCell cells′ (s .pieces) (s .blocks) 1 p j ≡ numPeers
-  pub hasIs : blockCell cells′ (s .pieces) (s .blocks) 2 p j ≡ has
-  pub peerIs : peerWord words′ (s .pieces) (s .blocks) p j ≡ peer
-  pub otherCells : (f q i : ℕ) → q < placesFor (s .pieces) → i < s .blocks → (q ≡ p → i ≡ j → ⊥)
-      → blockCell cells′ (s .pieces) (s .blocks) f q i ≡ blockCell cells (s .pieces) (s .blocks) f q i
-  pub otherPeers : (q i : ℕ) → q < placesFor (s .pieces) → i < s .blocks → (q ≡ p → i ≡ j → ⊥) → peerWord words′ (s .pieces) (s .blocks) q i
-      ≡ peerWord words (s .pieces) (s .blocks) q i
-
 -- before any store
 pub block-none : (s : Shape) (words cells : List ℕ) (p j : ℕ)
     → BlockPut s words cells words cells p j (blockCell cells (s .pieces) (s .blocks) 0 p j) (blockCell cells (s .pieces) (s .blocks) 1 p j)

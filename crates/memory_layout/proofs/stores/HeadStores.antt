@@ -14,8 +14,9 @@ use Rattle.memory_layout.specs.Decode.{headWord, piecesHeld, partialsHel
 use Rattle.memory_layout.specs.Changes.{withHead}
 use Rattle.memory_layout.specs.Bounds.{WordsSpan, InBounds}
 use Rattle.memory_layout.specs.Stores.{WordsKept, WordsBecame}
+use Rattle.memory_layout.specs.Frames.{SameColumn, SamePeers, SameFrom}
 use Rattle.memory_layout.proofs.OffsetLaws.{words-from, head-in}
-use Rattle.memory_layout.proofs.Same.{SameColumn, SamePeers, SameFrom, head-other, head-stored, column-below, peers-below}
+use Rattle.memory_layout.proofs.Same.{head-other, head-stored, column-below, peers-below}
 use Rattle.memory_layout.proofs.Same.{beyond-same}
 use Rattle.memory_layout.proofs.Parts.{pieces-same, list-same, listing-same, extents-same}
 use Rattle.memory_layout.proofs.BoundsLaws.{words-became, partials-stay}

@@ -10,11 +10,11 @@ use Rattle.memory_layout.specs.Offsets.{pieceWordAt, peerAt}
 use Rattle.memory_layout.specs.Decode.{headWord}
 use Rattle.memory_layout.specs.Bounds.{RanksHeld}
 use Rattle.memory_layout.specs.Stores.{ListKept}
+use Rattle.memory_layout.specs.Frames.{BlockPut}
 use Rattle.memory_layout.proofs.OffsetLaws.{piece-word-from, peer-from}
 use Rattle.memory_layout.proofs.Same.{head-other, head-same, column-below, column-above, column-other}
 use Rattle.memory_layout.proofs.ReadLaws.{ranks-same}
 use Rattle.memory_layout.proofs.stores.ExtentStores.{Closing}
-use Rattle.memory_layout.proofs.stores.BlockStores.{BlockPut}
 
 -- the ranks stay
 pub ranks-kept : (s : Shape) (words words′ : List ℕ) (g : ℕ → ℕ) → ListKept s words words′ → headWord words 6 ≤ s .pieces

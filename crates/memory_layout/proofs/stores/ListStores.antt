@@ -18,9 +18,10 @@ use Rattle.memory_layout.specs.Decode.{headWord, pieceWord, peerWord, ye
 use Rattle.memory_layout.specs.Decode.{decode}
 use Rattle.memory_layout.specs.Bounds.{WordsSpan, InBounds, RanksHeld}
 use Rattle.memory_layout.specs.Stores.{WordsKept, WordsBecame}
+use Rattle.memory_layout.specs.Frames.{SameHead, SameColumn, SamePeers}
 use Rattle.memory_layout.proofs.TableLaws.{tabulate-each}
 use Rattle.memory_layout.proofs.OffsetLaws.{peer-from, words-from, head-in}
-use Rattle.memory_layout.proofs.Same.{SameHead, SameColumn, SamePeers, head-other}
+use Rattle.memory_layout.proofs.Same.{head-other}
 use Rattle.memory_layout.proofs.Parts.{pieces-same, extents-same}
 use Rattle.memory_layout.proofs.Meanings.{list-is}
 use Rattle.memory_layout.proofs.BoundsLaws.{words-became, partials-stay}

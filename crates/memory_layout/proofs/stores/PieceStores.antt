@@ -16,11 +16,12 @@ use Rattle.memory_layout.specs.Decode.{headWord, pieceWord, pieceCell, q
 use Rattle.memory_layout.specs.Changes.{withCell, withPadBytes}
 use Rattle.memory_layout.specs.Bounds.{WordsSpan, CellsSpan, InBounds}
 use Rattle.memory_layout.specs.Stores.{WordsBecame, CellsBecame}
+use Rattle.memory_layout.specs.Frames.{SameHead, SamePeers, SameBlocks}
 use Rattle.memory_layout.proofs.TableLaws.{tabulate-nth, tabulate-set, choose-same, choose-other, choose-map}
 use Rattle.memory_layout.proofs.OffsetLaws.{piece-word-from, piece-word-below, piece-word-in, words-from, piece-cell-below}
 use Rattle.memory_layout.proofs.OffsetLaws.{piece-cell-in}
 use Rattle.memory_layout.proofs.OffsetLaws.{cells-from}
-use Rattle.memory_layout.proofs.Same.{SameHead, SamePeers, SameBlocks, beyond-same, head-same, peers-below, column-other}
+use Rattle.memory_layout.proofs.Same.{beyond-same, head-same, peers-below, column-other}
 use Rattle.memory_layout.proofs.Same.{column-stored}
 use Rattle.memory_layout.proofs.Same.{column-others, blocks-below, field-stored, field-others}
 use Rattle.memory_layout.proofs.Parts.{piece-same, list-same, listing-same, extents-same}
