@@ -89,8 +89,10 @@ pub record Carries (end : ℕ) (goal l₀ l : List ℕ) (held k near : ℕ) : Ty
   pub long : length l ≡ length l₀
 
 -- the words behind place `from` up to the end of the held word's group are passed
-pub carries-come : (top from end held k near : ℕ) (goal l₀ l : List ℕ) → 0 < near → top ≡ topOf (listedRank held) → end < length l → length l ≡ length l₀
-    → carried from end held l ≡ goal → Rises from end l → NoLower held from end l → Parted top from end l k k → Carries end goal l₀ l held k near
+pub carries-come : (top from end held k near : ℕ) (goal l₀ l : List ℕ) → 0 < near → top ≡ topOf (listedRank held) → end < length l
+    → length l ≡ length l₀
+    → carried from end held l ≡ goal → Rises from end l → NoLower held from end l → Parted top from end l k k
+    → Carries end goal l₀ l held k near
 carries-come top from end held k near goal l₀ l some et le long left rises low s =
     let e : from + (k - from) ≡ k = omega (arith, s .starts) in
     record {

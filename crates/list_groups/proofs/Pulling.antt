@@ -104,9 +104,10 @@ pub record Pulls (last : ℕ) (goal l₀ l : List ℕ) (hole near : ℕ) : Type 
 
 module _ {last : ℕ} {goal l₀ l : List ℕ} {hole near : ℕ} (m : Pulls last goal l₀ l hole near) (h : last < length l₀) where
   -- the next group ends before `end`
-  pub pulls-next : hole < last → (top end : ℕ) → top ≡ topOf (listedRank (getD l (hole + 1) 0)) → Parted top (hole + 2) (last + 1) l end end
-      → Pulls last goal l₀ (set l hole (getD l (end - 1) 0)) (end - 1) (end - 1 - hole)
-  pulls-next lt top end et s =
+  pub pulls-next : hole < last → (top end far : ℕ) → 0 < far → top ≡ topOf (listedRank (getD l (hole + 1) 0))
+      → Parted top (hole + 2) (last + 1) l end end
+      → Pulls last goal l₀ (set l hole (getD l (end - 1) 0)) (end - 1) far
+  pulls-next lt top end far some et s =
       let first = getD l (hole + 1) 0 in
       let a = s .starts in
       let c = s .ends in
@@ -129,7 +130,7 @@ module _ {last : ℕ} {goal l₀ l : List ℕ} {hole near : ℕ} (m : Pulls last
         at = omega arith;
         rest = rises-set hole (getD l (end - 1) 0) (suc (end - 1)) (suc last) l (omega arith)
             (rises-within (suc hole) (suc last) (suc (end - 1)) (suc last) l (omega arith) (omega arith) (m .rest));
-        some = omega arith;
+        some = some;
         long = length-set l hole (getD l (end - 1) 0) ∙ m .long;
       }
     where

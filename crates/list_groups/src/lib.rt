@@ -112,7 +112,7 @@ pub fn place_of(list: &[u64], end: usize, w: u64) -> usize
 }
 
 // `first` goes to the end of its group; from there the next group's first is held, up to place `end`. A group may be about as long as the
-// one before.
+// one before, so the first step is a quarter of that, and the next one goes beyond.
 pub fn carry(list: &mut [u64], from: usize, end: usize, first: u64)
     requires { ⌜ from ≤ end ⌝ }
     requires { ⌜ end < length (now list) ⌝ }
@@ -129,7 +129,7 @@ pub fn carry(list: &mut [u64], from: usize, end: usize, first: u64)
         held = next;
         let start = k + 1;
         k = group_end(list, start, end, near, top_of(held));
-        near = k - start + 1;
+        near = (k - start) / 4 + 1;
     }
     list[end] = held;
 }
@@ -160,7 +160,7 @@ pub fn pull(list: &mut [u64], k: usize, last: usize)
     while hole < last {
         let end = group_end(list, hole + 2, last + 1, near, top_of(list[hole + 1]));
         list[hole] = list[end - 1];
-        near = end - 1 - hole;
+        near = (end - hole) / 4 + 1;
         hole = end - 1;
     }
 }

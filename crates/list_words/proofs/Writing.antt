@@ -70,7 +70,8 @@ module _ {ranks : List ℕ} {n : ℕ} {l₀ l : List ℕ} {k : ℕ} (m : Writes 
 
     -- at k stands the piece that stood there
     pub writes-piece : getD l k 0 ≡ getD l₀ k 0
-    writes-piece = ap (λ (z : List ℕ). getD z k 0) split ∙ getD-at (wordsOf (nth 0 ranks) (take k l₀)) (getD l₀ k 0) (drop (suc k) l₀) 0 k long
+    writes-piece = ap (λ (z : List ℕ). getD z k 0) split ∙ getD-at (wordsOf (nth 0 ranks) (take k l₀)) (getD l₀ k 0)
+        (drop (suc k) l₀) 0 k long
 
     -- one place more
     pub writes-next : (w : ℕ) → w ≡ listWord (getD ranks (getD l k 0) 0) (getD l k 0) → Writes ranks n l₀ (set l k w) (k + 1)

@@ -72,7 +72,9 @@ sub-near : tie.Need-sub-near Inv-loop μ-loop
 sub-near c = c .group-end2 .ensures .starts
 
 add-near : tie.Need-add-near Inv-loop μ-loop
-add-near c = let h = c .group-end2 .ensures .ends in let p = c .before .before .before .before .before .before .before .before .before .before .pre .1 .0 in search needs
+add-near c =
+    let h = c .group-end2 .ensures .ends in
+    let p = c .before .before .before .before .before .before .before .before .before .before .pre .1 .0 in search needs
 
 loop-less : tie.Need-loop-less Inv-loop μ-loop
 loop-less c = omega (arith, c .group-end2 .ensures .starts, c .before .before .before .before .loop-test .taken)
@@ -80,7 +82,8 @@ loop-less c = omega (arith, c .group-end2 .ensures .starts, c .before .before .b
 loop-again : tie.Need-loop-again Inv-loop μ-loop
 loop-again c =
     let p = c .before .before .before .before .before .before .before .before .before .before .pre in
-    carries-next (c .before .before .before .before .before .loop .inv) (p .1 .0) (c .before .before .before .before .loop-test .taken) _ _ _ (omega arith) (c .before .top-of2 .ensures) (c .group-end2 .ensures)
+    carries-next (c .before .before .before .before .before .loop .inv) (p .1 .0)
+    (c .before .before .before .before .loop-test .taken) _ _ _ (omega arith) (c .before .top-of2 .ensures) (c .group-end2 .ensures)
 
 mul-list-2 : tie.Need-mul-list-2 Inv-loop μ-loop
 mul-list-2 c = search needs

@@ -31,7 +31,8 @@ shared-slice-read-if1 c = search needs
 
 returns : tie.Need-returns Inv-loop μ-loop
 returns c =
-    gallops-stop (c .before .before .before .before .pre .1 .1 .0) (c .before .before .before .loop .inv) (c .before .before .loop-test .taken) (c .if1 .taken)
+    gallops-stop (c .before .before .before .before .pre .1 .1 .0) (c .before .before .before .loop .inv)
+    (c .before .before .loop-test .taken) (c .if1 .taken)
 
 add-low : tie.Need-add-low Inv-loop μ-loop
 add-low c = search needs
@@ -44,7 +45,8 @@ loop-less c = search needs
 
 loop-again : tie.Need-loop-again Inv-loop μ-loop
 loop-again c =
-    gallops-next (c .before .before .before .before .pre .1 .1 .0) (c .before .before .before .loop .inv) (c .before .before .loop-test .taken) (c .if1 .left)
+    gallops-next (c .before .before .before .before .pre .1 .1 .0) (c .before .before .before .loop .inv)
+    (c .before .before .loop-test .taken) (c .if1 .left)
 
 returns-2 : tie.Need-returns-2 Inv-loop μ-loop
 returns-2 c = c .before .loop .inv .seen

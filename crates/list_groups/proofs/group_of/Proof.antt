@@ -24,7 +24,8 @@ group-end-requires-2 c κs =
     let t = c .before .before .before in
     let a = t .args in
     let s = c .group-end .ensures in
-    let rises = rises-within (a .from) (a .end) (c .group-end .result) (a .end) (a .list .now) (s .starts) (omega arith) (t .pre .1 .1 .0) in
+    let rises = rises-within (a .from) (a .end) (c .group-end .result) (a .end) (a .list .now) (s .starts) (omega arith)
+    (t .pre .1 .1 .0) in
     (s .ends, (t .pre .1 .0, (rises-splits _ _ _ _ (a .list .now) (c .before .top-of .ensures) rises, omega arith)))
 
 returns : tie.Need-returns

@@ -33,7 +33,8 @@ mul-top-of c = search needs
 
 slice-reshared-read-top-of : tie.Need-slice-reshared-read-top-of Inv-loop μ-loop
 slice-reshared-read-top-of c =
-    let p = c .before .before .before .before .pre in omega (arith, c .before .before .loop .inv .long, c .before .loop-test .taken, p .1 .0)
+    let p = c .before .before .before .before .pre in
+    omega (arith, c .before .before .loop .inv .long, c .before .loop-test .taken, p .1 .0)
 
 top-of-requires : tie.Need-top-of-requires Inv-loop μ-loop
 top-of-requires c κs = tt
@@ -73,8 +74,8 @@ slice-write-list c =
 sub-near : tie.Need-sub-near Inv-loop μ-loop
 sub-near c = search needs
 
-sub-near-2 : tie.Need-sub-near-2 Inv-loop μ-loop
-sub-near-2 c = search needs
+add-near : tie.Need-add-near Inv-loop μ-loop
+add-near c = search needs
 
 sub-hole : tie.Need-sub-hole Inv-loop μ-loop
 sub-hole c = search needs
@@ -85,7 +86,8 @@ loop-less c = omega (arith, c .before .group-end .ensures .starts, c .before .be
 loop-again : tie.Need-loop-again Inv-loop μ-loop
 loop-again c =
     let p = c .before .before .before .before .before .before .before .pre in
-    pulls-next (c .before .before .before .before .before .loop .inv) (p .1 .0) (c .before .before .before .before .loop-test .taken) _ _ (c .before .before .top-of .ensures) (c .before .group-end .ensures)
+    pulls-next (c .before .before .before .before .before .loop .inv) (p .1 .0) (c .before .before .before .before .loop-test .taken)
+    _ _ _ (omega arith) (c .before .before .top-of .ensures) (c .before .group-end .ensures)
 
 same-length : tie.Need-same-length Inv-loop μ-loop
 same-length c = c .before .loop .inv .long
@@ -114,7 +116,7 @@ pull-spec =
     mul-list-2
     slice-write-list
     sub-near
-    sub-near-2
+    add-near
     sub-hole
     loop-less
     loop-again
