@@ -1,0 +1,3 @@
+pub mod HeadLaws
+pub mod Tails
+pub mod ExtentTests

@@ -1,0 +1,6 @@
+// The test of a picker's lent buffers: head, pieces, extents and list.
+mod extents;
+mod head;
+
+pub use extents::extents_ok;
+pub use head::head_ok;
