@@ -5,13 +5,15 @@ use mathlib.Core.Path.{_≡_}
 use mathlib.Core.Bool.{Bool, true, cond, _&&_}
 use mathlib.Core.List.{List, []}
 use lib.Dec.{eqb, leb}
+use lib.ListN.{length, getD}
 use Rattle.model.specs.State.{maxPeers, validGeometry}
+use Rattle.model.specs.list.Order.{rank}
 use Rattle.memory_records.specs.declared.record.DownloadingPiece.{DownloadingPiece as Record}
 use Rattle.memory_layout.specs.declared.shape.Shape.{Shape}
 use Rattle.memory_layout.specs.Tables.{tabulate}
-use Rattle.memory_layout.specs.Decode.{headWord, piecesOn, blocksOn}
+use Rattle.memory_layout.specs.Decode.{headWord, piecesOn, blocksOn, decode}
 use Rattle.memory_layout.specs.Bounds.{WordsSpan}
-use Rattle.memory_layout.specs.Good.{goodHead, goodExtents}
+use Rattle.memory_layout.specs.Good.{goodHead, goodPieces, goodExtents}
 
 -- ---- the head
 -- for n pieces and so many places for partials: the dirty flag, and the numbers of list places, partials and extents
@@ -43,3 +45,14 @@ extentsBefore words k = tabulate k (λ j. headWord words (9 + j))
 -- the answer of their test
 abbrev pub ExtentTest : (r : Bool) (words : List ℕ) → Type 0
 ExtentTest r words = (records : List Record) (cells : List ℕ) → r ≡ goodExtents records words cells
+
+-- ---- pieces
+-- the first n ranks are those of the picker's pieces
+abbrev pub RanksOf : (n : ℕ) (words cells ranks : List ℕ) → Type 0
+RanksOf n words cells ranks = (records : List Record) (i : ℕ) → i < n → getD ranks i 0 ≡ rank (decode records words cells) i
+
+-- what their test leaves: its answer, and the ranks where it passes
+pub record PieceTest (s : Shape) (r : Bool) (words cells ranks : List ℕ) : Type 0 where
+  pub is : (records : List Record) → r ≡ goodPieces records words cells
+  pub each : r ≡ true → RanksOf (s .pieces) words cells ranks
+  pub long : s .pieces ≤ length ranks

@@ -1,6 +1,10 @@
 // The test of a picker's lent buffers: head, pieces, extents and list.
 mod extents;
 mod head;
+mod pads;
+mod pieces;
+mod rows;
 
 pub use extents::extents_ok;
 pub use head::head_ok;
+pub use pieces::pieces_ok;
