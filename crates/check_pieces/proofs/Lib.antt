@@ -6,3 +6,4 @@ pub mod RowLaws
 pub mod Passes
 pub mod PadLaws
 pub mod PieceTests
+pub mod ListTests

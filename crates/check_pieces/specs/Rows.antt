@@ -1,14 +1,15 @@
 -- What the tests of the pieces read: the four cells of a piece as a piece, its rank and its test; the columns of all pieces. Assumes nothing.
-use Prim.Native.Nat.{ℕ, _+_, _-_, _≤_, _<_}
+use Prim.Native.Nat.{ℕ, _+_, _-_, _/_, _≤_, _<_}
 use mathlib.Core.Path.{_≡_}
-use mathlib.Core.Bool.{Bool, true, not, _&&_, _||_}
+use mathlib.Core.Bool.{Bool, true, false, not, _&&_, _||_}
+use mathlib.Core.Logic.{_≢_}
 use mathlib.Core.List.{List}
-use lib.ListN.{length, getD}
-use lib.Dec.{ltb, leb}
+use lib.ListN.{length, getD, set}
+use lib.Dec.{eqb, ltb, leb}
 use Rattle.model.specs.Lists.{every, count, from}
 use Rattle.model.specs.State.{Piece, maxPeers, maxPriority, isOpen}
 use Rattle.model.specs.list.Order.{bucket, rankOf}
-use Rattle.memory_layout.specs.Decode.{queueFrom, yes?}
+use Rattle.memory_layout.specs.Decode.{queueFrom, yes?, rankUnit, listedPiece}
 
 -- ---- one piece
 -- pad bytes do not matter to its rank
@@ -59,6 +60,20 @@ pub record Passed (test : ℕ → Bool) (rank : ℕ → ℕ) (n : ℕ) (r : Bool
 -- how many of the first n ranks are not 0
 unfoldable pub rankedIn : (ranks : List ℕ) (n : ℕ) → ℕ
 rankedIn ranks n = count (λ i. ltb 0 (getD ranks i 0)) (from 0 n)
+
+-- ---- one place of the list
+-- its rank is no lower than the last one, and is that of its piece among the ranks that are left
+unfoldable pub placeIn : (n last word : ℕ) (ranks : List ℕ) → Bool
+placeIn n last word ranks =
+    leb last (word / rankUnit) && (ltb (listedPiece word) n && eqb (getD ranks (listedPiece word) 0) (word / rankUnit))
+
+-- what a step over it leaves: 0 where it fails, else its rank, and the rank of its piece is taken
+pub record Stepped (n last word : ℕ) (entry : List ℕ) (r : ℕ) (exit : List ℕ) : Type 0 where
+  pub fails : r ≡ 0 → placeIn n last word entry ≡ false
+  pub passes : r ≢ 0 → placeIn n last word entry ≡ true
+  pub rank : r ≢ 0 → r ≡ word / rankUnit
+  pub taken : r ≢ 0 → exit ≡ set entry (listedPiece word) 0
+  pub long : length exit ≡ length entry
 
 -- ---- pad bytes
 -- none of them is above the most
