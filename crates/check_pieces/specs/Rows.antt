@@ -1,0 +1,89 @@
+-- What the tests of the pieces read: the four cells of a piece as a piece, its rank and its test; the columns of all pieces. Assumes nothing.
+use Prim.Native.Nat.{ℕ, _+_, _-_, _/_, _≤_, _<_}
+use mathlib.Core.Path.{_≡_}
+use mathlib.Core.Bool.{Bool, true, false, not, _&&_, _||_}
+use mathlib.Core.Logic.{_≢_}
+use mathlib.Core.List.{List}
+use lib.ListN.{length, getD, set}
+use lib.Dec.{eqb, ltb, leb}
+use Rattle.model.specs.Lists.{every, count, from}
+use Rattle.model.specs.State.{Piece, maxPeers, maxPriority, isOpen}
+use Rattle.model.specs.list.Order.{bucket, rankOf}
+use Rattle.memory_layout.specs.Decode.{queueFrom, yes?, rankUnit, listedPiece}
+
+-- ---- one piece
+-- pad bytes do not matter to its rank
+unfoldable pub pieceFrom : (count state priority flushed pad : ℕ) → Piece
+pieceFrom count state priority flushed pad =
+    record { peerCount = count; state = queueFrom state; priority = priority; flushed = yes? flushed; padBytes = pad }
+
+-- the model's rank of it
+unfoldable pub rankFrom : (seeds count state priority flushed : ℕ) → ℕ
+rankFrom seeds count state priority flushed = rankOf (bucket seeds (pieceFrom count state priority flushed 0))
+
+-- a state, flushed or not, and what a well-formed picker asks of the piece but for its pad bytes
+unfoldable pub cellsOk : (seeds count state priority flushed : ℕ) → Bool
+cellsOk seeds count state priority flushed =
+    (leb state 6 && leb flushed 1)
+    && (leb (count + seeds) maxPeers && (leb priority maxPriority && (not (yes? flushed) || isOpen (queueFrom state))))
+
+-- cells that have a rank
+pub record Ranked (count state priority : ℕ) : Type 0 where
+  pub count-most : count ≤ 1000
+  pub state-most : state ≤ 6
+  pub priority-most : priority ≤ 7
+
+-- ---- all pieces
+-- columns of one length, as many as a picker has pieces at most
+pub record Level (counts states priorities flushed : List ℕ) : Type 0 where
+  pub most : length counts ≤ 4096
+  pub states-long : length states ≡ length counts
+  pub priorities-long : length priorities ≡ length counts
+  pub flushed-long : length flushed ≡ length counts
+
+-- row i of four columns: its test
+unfoldable pub rowIn : (seeds : ℕ) (counts states priorities flushed : List ℕ) (i : ℕ) → Bool
+rowIn seeds counts states priorities flushed i =
+    cellsOk seeds (getD counts i 0) (getD states i 0) (getD priorities i 0) (getD flushed i 0)
+
+-- and its rank
+unfoldable pub rankIn : (seeds : ℕ) (counts states priorities flushed : List ℕ) (i : ℕ) → ℕ
+rankIn seeds counts states priorities flushed i =
+    rankFrom seeds (getD counts i 0) (getD states i 0) (getD priorities i 0) (getD flushed i 0)
+
+-- what a pass over n rows leaves: whether each passes its test, and where they do, the rank of each
+pub record Passed (test : ℕ → Bool) (rank : ℕ → ℕ) (n : ℕ) (r : Bool) (ranks : List ℕ) : Type 0 where
+  pub is : r ≡ every test (from 0 n)
+  pub each : r ≡ true → (i : ℕ) → i < n → getD ranks i 0 ≡ rank i
+  pub long : n ≤ length ranks
+
+-- how many of the first n ranks are not 0
+unfoldable pub rankedIn : (ranks : List ℕ) (n : ℕ) → ℕ
+rankedIn ranks n = count (λ i. ltb 0 (getD ranks i 0)) (from 0 n)
+
+-- ---- one place of the list
+-- its rank is no lower than the last one, and is that of its piece among the ranks that are left
+unfoldable pub placeIn : (n last word : ℕ) (ranks : List ℕ) → Bool
+placeIn n last word ranks =
+    leb last (word / rankUnit) && (ltb (listedPiece word) n && eqb (getD ranks (listedPiece word) 0) (word / rankUnit))
+
+-- what a step over it leaves: 0 where it fails, else its rank, and the rank of its piece is taken
+pub record Stepped (n last word : ℕ) (entry : List ℕ) (r : ℕ) (exit : List ℕ) : Type 0 where
+  pub fails : r ≡ 0 → placeIn n last word entry ≡ false
+  pub passes : r ≢ 0 → placeIn n last word entry ≡ true
+  pub rank : r ≢ 0 → r ≡ word / rankUnit
+  pub taken : r ≢ 0 → exit ≡ set entry (listedPiece word) 0
+  pub long : length exit ≡ length entry
+
+-- ---- pad bytes
+-- none of them is above the most
+abbrev pub NoneAbove : (most : ℕ) (pads : List ℕ) → Type 0
+NoneAbove most pads = (i : ℕ) → i < length pads → getD pads i 0 ≤ most
+
+-- of whole pieces
+unfoldable pub padsBelow : (size : ℕ) (pads : List ℕ) → Bool
+padsBelow size pads = every (λ i. leb (getD pads i 0) size) (from 0 (length pads))
+
+-- where the last piece has a length of its own
+unfoldable pub padsOk : (size last : ℕ) (pads : List ℕ) → Bool
+padsOk size last pads = padsBelow size pads && leb (getD pads (length pads - 1) 0) last

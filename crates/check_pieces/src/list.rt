@@ -1,0 +1,87 @@
+// The test of the list: as many places as pieces with a rank, each place such a piece with its rank beside it, none twice, ranks never
+// falling.
+use memory_layout::Shape;
+use memory_layout::head_word;
+use memory_layout::list_column;
+use types::u16_to_u64;
+use types::u16_to_usize;
+use types::u64_to_usize;
+ghost use mathlib.Core.Path.{_≡_};
+ghost use Prim.Native.Nat.{_≤_};
+ghost use lib.ListN.{length};
+ghost use Rattle.memory_layout.specs.Decode.{headWord};
+ghost use Rattle.check_pieces.specs.Rows.{rankedIn, Stepped};
+ghost use Rattle.check_pieces.specs.Parts.{HeadPassed, PlaceTest, ListTest};
+
+// How many of the first n ranks are not 0. The count has as many bits as a rank, so that many are counted at once.
+fn ranked(ranks: &[u16], n: usize) -> usize
+    requires { ⌜ (n ≤ 4096) × (n ≤ length (now ranks)) ⌝ }
+    ensures { λ r. ⌜ r ≡ rankedIn (now (ranks .entry)) n ⌝ }
+{
+    let mut many: u16 = 0;
+    let mut i = 0;
+    while i < n {
+        if 0 < ranks[i] {
+            many += 1;
+        }
+        i += 1;
+    }
+    u16_to_usize(many)
+}
+
+// One place of the list: its rank, or 0 if it fails. The rank of a piece that was passed becomes 0, and no place has a rank below `last`.
+fn step(ranks: &mut [u16], n: usize, last: u64, word: u64) -> u64
+    requires { ⌜ (n ≤ 4096) × (n ≤ length (now ranks)) ⌝ }
+    requires { ⌜ 1 ≤ last ⌝ }
+    ensures { λ r. ⌜ Stepped n last word (now (ranks .entry)) r (now (ranks .exit)) ⌝ }
+{
+    let rank = word / 65536;
+    let piece = u64_to_usize(word % 65536);
+    if rank < last {
+        return 0;
+    }
+    if n <= piece {
+        return 0;
+    }
+    if u16_to_u64(ranks[piece]) != rank {
+        return 0;
+    }
+    ranks[piece] = 0;
+    rank
+}
+
+// The places one after another.
+fn places_ok(words: &[u64], s: Shape, many: usize, ranks: &mut [u16]) -> bool
+    requires { ⌜ (HeadPassed s (now words)) × (many ≡ headWord (now words) 6) ⌝ }
+    requires { ⌜ s .pieces ≤ length (now ranks) ⌝ }
+    ensures { λ r. ⌜ PlaceTest (s .pieces) r (now (words .entry)) (now (ranks .entry)) ⌝ }
+{
+    let list = list_column(words, s);
+    let n = s.pieces;
+    let mut last: u64 = 1;
+    let mut k = 0;
+    while k < many {
+        last = step(ranks, n, last, list[k]);
+        if last == 0 {
+            return false;
+        }
+        k += 1;
+    }
+    true
+}
+
+// The ranks do not last: what was passed is 0.
+pub fn list_ok(words: &[u64], s: Shape, ranks: &mut [u16]) -> bool
+    requires { ⌜ HeadPassed s (now words) ⌝ }
+    requires { ⌜ s .pieces ≤ length (now ranks) ⌝ }
+    ensures { λ r. ⌜ ListTest (s .pieces) r (now (words .entry)) (now (ranks .entry)) ⌝ }
+{
+    if head_word(words, 5) == 1 {
+        return true;
+    }
+    let many = u64_to_usize(head_word(words, 6));
+    if ranked(ranks, s.pieces) != many {
+        return false;
+    }
+    places_ok(words, s, many, ranks)
+}
