@@ -52,6 +52,15 @@ module _ (t : ℕ → Bool) where
   unfolding countBelow
   count-next k = rw add-one
 
+  pub count-few : (n : ℕ) → countBelow t n ≤ n
+  unfolding countBelow
+  count-few zero = omega arith
+  count-few (suc n) = go (t n) (count-few n)
+    where
+      go : (p : Bool) → countBelow t n ≤ n → countBelow t n + bit p ≤ suc n
+      go true e = omega arith
+      go false e = omega arith
+
   pub count-none : (n : ℕ) → ((k : ℕ) → k < n → t k ≡ false) → countBelow t n ≡ 0
   unfolding countBelow
   count-none zero h = refl

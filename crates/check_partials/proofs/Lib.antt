@@ -1,2 +1,5 @@
 pub mod BelowLaws
 pub mod PlaceLaws
+pub mod JoinLaws
+pub mod CountLaws
+pub mod StateLaws

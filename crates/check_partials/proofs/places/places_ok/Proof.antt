@@ -11,10 +11,6 @@ use Rattle.check_partials.proofs.PlaceLaws.{places-is, places-many}
 use borrow.Author.Needs.{needs}
 use Rattle.check_partials.proofs.places.places_ok.Statement.{statement}
 use Rattle.check_partials.proofs.places.places_ok.Tie as tie
-use Rattle.check_partials.proofs.places.places_ok.Reads as reads
-use Rattle.check_partials.proofs.places.places_ok.Lts as lts
-use Rattle.memory_records.proofs.row.Reads as row-reads
-use Rattle.types.proofs.u32_to_usize.Reads as u32-to-usize-reads
 
 abbrev Inv-loop : tie.InvT-loop
 Inv-loop words rows live many marks₀ k₀ marks k = (k ≤ live) × (many ≡ placesFor (piecesOn words)) × (many ≤ 512) × Marked (recordsIn live rows) (piecesOn words) marks k
@@ -22,47 +18,36 @@ Inv-loop words rows live many marks₀ k₀ marks k = (k ≤ live) × (many ≡ 
 abbrev μ-loop : tie.MeasureT-loop
 μ-loop words rows live many marks₀ k₀ marks k = live - k
 
--- src/places.rt:22:5
 loop-holds : tie.Need-loop-holds Inv-loop μ-loop
 loop-holds c = (omega arith, places-many _ _ (c .before .before .pre .0), omega (arith, c .before .before .pre .0 .sizes .places, places-min (c .before .before .args .s .pieces)), marked-start _ _)
 
--- src/places.rt:23:13
 row-requires : tie.Need-row-requires Inv-loop μ-loop
 row-requires c κs = (omega (arith, c .before .before .before .before .pre .1 .1, c .before .before .before .before .pre .0 .sizes .places, places-min (c .before .before .before .before .args .s .pieces)), c .before .before .before .before .pre .1 .2)
 
--- src/places.rt:24:13
 u32-to-usize-requires : tie.Need-u32-to-usize-requires Inv-loop μ-loop
 u32-to-usize-requires c κs = search needs
 
--- src/places.rt:26:13
 returns : tie.Need-returns Inv-loop μ-loop
 returns c = places-is _ _ _ (c .before .before .before .before .before .before .before .pre .1 .0) _ (marked-beyond _ _ _ _ (c .before .before .before .before .loop .inv .3) _ (omega arith) _ (live-place _ _ _ (omega arith) _ (c .before .before .row .ensures) _ (c .before .u32-to-usize .ensures)) (omega (arith, c .before .before .before .before .loop .inv .1)))
 
--- src/places.rt:28:12
 array-read-if2 : tie.Need-array-read-if2 Inv-loop μ-loop
 array-read-if2 c = omega (arith, c .before .before .before .before .loop .inv .2, c .before .before .before .before .loop .inv .3 .size)
 
--- src/places.rt:29:13
 returns-2 : tie.Need-returns-2 Inv-loop μ-loop
 returns-2 c = places-is _ _ _ (c .before .before .before .before .before .before .before .before .pre .1 .0) _ (marked-twice _ _ _ _ (c .before .before .before .before .before .loop .inv .3) _ (omega arith) _ (live-place _ _ _ (omega arith) _ (c .before .before .before .row .ensures) _ (c .before .before .u32-to-usize .ensures)) (omega (arith, c .before .before .before .before .before .loop .inv .2)) (c .if2 .taken))
 
--- src/places.rt:31:9
 array-write-marks : tie.Need-array-write-marks Inv-loop μ-loop
 array-write-marks c = omega (arith, c .before .before .before .before .before .loop .inv .2, c .before .before .before .before .before .loop .inv .3 .size)
 
--- src/places.rt:32:9
 add-k : tie.Need-add-k Inv-loop μ-loop
 add-k c = search needs
 
--- src/places.rt:22:5
 loop-less : tie.Need-loop-less Inv-loop μ-loop
 loop-less c = search needs
 
--- src/places.rt:22:5
 loop-again : tie.Need-loop-again Inv-loop μ-loop
 loop-again c = (omega arith, c .before .before .before .before .before .loop .inv .1, c .before .before .before .before .before .loop .inv .2, marked-next _ _ _ _ (c .before .before .before .before .before .loop .inv .3) (c .before .before .before .before .before .before .before .before .args .live) (omega arith) _ (live-place _ _ _ (omega arith) _ (c .before .before .before .row .ensures) _ (c .before .before .u32-to-usize .ensures)) (omega (arith, c .before .before .before .before .before .loop .inv .2)) (omega (arith, c .before .before .before .before .before .loop .inv .1)) (c .if2 .left))
 
--- src/places.rt:14:1
 returns-3 : tie.Need-returns-3 Inv-loop μ-loop
 returns-3 c = places-is _ _ _ (c .before .before .before .before .pre .1 .0) _ (marked-end _ _ _ _ _ (c .before .loop .inv .3) (omega arith))
 
