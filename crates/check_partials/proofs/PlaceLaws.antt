@@ -23,6 +23,7 @@ use Rattle.memory_layout.specs.Bounds.{ShapeOf}
 use Rattle.memory_layout.specs.Good.{placeRaw, goodPlaces}
 use Rattle.memory_layout.proofs.TableLaws.{tabulate-more}
 use Rattle.check_partials.specs.Below.{allBelow}
+use Rattle.check_partials.specs.Records.{recordGood, indexAt, placeAt, goodAt}
 use Rattle.check_partials.proofs.BelowLaws.{all-next, all-false, below-every}
 
 -- a list with one more
@@ -111,3 +112,18 @@ places-is rs words live e r f = f ∙ below-every (placeRaw rs (piecesOn words))
 -- as many places as the head has room for
 pub places-many : (s : Shape) (words : List ℕ) → ShapeOf s words → s .places ≡ placesFor (piecesOn words)
 places-many s words h = h .sizes .places ∙ ap placesFor (h .pieces)
+
+-- ---- the record of a turn
+module _ (live : ℕ) (rows : List ℕ) (k : ℕ) (l : k < live) (d : Record) (e : d ≡ rowAt rows k) where
+  pub turn-is : d ≡ recordAt (recordsIn live rows) k
+  turn-is = e ∙ sym (live-row live rows k l)
+
+  pub turn-index : d .index ≡ indexAt (recordsIn live rows) k
+  turn-index = ap (λ (x : Record). x .index) turn-is
+
+  pub turn-place : d .«info_idx» ≡ placeAt (recordsIn live rows) k
+  turn-place = ap (λ (x : Record). x .«info_idx») turn-is
+
+  pub turn-good : (words cells : List ℕ) (n b : ℕ) (ok : Bool) → ok ≡ recordGood words cells n b d
+      → ok ≡ goodAt (recordsIn live rows) words cells n b k
+  turn-good words cells n b ok f = f ∙ ap (recordGood words cells n b) turn-is

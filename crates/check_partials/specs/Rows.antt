@@ -12,6 +12,7 @@ use Rattle.model.specs.Lists.{bit}
 use Rattle.model.specs.State.{sameQueue, maxPeers}
 use Rattle.memory_layout.specs.Decode.{pieceCell, blockCell, queueFrom}
 use Rattle.check_partials.specs.declared.blocks.Joined.{Joined}
+use Rattle.check_partials.specs.declared.blocks.Counts.{Counts}
 use Rattle.check_partials.specs.Below.{allBelow, countBelow}
 
 -- ---- the state of a piece, by the numbers of its partial's blocks: requested, not free, all
@@ -54,3 +55,13 @@ rowsOk cells n b p many = allBelow (rowCells cells n b p) many
 -- how many are in the state of a number
 unfoldable pub inState : (cells : List ℕ) (n b p number many : ℕ) → ℕ
 inState cells n b p number many = countBelow (λ j. eqb (blockCell cells n b 0 p j) number) many
+
+-- how many are not free, where all are good
+unfoldable pub busyIn : (cells : List ℕ) (n b p many : ℕ) → ℕ
+busyIn cells n b p many = inState cells n b p 1 many + inState cells n b p 2 many + inState cells n b p 3 many
+
+-- the numbers of the first blocks of place p
+pub record Tallied (cells : List ℕ) (n b p many : ℕ) (c : Counts) : Type 0 where
+  pub requested : c .requested ≡ inState cells n b p 1 many
+  pub writing : c .writing ≡ inState cells n b p 2 many
+  pub finished : c .finished ≡ inState cells n b p 3 many
