@@ -72,7 +72,8 @@ module _ (t : ℕ → Bool) where
   count-not zero = refl
   count-not (suc n) = go (t n) (count-not n)
     where
-      go : (p : Bool) → countBelow t n + countBelow (λ k. not (t k)) n ≡ n → countBelow t n + bit p + (countBelow (λ k. not (t k)) n + bit (not p)) ≡ suc n
+      go : (p : Bool) → countBelow t n + countBelow (λ k. not (t k)) n ≡ n
+          → countBelow t n + bit p + (countBelow (λ k. not (t k)) n + bit (not p)) ≡ suc n
       go true e = omega arith
       go false e = omega arith
 
@@ -100,7 +101,8 @@ module _ (t u : ℕ → Bool) where
       ]
 
   -- and as often: then it is the same test
-  pub count-tight : (n : ℕ) → ((k : ℕ) → k < n → t k ≡ true → u k ≡ true) → countBelow t n ≡ countBelow u n → (k : ℕ) → k < n → u k ≡ true → t k ≡ true
+  pub count-tight : (n : ℕ) → ((k : ℕ) → k < n → t k ≡ true → u k ≡ true) → countBelow t n ≡ countBelow u n → (k : ℕ) → k < n → u k ≡ true
+      → t k ≡ true
   unfolding countBelow
   count-tight zero h e k l g = absurd (omega arith)
   count-tight (suc n) h e k l g =
@@ -124,7 +126,8 @@ module _ (t u : ℕ → Bool) where
       ]
 
 -- of two tests that never both pass
-pub count-either : (t u : ℕ → Bool) (n : ℕ) → ((k : ℕ) → k < n → t k ≡ true → u k ≡ false) → countBelow (λ k. t k || u k) n ≡ countBelow t n + countBelow u n
+pub count-either : (t u : ℕ → Bool) (n : ℕ) → ((k : ℕ) → k < n → t k ≡ true → u k ≡ false) → countBelow (λ k. t k || u k) n
+    ≡ countBelow t n + countBelow u n
 unfolding countBelow
 count-either t u zero h = refl
 count-either t u (suc n) h =
@@ -162,7 +165,8 @@ every-from-all : (t : ℕ → Bool) (j n : ℕ) → ((k : ℕ) → k < n → t (
 unfolding every from
 every-from-all t j zero h = refl
 every-from-all t j (suc n) h =
-    true-both (t j) (every t (from (suc j) n)) (let e : j + 0 ≡ j = omega arith in rw e at (h zero (omega arith))) (every-from-all t (suc j) n (λ k l.
+    true-both (t j) (every t (from (suc j) n)) (let e : j + 0 ≡ j = omega arith in rw e at (h zero (omega arith)))
+    (every-from-all t (suc j) n (λ k l.
     let e : j + suc k ≡ suc j + k = omega arith in rw e at (h (suc k) (omega arith))))
 
 pub every-at : (t : ℕ → Bool) (n : ℕ) → every t (from 0 n) ≡ true → (k : ℕ) → k < n → t k ≡ true
@@ -177,7 +181,8 @@ module _ {A : Type 0} (t : A → Bool) where
   unfolding every tabulate
   every-tab zero f h = refl
   every-tab (suc n) f h =
-      true-both (t (f zero)) (every t (tabulate n (λ k. f (suc k)))) (h zero (omega arith)) (every-tab n (λ k. f (suc k)) (λ k l. h (suc k) (omega arith)))
+      true-both (t (f zero)) (every t (tabulate n (λ k. f (suc k)))) (h zero (omega arith))
+      (every-tab n (λ k. f (suc k)) (λ k l. h (suc k) (omega arith)))
 
   pub tab-every : (n : ℕ) (f : ℕ → A) → every t (tabulate n f) ≡ true → (k : ℕ) → k < n → t (f k) ≡ true
   unfolding every tabulate

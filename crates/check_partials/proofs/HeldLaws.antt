@@ -19,7 +19,8 @@ use Rattle.check_partials.specs.Records.{lowest}
 use Rattle.check_partials.proofs.BelowLaws.{count-same, count-none, count-either, count-one}
 
 -- ---- rising pieces
-pub rising-from : (lo m : ℕ) (f : ℕ → DownloadingPiece) → ((k : ℕ) → k < m → lowest lo (λ j. f j .piece) k ≤ f k .piece) → partialsFrom lo (tabulate m f) ≡ true
+pub rising-from : (lo m : ℕ) (f : ℕ → DownloadingPiece) → ((k : ℕ) → k < m → lowest lo (λ j. f j .piece) k ≤ f k .piece)
+    → partialsFrom lo (tabulate m f) ≡ true
 unfolding partialsFrom tabulate lowest
 rising-from lo zero f h = refl
 rising-from lo (suc m) f h =
@@ -29,7 +30,8 @@ rising-from lo (suc m) f h =
     later zero l = h (suc zero) (omega arith)
     later (suc k) l = h (suc (suc k)) (omega arith)
 
-pub from-rising : (lo m : ℕ) (f : ℕ → DownloadingPiece) → partialsFrom lo (tabulate m f) ≡ true → (k : ℕ) → k < m → lowest lo (λ j. f j .piece) k ≤ f k .piece
+pub from-rising : (lo m : ℕ) (f : ℕ → DownloadingPiece) → partialsFrom lo (tabulate m f) ≡ true → (k : ℕ) → k < m
+    → lowest lo (λ j. f j .piece) k ≤ f k .piece
 unfolding tabulate lowest
 from-rising lo zero f h k l = absurd (omega arith)
 from-rising lo (suc m) f h zero l = from-head lo (f zero) (tabulate m (λ j. f (suc j))) h
@@ -50,7 +52,8 @@ rising-low lo (suc m) f h (suc k) l =
 
 -- ---- finding
 -- each is found by its piece
-pub found-each : (lo m : ℕ) (f : ℕ → DownloadingPiece) → partialsFrom lo (tabulate m f) ≡ true → (k : ℕ) → k < m → findDlPiece (f k .piece) (tabulate m f) ≡ some (f k)
+pub found-each : (lo m : ℕ) (f : ℕ → DownloadingPiece) → partialsFrom lo (tabulate m f) ≡ true → (k : ℕ) → k < m
+    → findDlPiece (f k .piece) (tabulate m f) ≡ some (f k)
 unfolding tabulate
 found-each lo zero f h k l = absurd (omega arith)
 found-each lo (suc m) f h zero l = findDlPiece-here (f zero .piece) (f zero) (tabulate m (λ j. f (suc j))) refl
@@ -71,7 +74,8 @@ found-has Q (suc m) f h i d e = elim (ℕ-discrete (f zero .piece) i) [
       rw (← q, ← s) (h zero (omega arith))
       )
   | no q ↦
-      found-has Q m (λ j. f (suc j)) (λ k l. h (suc k) (omega arith)) i d (sym (findDlPiece-there i (f zero) (tabulate m (λ j. f (suc j))) q) ∙ e)
+      found-has Q m (λ j. f (suc j)) (λ k l. h (suc k) (omega arith)) i d
+      (sym (findDlPiece-there i (f zero) (tabulate m (λ j. f (suc j))) q) ∙ e)
 ]
 
 -- ---- for how many pieces one stands
@@ -97,7 +101,8 @@ held-cons d ds i = elim (ℕ-discrete (d .piece) i) [
   | no n ↦ rw (findDlPiece-there i d ds n, ne-eqb (d .piece) i n)
 ]
 
-pub count-held : (lo n : ℕ) (ds : List DownloadingPiece) → partialsFrom lo ds ≡ true → ((i : ℕ) → held ds i ≡ true → i < n) → countBelow (held ds) n ≡ len ds
+pub count-held : (lo n : ℕ) (ds : List DownloadingPiece) → partialsFrom lo ds ≡ true → ((i : ℕ) → held ds i ≡ true → i < n)
+    → countBelow (held ds) n ≡ len ds
 unfolding len findDlPiece held
 count-held lo n [] h b = count-none (held []) n (λ k l. refl)
 count-held lo n (d ∷ ds) h b =

@@ -67,7 +67,8 @@ one-of-four (suc (suc (suc (suc x)))) h = absurd (omega arith)
 
 -- each is counted once
 count-four : (f : ℕ → ℕ) (m : ℕ) → ((j : ℕ) → j < m → f j ≤ 3)
-    → countBelow (λ j. eqb (f j) 0) m + (countBelow (λ j. eqb (f j) 1) m + countBelow (λ j. eqb (f j) 2) m + countBelow (λ j. eqb (f j) 3) m)
+    → countBelow (λ j. eqb (f j) 0) m + (countBelow (λ j. eqb (f j) 1) m + countBelow (λ j. eqb (f j) 2) m + countBelow (λ j. eqb (f j) 3)
+    m)
     ≡ m
 unfolding countBelow
 count-four f zero h = refl
@@ -139,7 +140,8 @@ module _ (words cells : List ℕ) (n b : ℕ) (fits : (p j : ℕ) → peerWord w
       unfolding inState sameBlockState
       state-count q =
           count-tab (λ (x : Block). sameBlockState (x .state) q) (blockHeld words cells n b p) m
-          ∙ count-same (λ j. sameBlockState (blockHeld words cells n b p j .state) q) (λ j. eqb (blockCell cells n b 0 p j) (blockStateNumber q))
+          ∙ count-same (λ j. sameBlockState (blockHeld words cells n b p j .state) q)
+          (λ j. eqb (blockCell cells n b 0 p j) (blockStateNumber q))
           m (λ j l. ap (λ (x : ℕ). eqb x (blockStateNumber q)) (low-state p j (every-at (blockRaw cells n b p) m raw j l)))
 
       all-counted : inState cells n b p 0 m + busyIn cells n b p m ≡ m

@@ -36,10 +36,12 @@ pub pass-start : (rs : List Record) (words cells : List ℕ) (n b : ℕ) → Pas
 unfolding allBelow lowest
 pass-start rs words cells n b = record { good = refl; low = refl }
 
-pub pass-end : (rs : List Record) (words cells : List ℕ) (n b lo k m : ℕ) → Passing rs words cells n b lo k → k ≡ m → true ≡ allBelow (recordNext rs words cells n b) m
+pub pass-end : (rs : List Record) (words cells : List ℕ) (n b lo k m : ℕ) → Passing rs words cells n b lo k → k ≡ m → true
+    ≡ allBelow (recordNext rs words cells n b) m
 pass-end rs words cells n b lo k m g e = sym (g .good) ∙ ap (allBelow (recordNext rs words cells n b)) e
 
-module _ (rs : List Record) (words cells : List ℕ) (n b lo k : ℕ) (g : Passing rs words cells n b lo k) (m : ℕ) (l : k < m) (p : ℕ) (ep : p ≡ indexAt rs k) where
+module _ (rs : List Record) (words cells : List ℕ) (n b lo k : ℕ) (g : Passing rs words cells n b lo k) (m : ℕ) (l : k < m) (p : ℕ)
+    (ep : p ≡ indexAt rs k) where
   stops : recordNext rs words cells n b k ≡ false → false ≡ allBelow (recordNext rs words cells n b) m
   stops e = sym (all-false (recordNext rs words cells n b) k m l e)
 

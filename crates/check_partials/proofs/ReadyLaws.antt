@@ -3,15 +3,13 @@ use mathlib.Core.Path.{_≡_, refl, sym, ap, ap₂, _∙_}
 use mathlib.Core.Bool.{Bool, true, false, _&&_}
 use mathlib.Core.List.{List}
 use Prim.Native.Nat.{ℕ, _^_, _≤_, _<_}
-use native.Mathlib.Omega.{arith}
 use lib.Dec.{eqb, leb}
 use lib.ListN.{getD}
 use borrow.Author.Tests.{leb-true, ltb-true}
 use Rattle.types.specs.declared.block.BlockState.{BlockState}
 use Rattle.types.specs.declared.block.BlockState.the-variants.{Requested, Writing, Finished}
 use Rattle.types.specs.Block.{blockStateNumber}
-use Rattle.model.specs.Lists.{every, from}
-use Rattle.model.specs.State.{DownloadingPiece, Picker, validGeometry}
+use Rattle.model.specs.State.{validGeometry}
 use Rattle.model.specs.change.Partials.{blocksInState}
 use Rattle.model.specs.image.WellFormed.{headOk}
 use Rattle.model.specs.pick.Pick.{noPartial}
@@ -19,14 +17,14 @@ use Rattle.model.proofs.base.Truths.{both-true, and-left}
 use Rattle.memory_records.specs.declared.record.DownloadingPiece.{DownloadingPiece as Record}
 use Rattle.memory_layout.specs.declared.shape.Shape.{Shape}
 use Rattle.memory_layout.specs.Offsets.{placesFor, peerAt}
-use Rattle.memory_layout.specs.Decode.{headWord, pieceCell, peerWord, recordAt, piecesOn, blocksOn, blocksOf, partialsHeld, decode, decodeAt}
+use Rattle.memory_layout.specs.Decode.{headWord, pieceCell, peerWord, recordAt, piecesOn, blocksOn, blocksOf, partialsHeld, decode}
 use Rattle.memory_layout.specs.Changes.{partialIn}
 use Rattle.memory_layout.specs.Bounds.{ShapeOf, Spans}
-use Rattle.memory_layout.specs.Good.{headRaw, pieceRaw, piecesRaw, recordRaw, placeRaw, goodHead, goodPieces, goodPlaces, goodPartials}
+use Rattle.memory_layout.specs.Good.{headRaw, pieceRaw, piecesRaw, placeRaw, goodHead, goodPieces, goodPlaces, goodPartials}
 use Rattle.memory_layout.proofs.TableLaws.{tabulate-nth}
 use Rattle.check_partials.specs.Below.{allBelow}
 use Rattle.check_partials.specs.Rows.{inState}
-use Rattle.check_partials.specs.Records.{placeAt, indexAt, rawAt, heldAt, recordNext, atWork, Columns, CountsHeld, Ready, Placed}
+use Rattle.check_partials.specs.Records.{placeAt, indexAt, heldAt, recordNext, atWork, Columns, CountsHeld, Ready, Placed}
 use Rattle.check_partials.proofs.BelowLaws.{every-at, all-at}
 use Rattle.check_partials.proofs.MeaningLaws.{counts-are}
 use Rattle.check_partials.proofs.WholeLaws.{pass-is, pass-blocks}
@@ -109,7 +107,8 @@ module _ (rs : List Record) (words cells : List ℕ) where
               → inState cells (s .pieces) (s .blocks) (placeAt rs k) (blockStateNumber q) (blocksOf words (indexAt rs k))
               ≡ blocksInState q (partialIn (decode rs words cells) k)
           state-at q k l =
-              sym (counts-are words cells (s .pieces) (s .blocks) (fits (s .pieces) (s .blocks)) (recordAt rs k) (blocksOf words (indexAt rs k))
+              sym (counts-are words cells (s .pieces) (s .blocks) (fits (s .pieces) (s .blocks)) (recordAt rs k)
+              (blocksOf words (indexAt rs k))
               refl
               (pass-blocks rs words cells (s .pieces) (s .blocks) (fits (s .pieces) (s .blocks)) k
               (all-at (recordNext rs words cells (s .pieces) (s .blocks)) live (sym e ∙ t) k l)) q)

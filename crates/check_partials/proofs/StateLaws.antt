@@ -54,6 +54,7 @@ module _ (s w r b m : ℕ) (h : Bool) where
   neither : ((b ≡ 0 → ⊥) ⊎ (w ≤ 0)) → (ltb 0 w && eqb b 0) ≡ false
   neither = ⊎-elim (λ n. rw (ne-eqb b 0 n, and-false (ltb 0 w))) (λ l. rw (le-ltb 0 w l))
 
-  pub state-due : (p d : ℕ) → ((b ≡ 0 → ⊥) ⊎ (w ≤ 0)) → p ≡ queueNumber (unreverse (queueFrom s)) → d ≡ queueNumber (dueBy w r b m h) → eqb p d ≡ stateBy s w r b m h
+  pub state-due : (p d : ℕ) → ((b ≡ 0 → ⊥) ⊎ (w ≤ 0)) → p ≡ queueNumber (unreverse (queueFrom s)) → d ≡ queueNumber (dueBy w r b m h)
+      → eqb p d ≡ stateBy s w r b m h
   unfolding stateBy sameQueue
   state-due p d n e f = rw (neither n, e, f)

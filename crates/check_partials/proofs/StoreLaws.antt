@@ -2,7 +2,7 @@
 use mathlib.Core.Path.{_≡_, sym, ap, subst, _∙_}
 use mathlib.Core.Logic.{_≢_}
 use mathlib.Core.List.{List}
-use Prim.Native.Nat.{ℕ, _+_, _≤_, _<_}
+use Prim.Native.Nat.{ℕ, _+_, _<_}
 use native.Mathlib.Decide.{ℕ-discrete}
 use native.Mathlib.Omega.{arith}
 use lib.ListN.{length, getD, set, length-set}
@@ -69,17 +69,20 @@ module _ (counts : List ℕ) (k : ℕ) (c : Counts) (h : k < 512) (long : length
     columns-next =
         record {
           requested = λ j l. elim (ℕ-discrete j k) [
-            | yes e ↦ subst (λ (i : ℕ). getD (countsPut counts k c) i 0 ≡ inState cells n b (placeAt rs i) 1 (blocksOf words (indexAt rs i)))
+            | yes e ↦ subst (λ (i : ℕ). getD (countsPut counts k c) i 0
+                ≡ inState cells n b (placeAt rs i) 1 (blocksOf words (indexAt rs i)))
                 (sym e) (put-requested ∙ t .requested ∙ due 1)
             | no m ↦ put-other j (omega arith) (omega arith) m ∙ g .requested j (omega arith)
           ];
           writing = λ j l. elim (ℕ-discrete j k) [
-            | yes e ↦ subst (λ (i : ℕ). getD (countsPut counts k c) (512 + i) 0 ≡ inState cells n b (placeAt rs i) 2 (blocksOf words (indexAt rs i)))
+            | yes e ↦ subst (λ (i : ℕ). getD (countsPut counts k c) (512 + i) 0
+                ≡ inState cells n b (placeAt rs i) 2 (blocksOf words (indexAt rs i)))
                 (sym e) (put-writing ∙ t .writing ∙ due 2)
             | no m ↦ put-other (512 + j) (omega arith) (λ e. m (omega (arith, e))) (omega arith) ∙ g .writing j (omega arith)
           ];
           finished = λ j l. elim (ℕ-discrete j k) [
-            | yes e ↦ subst (λ (i : ℕ). getD (countsPut counts k c) (1024 + i) 0 ≡ inState cells n b (placeAt rs i) 3 (blocksOf words (indexAt rs i)))
+            | yes e ↦ subst (λ (i : ℕ). getD (countsPut counts k c) (1024 + i) 0
+                ≡ inState cells n b (placeAt rs i) 3 (blocksOf words (indexAt rs i)))
                 (sym e) (put-finished ∙ t .finished ∙ due 3)
             | no m ↦ put-other (1024 + j) (λ e. m (omega (arith, e))) (omega arith) (omega arith) ∙ g .finished j (omega arith)
           ];

@@ -7,19 +7,18 @@ use mathlib.Core.Option.{none, some, Option·none-ne-some}
 use Prim.Native.Nat.{ℕ, _^_, _≤_, _<_}
 use native.Mathlib.Decide.{decLe}
 use native.Mathlib.Omega.{arith}
-use lib.Dec.{eqb, ltb, leb}
+use lib.Dec.{eqb, leb}
 use borrow.Author.Tests.{eq-eqb, eqb-true, lt-ltb, le-leb, leb-true}
 use Rattle.model.specs.Lists.{every, from, len}
-use Rattle.model.specs.State.{Piece, DownloadingPiece, maxPartials, noPiece, sameQueue, isOpen, pieceAt, piecesIn, blocksInPiece}
+use Rattle.model.specs.State.{Piece, DownloadingPiece, noPiece, sameQueue, isOpen, pieceAt, piecesIn, blocksInPiece}
 use Rattle.model.specs.change.Partials.{findDlPiece}
 use Rattle.model.specs.image.Sound.{partialsFrom, PartialSound}
-use Rattle.model.specs.image.WellFormed.{blockOk, partialOk, partialsOk}
+use Rattle.model.specs.image.WellFormed.{partialsOk}
 use Rattle.model.proofs.base.Truths.{both-true, true-both, true-or-false, not-both}
 use Rattle.model.proofs.sound.PieceLaws.{pieceAt-beyond}
 use Rattle.model.proofs.sound.PartialLaws.{found-or-none}
 use Rattle.model.proofs.sound.SoundPartials.{Standing, partials-ok-standing, standing-partials-ok}
 use Rattle.memory_records.specs.declared.record.DownloadingPiece.{DownloadingPiece as Record}
-use Rattle.memory_layout.specs.Tables.{tabulate}
 use Rattle.memory_layout.specs.Offsets.{placesFor}
 use Rattle.memory_layout.specs.Decode.{headWord, pieceCell, peerWord, recordAt, blocksOf, pieceHeld, blockHeld, blocksHeld, partialFrom}
 use Rattle.memory_layout.specs.Decode.{partialHeld, piecesHeld, partialsHeld, decodeAt}
@@ -53,7 +52,8 @@ same-test false false f g = refl
 
 module _ (rs : List Record) (words cells : List ℕ) (n b : ℕ) (fits : (p j : ℕ) → peerWord words n b p j < 2 ^ 64) where
   -- ---- one partial
-  good-sound : (k : ℕ) → goodAt rs words cells n b k ≡ true → PartialSound (decodeAt n b rs words cells) (indexAt rs k) (heldAt rs words cells n b k)
+  good-sound : (k : ℕ) → goodAt rs words cells n b k ≡ true → PartialSound (decodeAt n b rs words cells) (indexAt rs k)
+      (heldAt rs words cells n b k)
   unfolding blocksGood partialHeld partialFrom blocksHeld blocksInPiece blocksOf
   good-sound k h =
       let g = good-parts rs words cells n b k h in
@@ -94,7 +94,8 @@ module _ (rs : List Record) (words cells : List ℕ) (n b : ℕ) (fits : (p j : 
       let d = both-true (rowsOk cells n b (placeAt rs k) m) _ (g .3) in
       rw (g .2) (rows-raw words cells n b fits (placeAt rs k) m (d .0))
 
-  next-parts : (k : ℕ) → recordNext rs words cells n b k ≡ true → (lowest 0 (indexAt rs) k ≤ indexAt rs k) × (goodAt rs words cells n b k ≡ true)
+  next-parts : (k : ℕ) → recordNext rs words cells n b k ≡ true → (lowest 0 (indexAt rs) k ≤ indexAt rs k)
+      × (goodAt rs words cells n b k ≡ true)
   unfolding recordNext
   next-parts k h =
       let a = both-true (leb (lowest 0 (indexAt rs) k) (indexAt rs k)) _ h in
@@ -138,18 +139,23 @@ module _ (rs : List Record) (words cells : List ℕ) (n b : ℕ) (fits : (p j : 
           rising-from 0 (headWord words 7) (heldAt rs words cells n b) (λ k l.
           next-parts k (all-at (recordNext rs words cells n b) (headWord words 7) h k l) .0)
 
-      found-shut : (i : ℕ) (d : DownloadingPiece) → findDlPiece i (partialsHeld rs words cells n b) ≡ some d → (i < n) × (isOpen (pieceAt (decodeAt n b rs words cells) i .state) ≡ false)
+      found-shut : (i : ℕ) (d : DownloadingPiece) → findDlPiece i (partialsHeld rs words cells n b) ≡ some d → (i < n)
+          × (isOpen (pieceAt (decodeAt n b rs words cells) i .state) ≡ false)
       unfolding partialsHeld partialHeld partialFrom
       found-shut i d e =
-          found-has (λ j x. (j < n) × (isOpen (pieceAt (decodeAt n b rs words cells) j .state) ≡ false)) (headWord words 7) (heldAt rs words cells n b) (λ k l.
+          found-has (λ j x. (j < n) × (isOpen (pieceAt (decodeAt n b rs words cells) j .state) ≡ false)) (headWord words 7)
+          (heldAt rs words cells n b) (λ k l.
           let g = good-parts rs words cells n b k (good-at k l) in (g .0, open-at (indexAt rs k) (g .0) ∙ g .1)) i d e
 
-      found-sound : (i : ℕ) (d : DownloadingPiece) → findDlPiece i (partialsHeld rs words cells n b) ≡ some d → PartialSound (decodeAt n b rs words cells) i d
+      found-sound : (i : ℕ) (d : DownloadingPiece) → findDlPiece i (partialsHeld rs words cells n b) ≡ some d
+          → PartialSound (decodeAt n b rs words cells) i d
       unfolding partialsHeld partialHeld partialFrom
       found-sound i d e =
-          found-has (PartialSound (decodeAt n b rs words cells)) (headWord words 7) (heldAt rs words cells n b) (λ k l. good-sound k (good-at k l)) i d e
+          found-has (PartialSound (decodeAt n b rs words cells)) (headWord words 7) (heldAt rs words cells n b)
+          (λ k l. good-sound k (good-at k l)) i d e
 
-      held-shut : (i : ℕ) → held (partialsHeld rs words cells n b) i ≡ true → (i < n) × (isOpen (pieceAt (decodeAt n b rs words cells) i .state) ≡ false)
+      held-shut : (i : ℕ) → held (partialsHeld rs words cells n b) i ≡ true → (i < n)
+          × (isOpen (pieceAt (decodeAt n b rs words cells) i .state) ≡ false)
       held-shut i e = elim (found-or-none i (partialsHeld rs words cells n b)) [
         | inl q ↦ absurd (not-both (held (partialsHeld rs words cells n b) i) e (held-none (partialsHeld rs words cells n b) i q))
         | inr q ↦ found-shut i (q .0) (q .1)
@@ -160,21 +166,25 @@ module _ (rs : List Record) (words cells : List ℕ) (n b : ℕ) (fits : (p j : 
       held-count =
           count-held 0 n (partialsHeld rs words cells n b) rising (λ i e. held-shut i e .0) ∙ partials-size n b rs words cells ∙ sym c
 
-      shut-held : (i : ℕ) → i < n → isOpen (pieceAt (decodeAt n b rs words cells) i .state) ≡ false → held (partialsHeld rs words cells n b) i ≡ true
+      shut-held : (i : ℕ) → i < n → isOpen (pieceAt (decodeAt n b rs words cells) i .state) ≡ false
+          → held (partialsHeld rs words cells n b) i ≡ true
       shut-held i l e =
           count-tight (held (partialsHeld rs words cells n b)) (λ j. not (eqb (pieceCell cells n 1 j) 4)) n (λ j m q.
           ap not (sym (open-at j m) ∙ held-shut j q .1)) held-count i l (ap not (sym (open-at i l) ∙ e))
 
-      vacant-open : (i : ℕ) → findDlPiece i (partialsHeld rs words cells n b) ≡ none → isOpen (pieceAt (decodeAt n b rs words cells) i .state) ≡ true
+      vacant-open : (i : ℕ) → findDlPiece i (partialsHeld rs words cells n b) ≡ none
+          → isOpen (pieceAt (decodeAt n b rs words cells) i .state) ≡ true
       vacant-open i e = elim (decLe n i) [
         | yes l ↦ beyond-open i l
         | no l ↦ elim (true-or-false (isOpen (pieceAt (decodeAt n b rs words cells) i .state))) [
           | inl o ↦ o
-          | inr o ↦ absurd (not-both (held (partialsHeld rs words cells n b) i) (shut-held i (omega arith) o) (held-none (partialsHeld rs words cells n b) i e))
+          | inr o ↦ absurd (not-both (held (partialsHeld rs words cells n b) i) (shut-held i (omega arith) o)
+              (held-none (partialsHeld rs words cells n b) i e))
         ]
       ]
 
-      open-vacant : (i : ℕ) → isOpen (pieceAt (decodeAt n b rs words cells) i .state) ≡ true → findDlPiece i (partialsHeld rs words cells n b) ≡ none
+      open-vacant : (i : ℕ) → isOpen (pieceAt (decodeAt n b rs words cells) i .state) ≡ true
+          → findDlPiece i (partialsHeld rs words cells n b) ≡ none
       open-vacant i o = elim (found-or-none i (partialsHeld rs words cells n b)) [
         | inl q ↦ q
         | inr q ↦ absurd (not-both (isOpen (pieceAt (decodeAt n b rs words cells) i .state)) o (found-shut i (q .0) (q .1) .1))
@@ -192,15 +202,18 @@ module _ (rs : List Record) (words cells : List ℕ) (n b : ℕ) (fits : (p j : 
       pass-partials = standing-partials-ok (decodeAt n b rs words cells) few-partials pass-standing
 
     -- ---- from the picker to the pass
-    module _ (raw : every (rawAt rs words cells n b) (from 0 (headWord words 7)) ≡ true) (ok : partialsOk (decodeAt n b rs words cells) 0 0 (piecesHeld words cells n) (partialsHeld rs words cells n b) ≡ true) where
+    module _ (raw : every (rawAt rs words cells n b) (from 0 (headWord words 7)) ≡ true)
+        (ok : partialsOk (decodeAt n b rs words cells) 0 0 (piecesHeld words cells n) (partialsHeld rs words cells n b) ≡ true) where
       stands : Standing (decodeAt n b rs words cells) 0 (partialsHeld rs words cells n b)
       stands = partials-ok-standing (decodeAt n b rs words cells) ok .1
 
-      here : (k : ℕ) → k < headWord words 7 → findDlPiece (indexAt rs k) (partialsHeld rs words cells n b) ≡ some (heldAt rs words cells n b k)
+      here : (k : ℕ) → k < headWord words 7 → findDlPiece (indexAt rs k) (partialsHeld rs words cells n b)
+          ≡ some (heldAt rs words cells n b k)
       unfolding partialsHeld partialHeld partialFrom
       here k l = found-each 0 (headWord words 7) (heldAt rs words cells n b) (stands .rising) k l
 
-      found-not-open : (i : ℕ) (d : DownloadingPiece) → findDlPiece i (partialsHeld rs words cells n b) ≡ some d → isOpen (pieceAt (decodeAt n b rs words cells) i .state) ≡ false
+      found-not-open : (i : ℕ) (d : DownloadingPiece) → findDlPiece i (partialsHeld rs words cells n b) ≡ some d
+          → isOpen (pieceAt (decodeAt n b rs words cells) i .state) ≡ false
       found-not-open i d e = elim (true-or-false (isOpen (pieceAt (decodeAt n b rs words cells) i .state))) [
         | inl o ↦ absurd (Option·none-ne-some d (sym (stands .vacant i (omega arith) o) ∙ e))
         | inr o ↦ o
@@ -233,7 +246,8 @@ module _ (rs : List Record) (words cells : List ℕ) (n b : ℕ) (fits : (p j : 
       held-at : (i : ℕ) → i < n → not (eqb (pieceCell cells n 1 i) 4) ≡ held (partialsHeld rs words cells n b) i
       held-at i l = elim (found-or-none i (partialsHeld rs words cells n b)) [
         | inl q ↦ ap not (sym (open-at i l) ∙ stands .standing i (omega arith) q) ∙ sym (held-none (partialsHeld rs words cells n b) i q)
-        | inr q ↦ ap not (sym (open-at i l) ∙ found-not-open i (q .0) (q .1)) ∙ sym (held-some (partialsHeld rs words cells n b) i (q .0) (q .1))
+        | inr q ↦ ap not (sym (open-at i l) ∙ found-not-open i (q .0) (q .1))
+            ∙ sym (held-some (partialsHeld rs words cells n b) i (q .0) (q .1))
       ]
 
       held-below : (i : ℕ) → held (partialsHeld rs words cells n b) i ≡ true → i < n
@@ -251,7 +265,8 @@ module _ (rs : List Record) (words cells : List ℕ) (n b : ℕ) (fits : (p j : 
 
     -- ---- both
     pub pass-is : (allBelow (recordNext rs words cells n b) (headWord words 7) && eqb (atWork cells n) (headWord words 7))
-        ≡ (every (rawAt rs words cells n b) (from 0 (headWord words 7)) && partialsOk (decodeAt n b rs words cells) 0 0 (piecesHeld words cells n) (partialsHeld rs words cells n b))
+        ≡ (every (rawAt rs words cells n b) (from 0 (headWord words 7)) && partialsOk (decodeAt n b rs words cells) 0 0
+        (piecesHeld words cells n) (partialsHeld rs words cells n b))
     pass-is =
         same-test _ _ (λ e.
         let a = both-true (allBelow (recordNext rs words cells n b) (headWord words 7)) _ e in

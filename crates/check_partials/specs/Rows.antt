@@ -1,7 +1,7 @@
 -- What the tests of records and their blocks ask of the numbers, and what stands before they are made. Assumes nothing.
-use Prim.Native.Nat.{ℕ, zero, suc, _+_, _≤_, _<_}
+use Prim.Native.Nat.{ℕ, _+_}
 use mathlib.Core.Path.{_≡_}
-use mathlib.Core.Bool.{Bool, true, cond, not, _&&_, _||_}
+use mathlib.Core.Bool.{Bool, cond, _&&_, _||_}
 use mathlib.Core.List.{List}
 use lib.ListN.{getD}
 use lib.Dec.{eqb, ltb, leb}
@@ -10,7 +10,7 @@ use Rattle.types.specs.declared.queue.DownloadQueue.the-variants.{Downloading, 
 use Rattle.types.specs.Queue.{unreverse}
 use Rattle.model.specs.Lists.{bit}
 use Rattle.model.specs.State.{sameQueue, maxPeers}
-use Rattle.memory_layout.specs.Decode.{pieceCell, blockCell, queueFrom}
+use Rattle.memory_layout.specs.Decode.{blockCell, queueFrom}
 use Rattle.check_partials.specs.declared.blocks.Joined.{Joined}
 use Rattle.check_partials.specs.declared.blocks.Counts.{Counts}
 use Rattle.check_partials.specs.Below.{allBelow, countBelow}

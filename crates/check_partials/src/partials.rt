@@ -44,7 +44,7 @@ fn pieces_at_work(cells: &[u16], s: Shape) -> usize
     u16_to_usize(many)
 }
 
-// No record.
+// The answer for a record that fails.
 fn refused() -> Counted
     ensures { λ r. ⌜ r .ok ≡ false ⌝ }
 {
@@ -156,7 +156,8 @@ fn records_pass(
     requires { ⌜ (Ready s (now words) (now cells)) × (Placed s (recordsIn live (now rows)) live) ⌝ }
     requires { ⌜ (length (now rows) ≡ 1536) × (length (now counts) ≡ 1536) ⌝ }
     ensures test { λ r. ⌜ r
-        ≡ allBelow (recordNext (recordsIn live (now (rows .entry))) (now (words .entry)) (now (cells .entry)) (s .pieces) (s .blocks)) live ⌝ }
+        ≡ allBelow (recordNext (recordsIn live (now (rows .entry))) (now (words .entry)) (now (cells .entry)) (s .pieces) (s .blocks))
+        live ⌝ }
     ensures long { λ r. ⌜ length (now (counts .exit)) ≡ 1536 ⌝ }
     ensures counted { λ r. ⌜ (r ≡ true
         → Columns (recordsIn live (now (rows .entry))) (now (words .entry)) (now (cells .entry)) (s .pieces) (s .blocks) live

@@ -17,7 +17,8 @@ rows-pass-requires : tie.Need-rows-pass-requires
 rows-pass-requires c κs = search needs
 
 returns : tie.Need-returns
-returns c = place-answer _ _ _ _ _ _ _ (c .before .before .before .block-column .ensures) (c .before .before .block-column2 .ensures) (c .before .block-column3 .ensures) _ _ (c .rows-pass .ensures)
+returns c = place-answer _ _ _ _ _ _ _ (c .before .before .before .block-column .ensures) (c .before .before .block-column2 .ensures)
+    (c .before .block-column3 .ensures) _ _ (c .rows-pass .ensures)
 
 pub blocks-ok-spec : {M : Type 1} → statement M
 blocks-ok-spec =

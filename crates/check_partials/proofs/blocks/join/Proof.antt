@@ -9,7 +9,8 @@ over-requires : tie.Need-over-requires
 over-requires c κs = search needs
 
 returns : tie.Need-returns
-returns c = let a = c .before .before .before .before .args in join-row (a .sum) (a .state) (a .num-peers) (a .has) (c .before .before .over .result) (c .before .before .over .ensures)
+returns c = let a = c .before .before .before .before .args in join-row (a .sum) (a .state) (a .num-peers) (a .has)
+    (c .before .before .over .result) (c .before .before .over .ensures)
 
 pub join-spec : {M : Type 1} → statement M
 join-spec = tie.close (tie.spec over-requires returns)

@@ -39,7 +39,8 @@ join-requires : tie.Need-join-requires Inv-loop μ-loop
 join-requires c κs = search needs
 
 count-block-requires : tie.Need-count-block-requires Inv-loop μ-loop
-count-block-requires c κs = let f = numbers-few _ _ _ (c .before .before .before .before .before .loop .inv .1 .numbers) in (omega (arith, f .0), omega (arith, f .1), omega (arith, f .2))
+count-block-requires c κs = let f = numbers-few _ _ _ (c .before .before .before .before .before .loop .inv .1 .numbers) in
+    (omega (arith, f .0), omega (arith, f .1), omega (arith, f .2))
 
 add-j : tie.Need-add-j Inv-loop μ-loop
 add-j c = search needs
@@ -49,7 +50,11 @@ loop-less c = search needs
 
 loop-again : tie.Need-loop-again Inv-loop μ-loop
 unfolding rowIn
-loop-again c = (omega arith, counting-next _ _ _ _ _ _ _ _ (c .before .before .before .before .before .before .loop .inv .1) (c .before .join .ensures) (c .count-block .ensures))
+loop-again c = (
+  omega arith,
+  counting-next _ _ _ _ _ _ _ _ (c .before .before .before .before .before .before .loop .inv .1)
+      (c .before .join .ensures) (c .count-block .ensures),
+)
 
 joined-ok-requires : tie.Need-joined-ok-requires Inv-loop μ-loop
 joined-ok-requires c κs = search needs

@@ -28,7 +28,13 @@ one-if-requires : tie.Need-one-if-requires Inv-loop μ-loop
 one-if-requires c κs = search needs
 
 add-many : tie.Need-add-many Inv-loop μ-loop
-add-many c = omega (arith, c .before .before .before .before .loop .inv .1 .few, c .one-if .ensures .1, c .before .before .before .before .before .before .before .pre .sizes .many)
+add-many c = omega (
+  arith,
+  c .before .before .before .before .loop .inv .1 .few,
+  c .one-if .ensures .1,
+  c .before .before .before .before
+      .before .before .before .pre .sizes .many,
+)
 
 add-i : tie.Need-add-i Inv-loop μ-loop
 add-i c = search needs
@@ -37,13 +43,18 @@ loop-less : tie.Need-loop-less Inv-loop μ-loop
 loop-less c = search needs
 
 loop-again : tie.Need-loop-again Inv-loop μ-loop
-loop-again c = (omega arith, working-next _ _ _ _ (c .before .before .before .before .loop .inv .1) (c .one-if .ensures .0) (c .one-if .ensures .1))
+loop-again c = (
+  omega arith,
+  working-next _ _ _ _ (c .before .before .before .before .loop .inv .1) (c .one-if .ensures .0)
+      (c .one-if .ensures .1),
+)
 
 u16-to-usize-requires : tie.Need-u16-to-usize-requires Inv-loop μ-loop
 u16-to-usize-requires c κs = search needs
 
 returns : tie.Need-returns Inv-loop μ-loop
-returns c = working-end _ _ _ _ _ _ (c .before .before .before .before .piece-column .ensures) (c .before .before .before .loop .inv .1) (omega arith) (c .u16-to-usize .ensures)
+returns c = working-end _ _ _ _ _ _ (c .before .before .before .before .piece-column .ensures) (c .before .before .before .loop .inv .1)
+    (omega arith) (c .u16-to-usize .ensures)
 
 pub pieces-at-work-spec : {M : Type 1} → statement M
 pieces-at-work-spec =

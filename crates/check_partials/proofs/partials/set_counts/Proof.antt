@@ -20,7 +20,13 @@ mul-counts-2 : tie.Need-mul-counts-2
 mul-counts-2 c = search needs
 
 slice-write-counts-2 : tie.Need-slice-write-counts-2
-slice-write-counts-2 c = let a = c .args in let h = c .pre in omega (arith, h .0, h .1, length-set (a .counts .now) (a .k) (a .c .requested))
+slice-write-counts-2 c = let a = c .args in let h = c .pre in omega (
+  arith,
+  h .0,
+  h .1,
+  length-set (a .counts .now) (a .k)
+      (a .c .requested),
+)
 
 add-counts-2 : tie.Need-add-counts-2
 add-counts-2 c = search needs
@@ -29,7 +35,14 @@ mul-counts-3 : tie.Need-mul-counts-3
 mul-counts-3 c = search needs
 
 slice-write-counts-3 : tie.Need-slice-write-counts-3
-slice-write-counts-3 c = let a = c .args in let h = c .pre in omega (arith, h .0, h .1, length-set (a .counts .now) (a .k) (a .c .requested), length-set (set (a .counts .now) (a .k) (a .c .requested)) (512 + a .k) (a .c .writing))
+slice-write-counts-3 c = let a = c .args in let h = c .pre in omega (
+  arith,
+  h .0,
+  h .1,
+  length-set (a .counts .now) (a .k)
+      (a .c .requested),
+  length-set (set (a .counts .now) (a .k) (a .c .requested)) (512 + a .k) (a .c .writing),
+)
 
 same-length : tie.Need-same-length
 same-length c = search needs

@@ -15,7 +15,8 @@ state-due-requires : tie.Need-state-due-requires
 state-due-requires c κs = search needs
 
 returns-2 : tie.Need-returns-2
-returns-2 c = state-due _ _ _ _ _ _ _ _ (⊎-elim (λ w. inl (w .1 .left)) (λ w. inr (w .left)) (c .before .before .if1 .came)) (c .before .plain-state .ensures) (c .state-due .ensures)
+returns-2 c = state-due _ _ _ _ _ _ _ _ (⊎-elim (λ w. inl (w .1 .left)) (λ w. inr (w .left)) (c .before .before .if1 .came))
+    (c .before .plain-state .ensures) (c .state-due .ensures)
 
 pub state-ok-spec : {M : Type 1} → statement M
 state-ok-spec = tie.close (tie.spec returns plain-state-requires state-due-requires returns-2)
