@@ -1,0 +1,12 @@
+pub mod BelowLaws
+pub mod PlaceLaws
+pub mod JoinLaws
+pub mod CountLaws
+pub mod StateLaws
+pub mod HeldLaws
+pub mod MeaningLaws
+pub mod PassLaws
+pub mod WholeLaws
+pub mod GoodLaws
+pub mod StoreLaws
+pub mod ReadyLaws
