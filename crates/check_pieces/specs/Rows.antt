@@ -1,4 +1,5 @@
--- What the tests of the pieces read: the four cells of a piece as a piece, its rank and its test; the columns of all pieces. Assumes nothing.
+-- What the tests of the pieces read: the four cells of a piece as a piece, its rank and its test; the columns of all pieces.
+-- Assumes nothing.
 use Prim.Native.Nat.{ℕ, _+_, _-_, _/_, _≤_, _<_}
 use mathlib.Core.Path.{_≡_}
 use mathlib.Core.Bool.{Bool, true, false, not, _&&_, _||_}

@@ -1,5 +1,5 @@
-// The cells of one piece: what is wrong with them, and its rank. Neither has a way out in the middle of its caller's loop, and no cell makes
-// a number wrap.
+// The cells of one piece: what is wrong with them, and its rank. Neither has a way out in the middle of its caller's loop, and no
+// cell makes a number wrap.
 ghost use mathlib.Core.Path.{_≡_};
 ghost use mathlib.Core.Bool.{not, _||_};
 ghost use Prim.Native.Nat.{_-_, _≤_, min};
