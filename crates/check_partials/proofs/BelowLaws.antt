@@ -1,7 +1,7 @@
 -- Tests on the numbers below one: one number more, one that fails, and the same tests on lists. Assumes nothing.
 use mathlib.Core.Path.{_≡_, refl, sym, ap, ap₂, _∙_}
 use mathlib.Core.Logic.{inl, inr}
-use mathlib.Core.Bool.{Bool, true, false, not, _&&_, _||_}
+use mathlib.Core.Bool.{Bool, true, false, _&&_, _||_}
 use mathlib.Core.List.{[], _∷_}
 use Prim.Native.Nat.{ℕ, zero, suc, _+_, _≤_, _<_}
 use native.Mathlib.Numerals.{add-one}
@@ -65,17 +65,6 @@ module _ (t : ℕ → Bool) where
   unfolding countBelow
   count-none zero h = refl
   count-none (suc n) h = rw (count-none n (λ k l. h k (omega arith)), h n (omega arith))
-
-  -- those that pass and those that do not
-  pub count-not : (n : ℕ) → countBelow t n + countBelow (λ k. not (t k)) n ≡ n
-  unfolding countBelow
-  count-not zero = refl
-  count-not (suc n) = go (t n) (count-not n)
-    where
-      go : (p : Bool) → countBelow t n + countBelow (λ k. not (t k)) n ≡ n
-          → countBelow t n + bit p + (countBelow (λ k. not (t k)) n + bit (not p)) ≡ suc n
-      go true e = omega arith
-      go false e = omega arith
 
 -- ---- two tests
 module _ (t u : ℕ → Bool) where
