@@ -1,7 +1,7 @@
 -- The lengths of the buffers: what each test of one says of all three, and what they give. Assumes nothing.
 use Prim.Native.Nat.{ℕ, _+_, _*_, _≤_, _<_}
-use mathlib.Core.Path.{_≡_, sym}
-use mathlib.Core.Bool.{Bool, true, false, not, _&&_}
+use mathlib.Core.Path.{_≡_}
+use mathlib.Core.Bool.{true, false, not}
 use mathlib.Core.List.{List}
 use lib.Dec.{leb}
 use lib.ListN.{length}
@@ -9,7 +9,7 @@ use native.Mathlib.Omega.{arith}
 use borrow.Author.Tests.{le-leb, lt-leb, leb-true, not-false}
 use Rattle.model.proofs.base.Truths.{both-true}
 use Rattle.memory_layout.specs.declared.shape.Shape.{Shape}
-use Rattle.memory_layout.specs.Offsets.{placesFor, wordsFor, cellsFor}
+use Rattle.memory_layout.specs.Offsets.{wordsFor, cellsFor}
 use Rattle.memory_layout.specs.Decode.{piecesOn, blocksOn}
 use Rattle.memory_layout.specs.Bounds.{ShapeOf, Spans}
 use Rattle.memory_layout.specs.Good.{short}

@@ -1,3 +1,4 @@
 pub mod LengthLaws
 pub mod RowLaws
 pub mod VerdictLaws
+pub mod Standing

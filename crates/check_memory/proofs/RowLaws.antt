@@ -1,10 +1,9 @@
 -- The parts behind the head one after another: what each return says of all of them. Assumes nothing.
 use Prim.Native.Nat.{ℕ, _≤_}
-use mathlib.Core.Path.{_≡_, refl, sym, _∙_}
+use mathlib.Core.Path.{_≡_, sym}
 use mathlib.Core.Bool.{Bool, true, false, true≢false}
 use mathlib.Core.List.{List}
 use lib.ListN.{length}
-use Rattle.model.proofs.base.Truths.{true-both}
 use Rattle.memory_records.specs.Rows.{recordsIn}
 use Rattle.memory_layout.specs.Decode.{decode}
 use Rattle.memory_layout.specs.Good.{goodPieces, goodPlaces, goodPartials, goodExtents, goodList}
@@ -39,7 +38,8 @@ module _ (live : ℕ) (rows words cells counts : List ℕ) (long : length counts
         bad-extents e = no (unfold goodRows in rw (a, b, d, e))
 
         -- the list decides
-        pub by-list : goodExtents (recordsIn live rows) words cells ≡ true → CountsHeld (decode (recordsIn live rows) words cells) live counts
+        pub by-list : goodExtents (recordsIn live rows) words cells ≡ true → CountsHeld (decode
+            (recordsIn live rows) words cells) live counts
             → (r : Bool) → r ≡ goodList (recordsIn live rows) words cells → RowTest r live rows words cells counts
         by-list e held r f =
             record { is = unfold goodRows in rw (a, b, d, e) f; counted = λ h. held; long = long }

@@ -10,12 +10,14 @@ use native.Mathlib.Omega.{arith}
 use borrow.Author.Tests.{lt-ltb, le-ltb}
 use Rattle.types.specs.declared.refusal.Refusal.the-variants.{ShortMemory, IllFormedMemory}
 use Rattle.model.specs.State.{validGeometry}
+use Rattle.model.specs.image.WellFormed.{headOk}
+use Rattle.memory_records.specs.declared.record.DownloadingPiece.{DownloadingPiece as Record}
 use Rattle.memory_records.specs.Rows.{liveRecords, recordsIn}
 use Rattle.memory_records.proofs.laws.LiveLaws.{live-few}
 use Rattle.memory_layout.proofs.OffsetLaws.{small}
 use Rattle.memory_layout.specs.declared.shape.Shape.{Shape}
-use Rattle.memory_layout.specs.Decode.{headWord, piecesOn, decode}
-use Rattle.memory_layout.specs.Bounds.{ShapeOf, Spans}
+use Rattle.memory_layout.specs.Decode.{headWord, decode}
+use Rattle.memory_layout.specs.Bounds.{ShapeOf}
 use Rattle.memory_layout.specs.Good.{short, orElse, goodHead, goodBody, memoryRefusal}
 use Rattle.check_pieces.specs.Parts.{HeadTest, HeadPassed}
 use Rattle.check_pieces.proofs.HeadLaws.{headed}
@@ -32,9 +34,14 @@ geometry-read words total size r e f g t h = (λ k. validGeometry (sym e k) (sym
 pub head-says : (r : Bool) (words : List ℕ) → HeadTest r words → (t : Bool) → r ≡ t → HeadTest t words
 head-says r words h t e records cells = sym e ∙ h records cells
 
+-- records and cells have no say in the head
+pub head-any : (rs : List Record) (words cells : List ℕ) → goodHead rs words cells ≡ true → HeadTest true words
+unfolding goodHead headOk
+head-any rs words cells h records more = sym h
+
 module _ (s : Shape) (lent : ℕ) (words cells : List ℕ) (g : ShapeOf s words) (h : 16 ≤ length words)
     (v : validGeometry (headWord words 0) (headWord words 1) ≡ true) (t : short lent words cells ≡ false) (a : HeadTest true words) where
-  passed : HeadPassed s words
+  pub passed : HeadPassed s words
   passed =
       record {
         inWords = spanned s lent words cells g t .inWords;

@@ -25,16 +25,19 @@ mul-if2 : tie.Need-mul-if2
 mul-if2 c = search needs
 
 mul-if2-2 : tie.Need-mul-if2-2
-mul-if2-2 c = let m = small (c .before .before .before .before .args .s) 0 0 (c .before .before .before .before .pre .sizes) (omega arith) (omega arith) in omega arith
+mul-if2-2 c = let m = small (c .before .before .before .before .args .s) 0 0 (c .before .before .before .before .pre .sizes)
+    (omega arith) (omega arith) in omega arith
 
 add-if2 : tie.Need-add-if2
-add-if2 c = let m = small (c .before .before .before .before .args .s) 0 0 (c .before .before .before .before .pre .sizes) (omega arith) (omega arith) in omega arith
+add-if2 c = let m = small (c .before .before .before .before .args .s) 0 0 (c .before .before .before .before .pre .sizes)
+    (omega arith) (omega arith) in omega arith
 
 returns-2 : tie.Need-returns-2
 returns-2 c = few-cells _ _ _ _ (c .before .before .before .before .before .pre) (c .before .before .if1 .left) (c .if2 .taken)
 
 returns-3 : tie.Need-returns-3
-returns-3 c = by-lent _ _ _ _ (c .before .before .before .before .before .before .pre) (c .before .before .before .if1 .left) (c .before .if2 .left)
+returns-3 c = by-lent _ _ _ _ (c .before .before .before .before .before .before .pre) (c .before .before .before .if1 .left)
+    (c .before .if2 .left)
 
 pub fits-spec : {M : Type 1} → statement M
 fits-spec =
