@@ -9,7 +9,7 @@ definitions from another folder.
 The driver's and not the definition's, since the definition starts from a picker that stands:
 - where no picker stands (`zero`, or nothing read or made before), the answers of docs/DECISIONS.md 4: 2 for memory shorter than the
   head, else 3. So refusal 3 is the driver's alone;
-- a negative number is lent as its 64 bits without a sign, which is out of range wherever a range is judged;
+- a negative number is lent as 2^63, as the code's contracts read it (`numberOf`): out of range wherever a range is judged;
 - `none` among the numbers of a question is printed as `0 0` for a peer, -1 for a bucket."""
 import argparse
 import multiprocessing
@@ -72,7 +72,7 @@ class Words:
 
 
 def natural(n):
-    return n if n >= 0 else n + 2**64
+    return n if n >= 0 else 2**63
 
 
 def peer_value(peer):

@@ -8,7 +8,7 @@ use types::BLOCK_SIZE;
 use types::PieceIndex;
 ghost use mathlib.Core.Path.{_≡_};
 ghost use Prim.Native.Nat.{_<_};
-ghost use Rattle.types.specs.Piece.{indexOf};
+ghost use Rattle.types.specs.Piece.{numberOf};
 ghost use Rattle.model.specs.Bep3.{numPieces, blockLength, blockLengthAt, blockCount, wholePieceBlocks, pieceBlocks};
 ghost use Rattle.geometry.specs.Numbers.{payloadBlocks};
 
@@ -46,16 +46,16 @@ pub fn blocks_at(total: u64, size: u64, p: u64) -> u64
 
 // The number of blocks of a piece.
 pub fn blocks_in_piece(total: u64, size: u64, piece: PieceIndex) -> u64
-    requires { ⌜ indexOf (piece .0) < numPieces total size ⌝ }
-    ensures { λ r. ⌜ r ≡ pieceBlocks total size (indexOf (piece .0)) ⌝ }
+    requires { ⌜ numberOf (piece .0) < numPieces total size ⌝ }
+    ensures { λ r. ⌜ r ≡ pieceBlocks total size (numberOf (piece .0)) ⌝ }
 {
     blocks_at(total, size, number_of(piece))
 }
 
 // The blocks of a piece without those that `pad` bytes fill whole; 0 where pads would fill more than there are.
 pub fn payload_blocks_in_piece(total: u64, size: u64, piece: PieceIndex, pad: u64) -> u64
-    requires { ⌜ indexOf (piece .0) < numPieces total size ⌝ }
-    ensures { λ r. ⌜ r ≡ payloadBlocks total size (indexOf (piece .0)) pad ⌝ }
+    requires { ⌜ numberOf (piece .0) < numPieces total size ⌝ }
+    ensures { λ r. ⌜ r ≡ payloadBlocks total size (numberOf (piece .0)) pad ⌝ }
 {
     let blocks = blocks_in_piece(total, size, piece);
     let pads = pad / block_size(size);
@@ -64,9 +64,9 @@ pub fn payload_blocks_in_piece(total: u64, size: u64, piece: PieceIndex, pad: u6
 
 // The length of block j of a piece.
 pub fn block_length(total: u64, size: u64, piece: PieceIndex, j: u64) -> u64
-    requires { ⌜ indexOf (piece .0) < numPieces total size ⌝ }
-    requires { ⌜ j < pieceBlocks total size (indexOf (piece .0)) ⌝ }
-    ensures { λ r. ⌜ r ≡ blockLengthAt total size (indexOf (piece .0)) j ⌝ }
+    requires { ⌜ numberOf (piece .0) < numPieces total size ⌝ }
+    requires { ⌜ j < pieceBlocks total size (numberOf (piece .0)) ⌝ }
+    ensures { λ r. ⌜ r ≡ blockLengthAt total size (numberOf (piece .0)) j ⌝ }
 {
     part_length(piece_size(total, size, piece), block_size(size), j)
 }

@@ -5,7 +5,7 @@ use types::MAX_PIECE_AFFINITY_EXTENT;
 use types::PieceIndex;
 ghost use mathlib.Core.Path.{_≡_};
 ghost use Prim.Native.Nat.{_<_};
-ghost use Rattle.types.specs.Piece.{indexOf};
+ghost use Rattle.types.specs.Piece.{numberOf};
 ghost use Rattle.model.specs.State.{extentSize, numExtents};
 ghost use Rattle.geometry.specs.Numbers.{extentOf, extentBegin, extentEnd};
 
@@ -37,7 +37,7 @@ pub fn num_extents(n: u64, b: u64) -> u64
 
 // The extent of a piece.
 pub fn extent_for(b: u64, piece: PieceIndex) -> u64
-    ensures { λ r. ⌜ r ≡ extentOf b (indexOf (piece .0)) ⌝ }
+    ensures { λ r. ⌜ r ≡ extentOf b (numberOf (piece .0)) ⌝ }
 {
     let long = extent_size(b);
     if long == 0 {

@@ -6,7 +6,7 @@ use types::MAX_PIECES;
 use types::PieceIndex;
 ghost use mathlib.Core.Path.{_≡_};
 ghost use Prim.Native.Nat.{_<_};
-ghost use Rattle.types.specs.Piece.{indexOf};
+ghost use Rattle.types.specs.Piece.{numberOf};
 ghost use Rattle.model.specs.Bep3.{numPieces, pieceLength};
 ghost use Rattle.model.specs.State.{validGeometry};
 
@@ -43,16 +43,16 @@ pub fn piece_length(total: u64, size: u64, p: u64) -> u64
 
 // The number of a piece as a word.
 pub fn number_of(piece: PieceIndex) -> u64
-    ensures { λ r. ⌜ r ≡ indexOf (piece .0) ⌝ }
+    ensures { λ r. ⌜ r ≡ numberOf (piece .0) ⌝ }
 {
-    let i = piece.get();
+    let i = piece.number();
     types::usize_to_u64(i)
 }
 
 // The length of a piece.
 pub fn piece_size(total: u64, size: u64, piece: PieceIndex) -> u64
-    requires { ⌜ indexOf (piece .0) < numPieces total size ⌝ }
-    ensures { λ r. ⌜ r ≡ pieceLength total size (indexOf (piece .0)) ⌝ }
+    requires { ⌜ numberOf (piece .0) < numPieces total size ⌝ }
+    ensures { λ r. ⌜ r ≡ pieceLength total size (numberOf (piece .0)) ⌝ }
 {
     piece_length(total, size, number_of(piece))
 }

@@ -2,7 +2,7 @@
 ghost use mathlib.Core.Path.{_≡_};
 ghost use Prim.Native.Nat.{_+_, _≤_, _<_};
 ghost use lib.ListN.{length};
-ghost use Rattle.types.specs.Piece.{indexOf};
+ghost use Rattle.types.specs.Piece.{numberOf};
 ghost use Rattle.model.specs.State.{fresh, listOf, withListing};
 ghost use Rattle.model.specs.list.Order.{rank, rebuilt, rebuildDraws, updated, updateDraws, drawing, updatePieces, update};
 ghost use Rattle.layout.specs.Layout.{decode, Room, Became};
@@ -83,16 +83,16 @@ pub fn update(
 ) -> usize
     requires { ⌜ Room s (now mem) ⌝ }
     requires { ⌜ Ranges (decode (now mem)) ⌝ }
-    requires { ⌜ indexOf (piece .0) < s .pieces ⌝ }
-    requires { ⌜ ListedBefore old (indexOf (piece .0)) (decode (now mem)) ⌝ }
+    requires { ⌜ numberOf (piece .0) < s .pieces ⌝ }
+    requires { ⌜ ListedBefore old (numberOf (piece .0)) (decode (now mem)) ⌝ }
     requires { ⌜ t ≤ length (now draws) ⌝ }
-    ensures { λ _. ⌜ Became s (now (mem .entry)) (now (mem .exit)) (update (now (draws .entry)) old (indexOf (piece .0)) (drawing t (decode (now (mem .entry)))) .picker) ⌝ }
-    ensures { λ r. ⌜ r ≡ update (now (draws .entry)) old (indexOf (piece .0)) (drawing t (decode (now (mem .entry)))) .used ⌝ }
+    ensures { λ _. ⌜ Became s (now (mem .entry)) (now (mem .exit)) (update (now (draws .entry)) old (numberOf (piece .0)) (drawing t (decode (now (mem .entry)))) .picker) ⌝ }
+    ensures { λ r. ⌜ r ≡ update (now (draws .entry)) old (numberOf (piece .0)) (drawing t (decode (now (mem .entry)))) .used ⌝ }
 {
     if heads::is_stale(mem, s) {
         return t;
     }
-    let i = piece.get();
+    let i = piece.number();
     if rank_at(mem, s, i) == old {
         return t;
     }

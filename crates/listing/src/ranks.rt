@@ -3,7 +3,7 @@ ghost use mathlib.Core.Path.{_≡_};
 ghost use Prim.Native.Nat.{_≤_, _<_};
 ghost use lib.Dec.{eqb};
 ghost use lib.ListN.{length};
-ghost use Rattle.types.specs.Piece.{indexOf};
+ghost use Rattle.types.specs.Piece.{numberOf};
 ghost use Rattle.types.specs.Queue.{queueNumber};
 ghost use Rattle.model.specs.list.Order.{rank};
 ghost use Rattle.layout.specs.Layout.{queueFrom, decode, Room};
@@ -41,10 +41,10 @@ pub fn rank_at(mem: &[u64], s: layout::Shape, i: usize) -> u64
 pub fn rank(mem: &[u64], s: layout::Shape, piece: types::PieceIndex) -> u64
     requires { ⌜ Room s (now mem) ⌝ }
     requires { ⌜ Ranges (decode (now mem)) ⌝ }
-    requires { ⌜ indexOf (piece .0) < s .pieces ⌝ }
-    ensures { λ r. ⌜ r ≡ rank (decode (now (mem .entry))) (indexOf (piece .0)) ⌝ }
+    requires { ⌜ numberOf (piece .0) < s .pieces ⌝ }
+    ensures { λ r. ⌜ r ≡ rank (decode (now (mem .entry))) (numberOf (piece .0)) ⌝ }
 {
-    rank_at(mem, s, piece.get())
+    rank_at(mem, s, piece.number())
 }
 
 // The ranks of all pieces. The ranks behind them stay as they were.

@@ -1,7 +1,7 @@
 // The record of a partial, read and stored as a whole, and where one for a piece is to stand.
 use types::PieceIndex;
 ghost use Prim.Native.Nat.{_<_};
-ghost use Rattle.types.specs.Piece.{indexOf};
+ghost use Rattle.types.specs.Piece.{numberOf};
 ghost use Rattle.layout.specs.Layout.{decode, Room, Spans};
 ghost use Rattle.partials.specs.Slots.{RecordAt, RecordPut, Position};
 
@@ -40,9 +40,9 @@ pub fn put_record(mem: &mut [u64], s: layout::Shape, k: usize, r: Record)
 // The first partial of a higher piece, or their number.
 pub fn position(mem: &[u64], s: layout::Shape, piece: PieceIndex) -> usize
     requires { ⌜ Room s (now mem) ⌝ }
-    ensures { λ r. ⌜ Position (decode (now (mem .entry))) (indexOf (piece .0)) r ⌝ }
+    ensures { λ r. ⌜ Position (decode (now (mem .entry))) (numberOf (piece .0)) r ⌝ }
 {
-    let number = types::usize_to_u64(piece.get());
+    let number = types::usize_to_u64(piece.number());
     let n = records::partial_count(mem, s);
     let mut k = 0;
     while k < n {

@@ -4,7 +4,7 @@ use types::PieceIndex;
 ghost use mathlib.Core.Path.{_≡_};
 ghost use Prim.Native.Nat.{_<_};
 ghost use lib.IntN.{pos};
-ghost use Rattle.types.specs.Piece.{indexOf};
+ghost use Rattle.types.specs.Piece.{numberOf};
 ghost use Rattle.model.specs.Lists.{len};
 ghost use Rattle.layout.specs.Layout.{decode, partialIn, withPartial, Room, Became};
 ghost use Rattle.records.specs.Rows.{FlagsRead, flagNumber, flagged};
@@ -43,7 +43,7 @@ pub fn partial_piece(mem: &[u64], s: layout::Shape, k: usize) -> PieceIndex
     requires { ⌜ k < len (decode (now mem) .partials) ⌝ }
     requires { ⌜ partialIn (decode (now mem)) k .piece < s .pieces ⌝ }
     ensures { λ r. ⌜ r .0 ≡ pos (partialIn (decode (now (mem .entry))) k .piece) ⌝ }
-    ensures { λ r. ⌜ indexOf (r .0) ≡ partialIn (decode (now (mem .entry))) k .piece ⌝ }
+    ensures { λ r. ⌜ numberOf (r .0) ≡ partialIn (decode (now (mem .entry))) k .piece ⌝ }
 {
     let i = types::u64_to_usize(piece_number(mem, s, k));
     PieceIndex::at(i)
@@ -87,9 +87,9 @@ pub fn set_partial_flags(mem: &mut [u64], s: layout::Shape, k: usize, f: Partial
 // The partial of a piece.
 pub fn find(mem: &[u64], s: layout::Shape, piece: PieceIndex) -> Found
     requires { ⌜ Room s (now mem) ⌝ }
-    ensures { λ r. ⌜ r ≡ placeFrom 0 (indexOf (piece .0)) (decode (now (mem .entry)) .partials) ⌝ }
+    ensures { λ r. ⌜ r ≡ placeFrom 0 (numberOf (piece .0)) (decode (now (mem .entry)) .partials) ⌝ }
 {
-    let wanted = types::usize_to_u64(piece.get());
+    let wanted = types::usize_to_u64(piece.number());
     let n = partial_count(mem, s);
     let mut k = 0;
     while k < n {

@@ -11,11 +11,15 @@ use lib.Signed.{ltZ, nonNeg}
 use mir.Syntax.{w32, w64}
 use mir.Val.{Fits, SFits, toZ, ofZ}
 use mir.ValLaws.{toZ-ofZ}
-use Rattle.types.specs.Piece.{indexOf, after, largest}
+use Rattle.types.specs.Piece.{numberOf, indexOf, after, largest}
 
 -- what holds of a number that fits holds of what its bits read as
 pub read : (P : ℤ → Type 0) {z : ℤ} → SFits w32 z → P z → P (toZ w32 (ofZ w32 z))
 read P {z} fit p = subst P (sym (toZ-ofZ w32 z fit)) p
+
+-- the same of 64 bits
+pub read-64 : (P : ℤ → Type 0) {z : ℤ} → SFits w64 z → P z → P (toZ w64 (ofZ w64 z))
+read-64 P {z} fit p = subst P (sym (toZ-ofZ w64 z fit)) p
 
 -- a number below 2^31 reads as itself
 pub reads : (n : ℕ) → n < 2147483648 → toZ w32 n ≡ pos n
@@ -25,6 +29,20 @@ pub places : (n : ℕ) (z : ℤ) → z ≡ pos n → indexOf z ≡ n
 unfolding indexOf
 places n z e = rw e refl
 
+pub numbers : (n : ℕ) (z : ℤ) → z ≡ pos n → numberOf z ≡ n
+unfolding numberOf
+numbers n z e = rw e refl
+
+pub past-all : (z : ℤ) → ltZ z (pos 0) ≡ true → 9223372036854775808 ≡ numberOf z
+unfolding numberOf
+past-all (pos n) t = omega (arith, ltb-true n 0 t)
+past-all (negsuc n) t = refl
+
+pub number : (z : ℤ) → ltZ z (pos 0) ≡ false → natAbs z ≡ numberOf z
+unfolding numberOf
+number (pos n) t = refl
+number (negsuc n) t = absurd (subst T t tt)
+
 pub negative : (z : ℤ) → ltZ z (pos 0) ≡ true → 0 ≡ indexOf z
 unfolding indexOf
 negative (pos n) t = omega (arith, ltb-true n 0 t)
@@ -33,6 +51,10 @@ negative (negsuc n) t = refl
 pub casts : (z : ℤ) → SFits w32 z → ltZ z (pos 0) ≡ false → T (nonNeg z) × Fits w64 (natAbs z)
 casts (pos n) fit t = (tt, record { fits = omega (arith, fit .sfits) })
 casts (negsuc n) fit t = absurd (subst T t tt)
+
+pub casts-64 : (z : ℤ) → SFits w64 z → ltZ z (pos 0) ≡ false → T (nonNeg z) × Fits w64 (natAbs z)
+casts-64 (pos n) fit t = (tt, record { fits = omega (arith, fit .sfits) })
+casts-64 (negsuc n) fit t = absurd (subst T t tt)
 
 pub index : (z : ℤ) → ltZ z (pos 0) ≡ false → natAbs z ≡ indexOf z
 unfolding indexOf

@@ -1,7 +1,23 @@
-// A number in another width: one function for each pair of widths. All keep the number; those to fewer bits ask that it has room there.
-// A usize has 64 bits. For a piece's number of 32 bits with a sign see PieceIndex.
+// A number in another width: one function for each pair of widths. All keep the number; those to fewer bits ask that it has room there,
+// and a negative one becomes one that is past all that there can be. A usize has 64 bits.
 ghost use mathlib.Core.Path.{_≡_};
 ghost use Prim.Native.Nat.{_<_};
+ghost use Rattle.types.specs.Piece.{numberOf};
+
+// What stands for a negative number.
+const PAST_ALL: usize = 9223372036854775808;
+
+pub fn i32_to_usize(x: i32) -> usize
+    ensures { λ r. ⌜ r ≡ numberOf x ⌝ }
+{
+    if x < 0 { PAST_ALL } else { x as usize }
+}
+
+pub fn i64_to_u64(x: i64) -> u64
+    ensures { λ r. ⌜ r ≡ numberOf x ⌝ }
+{
+    if x < 0 { 9223372036854775808 } else { x as u64 }
+}
 
 pub fn u16_to_usize(x: u16) -> usize
     ensures { λ r. ⌜ r ≡ x ⌝ }

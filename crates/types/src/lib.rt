@@ -11,6 +11,8 @@ mod refusal;
 
 pub use block::BlockState;
 pub use block::BlockStateOf;
+pub use convert::i32_to_usize;
+pub use convert::i64_to_u64;
 pub use convert::u16_to_u64;
 pub use convert::u16_to_usize;
 pub use convert::u32_to_usize;

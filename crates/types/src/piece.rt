@@ -2,7 +2,8 @@
 ghost use mathlib.Core.Path.{_≡_};
 ghost use Prim.Native.Nat.{_<_};
 ghost use lib.IntN.{pos};
-ghost use Rattle.types.specs.Piece.{indexOf, after, largest};
+ghost use Rattle.types.specs.Piece.{numberOf, indexOf, after, largest};
+use crate::convert::i32_to_usize;
 
 // The number of a piece. A number of its own kind, so that it cannot be taken for a block or a list place.
 pub struct PieceIndex(pub i32);
@@ -11,12 +12,19 @@ impl PieceIndex {
     // The piece at place i of a list.
     pub fn at(i: usize) -> PieceIndex
         requires { ⌜ i < 2147483648 ⌝ }
-        ensures { λ r. ⌜ (r .0 ≡ pos i) × (indexOf (r .0) ≡ i) ⌝ }
+        ensures { λ r. ⌜ (r .0 ≡ pos i) × (numberOf (r .0) ≡ i) × (indexOf (r .0) ≡ i) ⌝ }
     {
         PieceIndex(i as i32)
     }
 
-    // The place of the piece in a list; 0 where the number is negative, as in the Rust's release build.
+    // The number of the piece as the picker's calls take it: a negative one is past every piece.
+    pub fn number(self) -> usize
+        ensures { λ r. ⌜ r ≡ numberOf (self .0) ⌝ }
+    {
+        i32_to_usize(self.0)
+    }
+
+    // The place of the piece in a list; 0 where the number is negative, as in the Rust's release build. The picker never asks for it.
     pub fn get(self) -> usize
         ensures { λ r. ⌜ r ≡ indexOf (self .0) ⌝ }
     {

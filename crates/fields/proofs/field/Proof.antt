@@ -3,8 +3,8 @@ use borrow.Author.Needs.{needs}
 use Rattle.fields.proofs.field.Statement.{statement}
 use Rattle.fields.proofs.field.Tie as tie
 
-get-requires : tie.Need-get-requires
-get-requires c κs = search needs
+number-requires : tie.Need-number-requires
+number-requires c κs = search needs
 
 piece-word-requires : tie.Need-piece-word-requires
 piece-word-requires c κs = search needs
@@ -13,4 +13,4 @@ returns : tie.Need-returns
 returns c = cc
 
 pub field-spec : {M : Type 1} → statement M
-field-spec = tie.close (tie.spec get-requires piece-word-requires returns)
+field-spec = tie.close (tie.spec number-requires piece-word-requires returns)

@@ -14,8 +14,8 @@ Inv-loop mem s number n k₀ k = Passing (decode mem) number k
 abbrev μ-loop : tie.MeasureT-loop
 μ-loop mem s number n k₀ k = n - k
 
-get-requires : tie.Need-get-requires Inv-loop μ-loop
-get-requires c κs = search needs
+number-requires : tie.Need-number-requires Inv-loop μ-loop
+number-requires c κs = search needs
 
 usize-to-u64-requires : tie.Need-usize-to-u64-requires Inv-loop μ-loop
 usize-to-u64-requires c κs = search needs
@@ -31,7 +31,7 @@ piece-number-requires c κs = (c .before .before .before .before .before .before
 
 returns : tie.Need-returns Inv-loop μ-loop
 returns c =
-    passing-end (decode (c .before .before .before .before .before .before .before .before .args .mem .now)) _ _ _ (c .before .before .before .before .before .usize-to-u64 .ensures ∙ c .before .before .before .before .before .before .get .ensures) (c .before .before .before .loop .inv)
+    passing-end (decode (c .before .before .before .before .before .before .before .before .args .mem .now)) _ _ _ (c .before .before .before .before .before .usize-to-u64 .ensures ∙ c .before .before .before .before .before .before .number .ensures) (c .before .before .before .loop .inv)
     (λ h. omega (arith, c .before .piece-number .ensures, c .if1 .taken))
 
 add-k : tie.Need-add-k Inv-loop μ-loop
@@ -46,7 +46,7 @@ loop-again c =
 
 returns-2 : tie.Need-returns-2 Inv-loop μ-loop
 returns-2 c =
-    passing-end (decode (c .before .before .before .before .before .before .args .mem .now)) _ _ _ (c .before .before .before .usize-to-u64 .ensures ∙ c .before .before .before .before .get .ensures) (c .before .loop .inv)
+    passing-end (decode (c .before .before .before .before .before .before .args .mem .now)) _ _ _ (c .before .before .before .usize-to-u64 .ensures ∙ c .before .before .before .before .number .ensures) (c .before .loop .inv)
     (λ h. absurd (omega (arith, c .before .before .partial-count .ensures)))
 
 pub position-spec : {M : Type 1} → statement M
@@ -55,7 +55,7 @@ position-spec =
     (tie.spec
     Inv-loop
     μ-loop
-    get-requires
+    number-requires
     usize-to-u64-requires
     partial-count-requires
     loop-holds

@@ -14,8 +14,8 @@ Inv-loop mem s wanted n k₀ k = (k ≤ n) × Ahead (decode mem) wanted k
 abbrev μ-loop : tie.MeasureT-loop
 μ-loop mem s wanted n k₀ k = n - k
 
-get-requires : tie.Need-get-requires Inv-loop μ-loop
-get-requires c κs = search needs
+number-requires : tie.Need-number-requires Inv-loop μ-loop
+number-requires c κs = search needs
 
 usize-to-u64-requires : tie.Need-usize-to-u64-requires Inv-loop μ-loop
 usize-to-u64-requires c κs = search needs
@@ -32,7 +32,7 @@ piece-number-requires c κs = (c .before .before .before .before .before .before
 returns : tie.Need-returns Inv-loop μ-loop
 returns c =
     found-at _ _ _ (c .before .before .before .loop .inv .1) (omega (arith, c .before .before .before .before .partial-count .ensures)) (sym (c .before .piece-number .ensures) ∙ c .if1 .taken)
-    ∙ placed-as _ (c .before .before .before .before .before .usize-to-u64 .ensures ∙ c .before .before .before .before .before .before .get .ensures)
+    ∙ placed-as _ (c .before .before .before .before .before .usize-to-u64 .ensures ∙ c .before .before .before .before .before .before .number .ensures)
 
 add-k : tie.Need-add-k Inv-loop μ-loop
 add-k c = search needs
@@ -49,7 +49,7 @@ loop-again c = (
 returns-2 : tie.Need-returns-2 Inv-loop μ-loop
 returns-2 c =
     found-nothing (decode (c .before .before .before .before .before .before .args .mem .now)) _ _ (c .before .loop .inv .1) (omega (arith, c .before .before .partial-count .ensures))
-    ∙ placed-as _ (c .before .before .before .usize-to-u64 .ensures ∙ c .before .before .before .before .get .ensures)
+    ∙ placed-as _ (c .before .before .before .usize-to-u64 .ensures ∙ c .before .before .before .before .number .ensures)
 
 pub find-spec : {M : Type 1} → statement M
 find-spec =
@@ -57,7 +57,7 @@ find-spec =
     (tie.spec
     Inv-loop
     μ-loop
-    get-requires
+    number-requires
     usize-to-u64-requires
     partial-count-requires
     loop-holds
