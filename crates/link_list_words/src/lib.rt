@@ -1,10 +1,13 @@
 // The operations on a list of words, for callers in C and Rust. Only for comparison and timing: a caller has to meet what is required.
+use list_rebuild::Rebuilt;
 use list_words::Updated;
 ghost use Prim.Native.Nat.{_+_, _≤_, _<_};
 ghost use lib.Dec.{eqb};
 ghost use lib.ListN.{length, take};
 ghost use Rattle.model.specs.Lists.{bit};
-ghost use Rattle.list_words.specs.Updating.{Ready, PiecesBelow};
+ghost use Rattle.list_words.specs.Updating.{Ready};
+ghost use Rattle.model.specs.State.{maxPieces};
+ghost use Rattle.list_rebuild.specs.Rebuilding.{Ranked};
 
 // The list mended after a piece came from rank `old` to `new`.
 #[no_mangle]
@@ -27,12 +30,20 @@ pub extern "C" fn lw_update(
     list_words::update(list, n, piece, old, new, draws, used)
 }
 
-// The rank of each of the first n pieces put beside it.
+// The list of the first n pieces made anew.
 #[no_mangle]
-pub extern "C" fn lw_write_ranks(list: &mut [u64], ranks: &[u16], n: usize)
+pub extern "C" fn lw_update_pieces(
+    list: &mut [u64],
+    ranks: &[u16],
+    n: usize,
+    draws: &[u32],
+    t: usize,
+) -> Rebuilt
+    requires { ⌜ n ≤ length (now ranks) ⌝ }
+    requires { ⌜ n ≤ maxPieces ⌝ }
     requires { ⌜ n ≤ length (now list) ⌝ }
-    requires { ⌜ PiecesBelow (length (now ranks)) n (now list) ⌝ }
-    requires { ⌜ length (now ranks) ≤ 65536 ⌝ }
+    requires { ⌜ Ranked n (now ranks) ⌝ }
+    requires { ⌜ t ≤ length (now draws) ⌝ }
 {
-    list_words::write_ranks(list, ranks, n);
+    list_rebuild::update_pieces(list, ranks, n, draws, t)
 }

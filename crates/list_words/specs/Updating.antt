@@ -2,11 +2,11 @@
 -- `r` gives the rank of each piece after the change, `i` is the piece, `old` and `new` are its ranks, `ws` are the words of the list;
 -- `words` are all
 -- that are lent, `words′` those at the end, `n` of them the list.
-use Prim.Native.Nat.{ℕ, _+_, _<_}
+use Prim.Native.Nat.{ℕ, _+_}
 use mathlib.Core.Path.{_≡_}
 use mathlib.Core.Bool.{true, cond}
 use mathlib.Core.List.{List}
-use lib.ListN.{getD, take, drop}
+use lib.ListN.{take, drop}
 use lib.Dec.{eqb, ltb}
 use Rattle.model.specs.Lists.{bit, count, len, placeOf, setNth}
 use Rattle.model.specs.list.Listed.{rising}
@@ -39,8 +39,3 @@ pub record IsUpdated (r : Ranks) (draws : Draws) (used : ℕ) (old : Rank) (i : 
 abbrev pub Updates : (new : Rank) (draws : Draws) (used : ℕ) (old : Rank) (i : ℕ) (ws words words′ : List ℕ) (n next : ℕ) → Type 0
 Updates new draws used old i ws words words′ n next =
     (r : Ranks) → r i ≡ new → RanksIn (former r old i) ws → IsUpdated r draws used old i ws words words′ n next
-
--- ---- a list of pieces made a list of words
--- each of the first n is one of so many pieces
-abbrev pub PiecesBelow : (many n : ℕ) (l : List ℕ) → Type 0
-PiecesBelow many n l = (k : ℕ) → k < n → getD l k 0 < many

@@ -6,11 +6,11 @@ ghost use mathlib.Core.List.{_++_};
 ghost use Prim.Native.Nat.{suc, _+_, _-_, _≤_, _<_};
 ghost use lib.Dec.{ltb, eqb};
 ghost use lib.ListN.{length, take, drop, set};
-ghost use Rattle.model.specs.Lists.{bit, count, nth, placeOf};
+ghost use Rattle.model.specs.Lists.{bit, count, placeOf};
 ghost use Rattle.model.specs.list.Order.{draw, swap, earlier, later, added, addDraws, removed, changed, changeDraws};
-ghost use Rattle.list_groups.specs.Words.{listedRank, listWord, wordsOf};
+ghost use Rattle.list_groups.specs.Words.{listedRank, listWord};
 ghost use Rattle.list_groups.specs.Places.{Rises};
-ghost use Rattle.list_words.specs.Updating.{replaced, Ready, Updates, PiecesBelow};
+ghost use Rattle.list_words.specs.Updating.{replaced, Ready, Updates};
 
 // 1 where there is one, and 0 where there is none.
 pub fn some(size: usize) -> usize
@@ -196,21 +196,4 @@ pub fn list_word(rank: u16, i: u64) -> u64
     ensures { λ r. ⌜ r ≡ listWord rank i ⌝ }
 {
     (rank as u64) * 65536 + i
-}
-
-// The rank of each of the first n pieces put beside it: a list of pieces becomes a list of words.
-pub fn write_ranks(list: &mut [u64], ranks: &[u16], n: usize)
-    requires { ⌜ n ≤ length (now list) ⌝ }
-    requires { ⌜ PiecesBelow (length (now ranks)) n (now list) ⌝ }
-    requires { ⌜ length (now ranks) ≤ 65536 ⌝ }
-    ensures { λ _. ⌜ now (list .exit)
-        ≡ wordsOf (nth 0 (now (ranks .entry))) (take n (now (list .entry))) ++ drop n (now (list .entry)) ⌝ }
-{
-    let mut k = 0;
-    while k < n {
-        let i = list[k];
-        let w = list_word(ranks[types::u64_to_usize(i)], i);
-        list[k] = w;
-        k += 1;
-    }
 }

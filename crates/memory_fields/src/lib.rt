@@ -30,3 +30,4 @@ pub use pieces::set_peer_count;
 pub use pieces::set_priority;
 pub use pieces::set_state;
 pub use pieces::state;
+pub use pieces::state_number;

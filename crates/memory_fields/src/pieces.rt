@@ -42,7 +42,7 @@ pub fn set_peer_count(cells: &mut [u16], s: Shape, i: usize, v: u16)
 }
 
 // The number of the state that a cell means: a number that no state has is read as Open.
-fn state_number(v: u16) -> u16
+pub fn state_number(v: u16) -> u16
     ensures { λ r. ⌜ r ≡ queueNumber (queueFrom v) ⌝ }
 {
     if v < 7 { v } else { 4 }

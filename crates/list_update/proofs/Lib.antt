@@ -1,3 +1,0 @@
-pub mod Moving
-pub mod Changing
-pub mod UpdateLaws
