@@ -4,24 +4,28 @@ use mathlib.Core.Logic.{_≢_}
 use mathlib.Core.List.{List}
 use Prim.Native.Nat.{ℕ, _+_, _≤_, _<_}
 use native.Mathlib.Omega.{arith}
-use lib.ListN.{length, getD, set}
+use lib.ListN.{length, set, take}
 use lib.Seq.{getD-set-same}
+use Rattle.model.specs.Lists.{each}
 use Rattle.model.specs.Bep3.{numPieces, wholePieceBlocks}
 use Rattle.model.specs.State.{Picker, validGeometry, withPartials}
 use Rattle.memory_records.specs.declared.record.DownloadingPiece.{DownloadingPiece as Record}
 use Rattle.memory_records.specs.declared.edits.Edit.{Edit}
 use Rattle.memory_records.specs.Records.{edited}
 use Rattle.memory_layout.specs.declared.shape.Shape.{Shape}
-use Rattle.memory_layout.specs.Decode.{headWord, blockCell, recordAt, piecesOn, blocksOn, blocksOf, partialsHeld, decode, decodeAt}
+use Rattle.memory_layout.specs.Decode.{headWord, blockCell, recordAt, piecesOn, blocksOn, blocksOf, partialHeld, partialsHeld, decode}
+use Rattle.memory_layout.specs.Decode.{decodeAt}
 use Rattle.memory_layout.specs.Bounds.{WordsSpan, InBounds, PlainBlock, PlainRecord, Plain}
 use Rattle.memory_layout.specs.Stores.{WordsKept, ListKept, Became}
 use Rattle.memory_layout.specs.Frames.{SameFields}
+use Rattle.memory_layout.proofs.TableLaws.{tabulate-ext}
 use Rattle.memory_layout.proofs.OffsetLaws.{head-in}
 use Rattle.memory_layout.proofs.Same.{head-other}
-use Rattle.memory_layout.proofs.Parts.{blocks-of-same, pieces-same, list-same, listing-same, extents-same}
-use Rattle.memory_layout.proofs.BoundsLaws.{decode-at}
+use Rattle.memory_layout.proofs.Parts.{block-same, blocks-of-same, partial-same, pieces-same, list-same, listing-same, extents-same}
+use Rattle.memory_layout.proofs.BoundsLaws.{blocks-within, place-room}
 use Rattle.memory_layout.proofs.stores.HeadStores.{Behind, behind-none, behind-store, behind-kept}
 use Rattle.memory_partials.specs.Partials.{Edited}
+use Rattle.memory_partials.proofs.RecordLaws.{tabulate-live}
 
 -- ---- the words
 -- v partials are counted, and all else is as it was
@@ -135,6 +139,28 @@ module _ (s : Shape) (records records′ : List Record) (words cells words′ ce
           has = rw (h 2 j m) (p .blocks j m .has);
         };
   }
+
+  -- the partials of the records that stood, where the cells of their blocks stay
+  module _ (same : (k f j : ℕ) → k < headWord words 7 → j < blocksOf words (recordAt records k .index)
+      → blockCell cells′ (s .pieces) (s .blocks) f (recordAt records k .«info_idx») j
+      ≡ blockCell cells (s .pieces) (s .blocks) f (recordAt records k .«info_idx») j) where
+    held-same : (k : ℕ) → k < headWord words 7
+        → partialHeld words′ cells′ (s .pieces) (s .blocks) (recordAt records k) ≡ partialHeld words cells (s .pieces) (s .blocks)
+        (recordAt records k)
+    held-same k h =
+        partial-same words words′ cells cells′ (s .pieces) (s .blocks) (c .head 0 (λ e. omega arith)) (c .head 1 (λ e. omega arith))
+        (recordAt records k) (λ j l.
+        block-same words words′ cells cells′ (s .pieces) (s .blocks) (recordAt records k .«info_idx») j (λ f m. same k f j h l)
+        (λ y. c .behind .peers (recordAt records k .«info_idx») j (place-room s records words cells r k h)
+        (omega (arith, blocks-within s records words cells r (recordAt records k .index)))))
+
+    pub counted-held : each (partialHeld words′ cells′ (s .pieces) (s .blocks)) (take (headWord words 7) records)
+        ≡ partialsHeld records words cells (s .pieces) (s .blocks)
+    unfolding partialsHeld
+    counted-held =
+        sym (tabulate-live (partialHeld words′ cells′ (s .pieces) (s .blocks)) (headWord words 7) records (r .live))
+        ∙ tabulate-ext (headWord words 7) (λ k. partialHeld words′ cells′ (s .pieces) (s .blocks) (recordAt records k))
+        (λ k. partialHeld words cells (s .pieces) (s .blocks) (recordAt records k)) held-same
 
 -- ---- the edit and stores after one another
 module _ (s : Shape) (f g : Picker → Picker) (edit : Edit) (records : List Record) (words cells words′ cells′ words″ cells″ : List ℕ) where

@@ -1,3 +1,5 @@
 pub mod RecordLaws
 pub mod CountLaws
+pub mod RisingLaws
 pub mod OpenLaws
+pub mod CloseLaws

@@ -24,11 +24,11 @@ use Rattle.memory_layout.specs.Decode.{headWord, blockCell, recordAt, blocksOf,
 use Rattle.memory_layout.specs.Decode.{decode, decodeAt}
 use Rattle.memory_layout.specs.Bounds.{InBounds, PlainRecord, Plain}
 use Rattle.memory_layout.proofs.TableLaws.{tabulate-ext}
-use Rattle.memory_layout.proofs.Parts.{block-same, partial-same}
 use Rattle.memory_layout.proofs.BoundsLaws.{decode-at, blocks-within, place-room}
 use Rattle.memory_partials.specs.Partials.{Edited, Fresh}
-use Rattle.memory_partials.proofs.RecordLaws.{at-live, tabulate-live, insert-each, Slot, slot}
-use Rattle.memory_partials.proofs.CountLaws.{Counted, counted-blocks, counted-bounds, counted-plain, counted-is, counted-record}
+use Rattle.memory_partials.proofs.RecordLaws.{at-live, insert-each, Slot, slot}
+use Rattle.memory_partials.proofs.CountLaws.{Counted, counted-blocks, counted-bounds, counted-plain, counted-is, counted-record, counted-held}
+use Rattle.memory_partials.proofs.RisingLaws.{held-piece, held-each}
 
 -- ---- the blocks one after another
 tabulate-from : {A : Type 0} (g : ℕ → A) (k n : ℕ) → tabulate n (λ j. g (k + j)) ≡ each g (from k n)
@@ -147,23 +147,6 @@ module _ (s : Shape) (records : List Record) (words cells words′ cells′ : Li
     other k f j h l = b .others f (recordAt records k .«info_idx») j (place-room s records words cells r k h)
         (omega (arith, blocks-within s records words cells r (recordAt records k .index))) (free k h)
 
-    other-held : (k : ℕ) → k < headWord words 7
-        → partialHeld words′ cells′ (s .pieces) (s .blocks) (recordAt records k) ≡ partialHeld words cells (s .pieces) (s .blocks)
-        (recordAt records k)
-    other-held k h =
-        partial-same words words′ cells cells′ (s .pieces) (s .blocks) (c .head 0 (λ e. omega arith)) (c .head 1 (λ e. omega arith))
-        (recordAt records k) (λ j l.
-        block-same words words′ cells cells′ (s .pieces) (s .blocks) (recordAt records k .«info_idx») j (λ f m. other k f j h l)
-        (λ y. c .behind .peers (recordAt records k .«info_idx») j (place-room s records words cells r k h)
-        (omega (arith, blocks-within s records words cells r (recordAt records k .index)))))
-
-    others-held : each (partialHeld words′ cells′ (s .pieces) (s .blocks)) live ≡ partialsHeld records words cells (s .pieces) (s .blocks)
-    unfolding partialsHeld
-    others-held =
-        sym (tabulate-live (partialHeld words′ cells′ (s .pieces) (s .blocks)) (headWord words 7) records (omega arith))
-        ∙ tabulate-ext (headWord words 7) (λ k. partialHeld words′ cells′ (s .pieces) (s .blocks) (recordAt records k))
-        (λ k. partialHeld words cells (s .pieces) (s .blocks) (recordAt records k)) other-held
-
     -- ---- its own blocks are fresh
     fresh-blocks : blocksHeld words′ cells′ (s .pieces) (s .blocks) (x .index) (x .«info_idx»)
         ≡ each (freshBlock (payloadBlocksInPiece (decode records words cells) (x .index)))
@@ -181,21 +164,18 @@ module _ (s : Shape) (records : List Record) (words cells words′ cells′ : Li
     fresh-held =
         ap₂ (λ (f : ℕ) (l : List Block). partialFrom (x .index) f l) flags fresh-blocks
 
-    piece-of : (y : Record) → partialHeld words′ cells′ (s .pieces) (s .blocks) y .piece ≡ y .index
-    unfolding partialHeld partialFrom
-    piece-of y = refl
-
     -- ---- all of them
     partials-are : partialsHeld after words′ cells′ (s .pieces) (s .blocks)
         ≡ insertIn (freshPartial (decode records words cells) (x .index)) (partialsHeld records words cells (s .pieces) (s .blocks))
-    unfolding partialsHeld
     partials-are =
-        ap (λ (n : ℕ). tabulate n (λ k. partialHeld words′ cells′ (s .pieces) (s .blocks) (recordAt after k))) (c .count)
-        ∙ tabulate-live (partialHeld words′ cells′ (s .pieces) (s .blocks)) (suc (headWord words 7)) after
-        (omega (arith, length-inserted (headWord words 7) x records))
+        held-each after words′ cells′ (s .pieces) (s .blocks)
+        (omega (arith, c .count, length-inserted (headWord words 7) x records))
+        ∙ ap (λ (n : ℕ). each (partialHeld words′ cells′ (s .pieces) (s .blocks)) (take n after)) (c .count)
         ∙ ap (each (partialHeld words′ cells′ (s .pieces) (s .blocks))) (inserted-live (headWord words 7) x records fits)
-        ∙ insert-each (partialHeld words′ cells′ (s .pieces) (s .blocks)) piece-of x live
-        ∙ ap₂ insertIn fresh-held others-held
+        ∙ insert-each (partialHeld words′ cells′ (s .pieces) (s .blocks)) 
+        (held-piece words′ cells′ (s .pieces) (s .blocks)) x live
+        ∙ ap₂ insertIn fresh-held
+        (counted-held s records after words cells words′ cells′ (suc (headWord words 7)) r c (b .kept .long) (b .fields) other)
 
     opened-is : decode after words′ cells′ ≡ addPartial (x .index) (decode records words cells)
     unfolding addPartial

@@ -2,7 +2,7 @@
 use mathlib.Core.Path.{_≡_, refl, sym, ap, ap₂, subst, _∙_}
 use mathlib.Core.Logic.{_≢_, _⊎_, inl, inr}
 use mathlib.Core.Bool.{Bool, true, false, cond, not, _&&_, _||_}
-use mathlib.Core.Option.{none, some}
+use mathlib.Core.Option.{some, Option·none-ne-some}
 use mathlib.Core.List.{List, [], _∷_}
 use Prim.Native.Nat.{ℕ, zero, suc, _+_, _-_, _≤_, _<_}
 use native.Mathlib.Nat.{le-of-suc-le-suc, not-suc-le-zero}
@@ -36,9 +36,6 @@ unfolding tabulate recordAt each
 tabulate-live f zero records h = refl
 tabulate-live f (suc n) [] h = absurd (not-suc-le-zero h)
 tabulate-live f (suc n) (r ∷ rs) h = ap (λ l. f r ∷ l) (tabulate-live f n rs (le-of-suc-le-suc h))
-
-no-partial : (d : DownloadingPiece) → none ≡ some d → ⊥
-no-partial d e = let z : _≡_ {A = ℕ} 0 1 = cc in omega arith
 
 -- ---- as partials: f keeps the piece
 module _ (f : Record → DownloadingPiece) (piece : (r : Record) → f r .piece ≡ r .index) where
@@ -92,7 +89,7 @@ module _ (f : Record → DownloadingPiece) (piece : (r : Record) → f r .piece 
   -- a partial of the piece is a record of it
   pub has-each : (i : ℕ) (rs : List Record) (d : DownloadingPiece) → findDlPiece i (each f rs) ≡ some d → hasRecord i rs ≡ true
   unfolding hasRecord findDlPiece each
-  has-each i [] d e = absurd (no-partial d e)
+  has-each i [] d e = absurd (Option·none-ne-some d e)
   has-each i (x ∷ xs) d e = elim (ℕ-discrete (x .index) i) [
     | yes q ↦ rw (eq-eqb (x .index) i q)
     | no q ↦ rw (ne-eqb (x .index) i q) (has-each i xs d (sym (findDlPiece-there i (f x) (each f xs) (λ h. q (sym (piece x) ∙ h))) ∙ e))
