@@ -3,3 +3,4 @@ pub mod CountLaws
 pub mod RisingLaws
 pub mod OpenLaws
 pub mod CloseLaws
+pub mod FlagLaws
