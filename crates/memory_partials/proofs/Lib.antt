@@ -4,3 +4,4 @@ pub mod RisingLaws
 pub mod OpenLaws
 pub mod CloseLaws
 pub mod FlagLaws
+pub mod MarkLaws
