@@ -1,0 +1,7 @@
+pub mod RecordLaws
+pub mod CountLaws
+pub mod RisingLaws
+pub mod OpenLaws
+pub mod CloseLaws
+pub mod FlagLaws
+pub mod MarkLaws

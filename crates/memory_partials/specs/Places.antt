@@ -1,0 +1,23 @@
+-- The place that a partial takes: free places are not stored, a place is free where no live record has it. Assumes nothing.
+use Prim.Native.Nat.{ℕ, _<_}
+use mathlib.Core.Path.{_≡_}
+use mathlib.Core.Bool.{Bool, false, not}
+use mathlib.Core.List.{List}
+use lib.ListN.{length, getD}
+use Rattle.model.specs.Lists.{member}
+use Rattle.memory_records.specs.Records.{firstFrom}
+use Rattle.memory_records.specs.Rows.{rowAt}
+use Rattle.memory_layout.specs.Tables.{tabulate}
+
+-- the places of the first `live` rows
+unfoldable pub placesTaken : (live : ℕ) (rows : List ℕ) → List ℕ
+placesTaken live rows = tabulate live (λ k. rowAt rows k .«info_idx»)
+
+-- the lowest of so many places that is not taken, or their number
+unfoldable pub lowestFree : (places : ℕ) (taken : List ℕ) → ℕ
+lowestFree places taken = firstFrom (λ p. not (member p taken)) places 0
+
+-- a mark for each place that is taken
+pub record Marked (taken : List ℕ) (marks : List Bool) : Type 0 where
+  pub long : length marks ≡ 512
+  pub mark : (p : ℕ) → p < 512 → getD marks p false ≡ member p taken
