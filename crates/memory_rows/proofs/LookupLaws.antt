@@ -1,29 +1,26 @@
 -- The search by halving, step by step, and what its end says of the records and of the picker. Assumes nothing.
-use mathlib.Core.Path.{_≡_, refl, sym, ap, _∙_}
+use mathlib.Core.Path.{_≡_, sym, ap, _∙_}
 use mathlib.Core.Logic.{_≢_, _⊎_, ⊎-elim}
 use mathlib.Core.Bool.{Bool, true, false}
 use mathlib.Core.List.{List}
-use mathlib.Core.Option.{none, some}
+use mathlib.Core.Option.{some}
 use Prim.Native.Nat.{ℕ, zero, suc, _+_, _≤_, _<_}
 use native.Mathlib.Decide.{ℕ-discrete, decLt}
 use native.Mathlib.Omega.{arith}
 use lib.Dec.{eqb}
-use lib.ListN.{length, getD}
+use lib.ListN.{getD}
 use borrow.Author.Tests.{eq-eqb, ne-eqb}
 use Rattle.model.specs.Lists.{nth, len}
-use Rattle.model.specs.State.{DownloadingPiece, Picker}
+use Rattle.model.specs.State.{DownloadingPiece}
 use Rattle.model.specs.pick.Pick.{noPartial}
 use Rattle.model.specs.change.Partials.{findDlPiece, partialOf}
-use Rattle.model.specs.image.Sound.{partialsFrom}
 use Rattle.model.proofs.sound.PartialLaws.{found-or-none, findDlPiece-piece, findDlPiece-at, findDlPiece-place}
-use Rattle.memory_records.specs.declared.search.Found.{Found}
 use Rattle.memory_records.specs.declared.search.Found.the-variants.{At, Nothing}
 use Rattle.memory_records.specs.Records.{noRecord, placeOf, firstFrom, seekFrom, answerOf, risingFrom}
 use Rattle.memory_records.specs.Rows.{recordsIn}
 use Rattle.memory_records.proofs.laws.SearchLaws.{at-hit, at-miss}
-use Rattle.memory_layout.specs.declared.shape.Shape.{Shape}
 use Rattle.memory_layout.specs.Changes.{partialIn}
-use Rattle.memory_rows.specs.Lookup.{LiveRows, pickerIn, Halves, Looked, FoundIn}
+use Rattle.memory_rows.specs.Lookup.{pickerIn, Halves, FoundIn}
 use Rattle.memory_rows.proofs.RisingLaws.{row-index, rows-rise, live-number, live-nth, live-piece, rise-is}
 
 -- ---- halving

@@ -1,6 +1,6 @@
 -- The rows of rising pieces: as numbers, as records and as the partials of a picker. Assumes nothing.
 use mathlib.Core.Path.{_≡_, refl, sym, ap, ap₂, _∙_}
-use mathlib.Core.Bool.{Bool, true, _&&_}
+use mathlib.Core.Bool.{true, _&&_}
 use mathlib.Core.List.{List, [], _∷_}
 use Prim.Native.Nat.{ℕ, zero, suc, _≤_, _<_}
 use native.Mathlib.Nat.{not-suc-le-zero, le-of-suc-le-suc}
@@ -19,7 +19,7 @@ use Rattle.memory_records.specs.Rows.{rowAt, recordsIn}
 use Rattle.memory_records.proofs.laws.RowLaws.{length-records, records-at}
 use Rattle.memory_records.proofs.laws.EditLaws.{RisesBy, rises}
 use Rattle.memory_layout.specs.declared.shape.Shape.{Shape}
-use Rattle.memory_layout.specs.Decode.{headWord, recordAt, partialFrom, partialHeld}
+use Rattle.memory_layout.specs.Decode.{recordAt, partialFrom, partialHeld}
 use Rattle.memory_layout.specs.Changes.{partialIn}
 use Rattle.memory_layout.proofs.Meanings.{partials-number, partial-nth}
 use Rattle.memory_rows.specs.Lookup.{LiveRows, pickerIn}

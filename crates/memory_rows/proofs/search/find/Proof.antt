@@ -1,7 +1,6 @@
 -- `find` meets its contract: the search ends at the piece's row, at a row of a higher piece, or behind the last. Assumes nothing.
 use borrow.Author.Needs.{needs}
 use mathlib.Core.Path.{_≡_, sym, _∙_}
-use native.Mathlib.Omega.{arith}
 use lib.ListN.{getD}
 use Rattle.memory_rows.proofs.LookupLaws.{other-row, past-rows, found-there, found-partial, none-there, no-partial}
 use Rattle.memory_rows.proofs.search.find.Statement.{statement}
