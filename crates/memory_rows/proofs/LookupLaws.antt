@@ -17,7 +17,7 @@ use Rattle.model.specs.change.Partials.{findDlPiece, partialOf}
 use Rattle.model.proofs.sound.PartialLaws.{found-or-none, findDlPiece-piece, findDlPiece-at, findDlPiece-place}
 use Rattle.memory_records.specs.declared.search.Found.the-variants.{At, Nothing}
 use Rattle.memory_records.specs.Records.{noRecord, placeOf, firstFrom, seekFrom, answerOf, risingFrom}
-use Rattle.memory_records.specs.Rows.{recordsIn}
+use Rattle.memory_records.specs.Rows.{rowAt, recordsIn}
 use Rattle.memory_records.proofs.laws.SearchLaws.{at-hit, at-miss}
 use Rattle.memory_layout.specs.Changes.{partialIn}
 use Rattle.memory_rows.specs.Lookup.{pickerIn, Halves, FoundIn}
@@ -112,8 +112,9 @@ module _ (live : ℕ) (rows : List ℕ) (i : ℕ) where
         sym (ap (λ (p : ℕ). answerOf p live) f ∙ at-hit k live h)
 
     pub found-partial : FoundIn live rows i (At k)
-    unfolding partialOf partialIn
+    unfolding rowAt partialOf partialIn
     found-partial = record {
+      row = (h, e);
       is = λ s words cells v.
           let d = pickerIn live rows words cells in
           let l : k < len (d .partials) = omega (arith, live-number s live rows words cells v) in
@@ -134,8 +135,9 @@ module _ (live : ℕ) (rows : List ℕ) (i : ℕ) where
         sym (ap (λ (p : ℕ). answerOf p live) f ∙ at-miss (0 + live) live (omega arith))
 
     pub no-partial : FoundIn live rows i Nothing
-    unfolding partialOf partialIn
+    unfolding rowAt partialOf partialIn
     no-partial = record {
+      row = n;
       is = λ s words cells v.
           let d = pickerIn live rows words cells in
           ⊎-elim (λ e. e) (λ w.
