@@ -1,0 +1,4 @@
+pub mod PlaceLaws
+pub mod EnterLaws
+pub mod StandLaws
+pub mod FilledLaws
