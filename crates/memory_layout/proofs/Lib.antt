@@ -7,6 +7,7 @@ pub mod Same
 pub mod Parts
 pub mod BoundsLaws
 pub mod EditedRecords
+pub mod StandingLaws
 pub mod Meanings
 pub mod ReadLaws
 pub mod stores
