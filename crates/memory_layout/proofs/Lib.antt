@@ -6,6 +6,8 @@ pub mod Geometry
 pub mod Same
 pub mod Parts
 pub mod BoundsLaws
+pub mod EditedRecords
+pub mod StandingLaws
 pub mod Meanings
 pub mod ReadLaws
 pub mod stores

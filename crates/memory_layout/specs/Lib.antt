@@ -6,3 +6,4 @@ pub mod Bounds
 pub mod Stores
 pub mod Frames
 pub mod Good
+pub mod Standing
