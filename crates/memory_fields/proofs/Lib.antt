@@ -2,3 +2,4 @@ pub mod Fields
 pub mod HeadLaws
 pub mod ExtentLaws
 pub mod ByNumber
+pub mod Beside
