@@ -1,3 +1,4 @@
 pub mod Ranking
 pub mod Regions
 pub mod Updates
+pub mod Rebuilds
