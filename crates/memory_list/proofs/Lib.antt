@@ -2,3 +2,4 @@ pub mod Ranking
 pub mod Regions
 pub mod Updates
 pub mod Rebuilds
+pub mod Moving

@@ -93,13 +93,7 @@ pub fn update(
 }
 
 // `update_pieces` of a dirty list.
-fn rebuild_list(
-    words: &mut [u64],
-    cells: &[u16],
-    s: Shape,
-    draws: &[u32],
-    used: usize,
-) -> usize
+fn rebuild_list(words: &mut [u64], cells: &[u16], s: Shape, draws: &[u32], used: usize) -> usize
     requires { ⌜ ListBounds s (now words) (now cells) ⌝ }
     requires { ⌜ yes? (headWord (now words) 5) ≡ true ⌝ }
     requires { ⌜ used ≤ length (now draws) ⌝ }

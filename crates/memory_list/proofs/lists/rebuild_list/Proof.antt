@@ -16,14 +16,14 @@ list-start-requires : tie.Need-list-start-requires
 list-start-requires c κs = c .before .before .before .before .before .before .before .pre .0 .spans .inWords .sizes
 
 add-update-pieces : tie.Need-add-update-pieces
-add-update-pieces c = 
+add-update-pieces c =
     let t = c .before .before .before .before .before .before .before .before in
     let a = c .list-start in
     let e = part-start (t .args .s) (t .pre .0 .spans .inWords .sizes) (a .result) (a .ensures) in
     omega (arith, e .0, e .1)
 
 mul-update-pieces : tie.Need-mul-update-pieces
-mul-update-pieces c = 
+mul-update-pieces c =
     let t = c .before .before .before .before .before .before .before .before in
     let a = c .list-start in
     let e = part-start (t .args .s) (t .pre .0 .spans .inWords .sizes) (a .result) (a .ensures) in
@@ -36,7 +36,7 @@ part-update-pieces-start : tie.Need-part-update-pieces-start
 part-update-pieces-start c = search needs
 
 part-update-pieces-end : tie.Need-part-update-pieces-end
-part-update-pieces-end c = 
+part-update-pieces-end c =
     let t = c .before .before .before .before .before .before .before .before in
     part-fits (t .args .s) (t .args .words .now) (t .pre .0 .spans .inWords) (c .list-start .result) (c .list-start .ensures)
 
@@ -44,7 +44,7 @@ slice-aggregate-update-pieces : tie.Need-slice-aggregate-update-pieces
 slice-aggregate-update-pieces c = search needs
 
 update-pieces-requires : tie.Need-update-pieces-requires
-update-pieces-requires c κs = 
+update-pieces-requires c κs =
     let t = c .before .before .before .before .before .before .before .before .before .before in
     let k = c .before .before .before .before .rank-pieces in
     let a = c .before .before .list-start in
@@ -59,7 +59,7 @@ update-pieces-requires c κs =
     )
 
 set-list-length-requires : tie.Need-set-list-length-requires
-set-list-length-requires c κs = 
+set-list-length-requires c κs =
     let t = c .before .before .before .before .before .before .before .before .before .before .before .before .before .before in
     let a = c .before .before .before .before .before .before .list-start in
     back-head (t .args .s) (t .args .words .now) (t .pre .0 .spans .inWords) (a .result) (a .ensures) (c .before .before .before .update-pieces .last .0)
@@ -69,7 +69,7 @@ same-length : tie.Need-same-length
 same-length c = search needs
 
 returns : tie.Need-returns
-returns c = 
+returns c =
     let t = c .before .before .before .before .before .before .before .before .before .before .before .before .before .before .before .before .before in
     let k = c .before .before .before .before .before .before .before .before .before .before .before .rank-pieces in
     let a = c .before .before .before .before .before .before .before .before .before .list-start in

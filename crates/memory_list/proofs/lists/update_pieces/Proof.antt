@@ -11,7 +11,7 @@ is-dirty-requires : tie.Need-is-dirty-requires
 is-dirty-requires c κs = c .before .before .before .before .pre .0 .spans .inWords
 
 rebuild-list-requires : tie.Need-rebuild-list-requires
-rebuild-list-requires c κs = 
+rebuild-list-requires c κs =
     let t = c .before .before .before .before .before .before .before in
     let a = t .args in
     let e = sym (flag-is [] (a .words .now) (a .cells .now)) ∙ sym (c .before .before .is-dirty .ensures .is [] (a .cells .now)) ∙ c .before .if1 .taken in
@@ -27,7 +27,7 @@ same-length-2 : tie.Need-same-length-2
 same-length-2 c = search needs
 
 returns-2 : tie.Need-returns-2
-returns-2 c = 
+returns-2 c =
     let t = c .before .before .before .before .before .before in
     let a = t .args in
     list-fresh (a .s) (a .words .now) (a .cells .now) (a .draws .now) (a .used) (t .pre .1 .0)
