@@ -94,7 +94,8 @@ module _ (s : Shape) (records : List Record) (words cells : List ℕ) where
   -- the ranges
   pub ranges-held : InBounds s records words cells → InRange (decode records words cells) → Ranges (s .pieces) cells
   ranges-held r g =
-      let there : (i : ℕ) → i < s .pieces → i < piecesIn (decode records words cells) = λ i h. rw (pieces-number s records words cells r) h in
+      let there : (i : ℕ) → i < s .pieces → i < piecesIn (decode records words cells) = λ i h.
+      rw (pieces-number s records words cells r) h in
       record {
         peerCount = λ i h. rw (← peer-count-is s records words cells r i h) (g i (there i h) .peerCount);
         priority = λ i h. rw (← priority-is s records words cells r i h) (g i (there i h) .priority);
@@ -199,8 +200,8 @@ moved-became s f records words words′ words″ cells cells′ draws old i used
     let d = decode records words cells in
     let h : update draws old i (drawing used (f d)) ≡ changeAndUpdate draws i f (drawing used d) =
     ap (λ (v : ℕ). update draws v i (drawing used (f d))) e in (
-      became-named s (λ x. update draws old i (drawing used (f x)) .picker) (λ x. changeAndUpdate draws i f (drawing used x) .picker) records
-          words cells words″ cells′ (ap (λ (w : Drawing). w .picker) h)
+      became-named s (λ x. update draws old i (drawing used (f x)) .picker) (λ x. changeAndUpdate draws i f (drawing used x) .picker)
+          records words cells words″ cells′ (ap (λ (w : Drawing). w .picker) h)
           (became-again s f (λ x. update draws old i (drawing used x) .picker) records words cells words′ cells′ words″ cells′ b
           (l .became .became records (b .bounds))),
       l .next-is records ∙ ap (λ (x : Picker). update draws old i (drawing used x) .used) (b .is) ∙ ap (λ (w : Drawing). w .used) h,
