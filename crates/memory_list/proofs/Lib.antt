@@ -1,3 +1,5 @@
 pub mod Ranking
 pub mod Regions
 pub mod Updates
+pub mod Rebuilds
+pub mod Moving

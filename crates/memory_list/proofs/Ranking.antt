@@ -22,8 +22,8 @@ use Rattle.memory_list.specs.Listings.{Ranges, IsRankAt, RanksFilled}
 
 -- ---- one piece
 -- numbers in another width have the same rank
-pub rank-of-cells : (seeds c t p : ℕ) (flushed : Bool) (c′ t′ p′ v v′ : ℕ) → c′ ≡ c → t′ ≡ t → p′ ≡ p → v′ ≡ v → IsRank seeds c′ t′ p′ flushed v
-    → IsRank seeds c t p flushed v′
+pub rank-of-cells : (seeds c t p : ℕ) (flushed : Bool) (c′ t′ p′ v v′ : ℕ) → c′ ≡ c → t′ ≡ t → p′ ≡ p → v′ ≡ v
+    → IsRank seeds c′ t′ p′ flushed v → IsRank seeds c t p flushed v′
 rank-of-cells seeds c t p flushed c′ t′ p′ v v′ ec et ep ev k = rw (ev, ← ec, ← et, ← ep) k
 
 module _ (s : Shape) (words cells : List ℕ) (i : ℕ) (h : i < s .pieces) where

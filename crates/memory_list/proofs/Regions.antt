@@ -1,7 +1,7 @@
 -- The list's places lent as a slice of their own and put back: what they hold, and what becomes of the picker. Assumes nothing.
 use mathlib.Core.Path.{_≡_, refl, sym, ap, ap₂, _∙_, fun-ext}
 use mathlib.Core.Bool.{Bool, true, false, cond}
-use mathlib.Core.List.{List}
+use mathlib.Core.List.{List, []}
 use Prim.Native.Nat.{ℕ, _+_, _-_, _%_, _≤_, _<_}
 use native.Mathlib.Omega.{arith}
 use lib.ListN.{length, getD, take, set}
@@ -26,7 +26,7 @@ use Rattle.memory_layout.proofs.BoundsLaws.{cells-kept-none, became-named, beca
 use Rattle.memory_layout.proofs.stores.ListStores.{part-put-long, lent-long, lent-word, ListPut, list-became, list-ranks, list-put}
 use Rattle.list_groups.specs.Words.{listedPiece as wordPiece, listedRank, piecesOf, RanksIn}
 use Rattle.list_words.proofs.Listing.{ranks-places}
-use Rattle.memory_fields.specs.Reading.{WordsSay}
+use Rattle.memory_fields.specs.Reading.{HeadSays, WordsSay}
 use Rattle.memory_list.specs.Listings.{RanksRight, ListBecame}
 
 -- n words from a on, and all words with others in their place
@@ -37,8 +37,8 @@ abbrev pub backAt : ℕ → ℕ → List ℕ → List ℕ → List ℕ
 backAt a n words part = putMid a (a + n - a) words part
 
 -- the piece at a place
-pub place-read : (s : Shape) (words : List ℕ) (k : ℕ) → k < headWord words 6 → (r w : ℕ) → r ≡ w % 65536 → w ≡ pieceWord words (s .pieces) 1 k
-    → WordsSay s words (λ d. nth 0 (listOf (d .listing)) k) r
+pub place-read : (s : Shape) (words : List ℕ) (k : ℕ) → k < headWord words 6 → (r w : ℕ) → r ≡ w % 65536
+    → w ≡ pieceWord words (s .pieces) 1 k → WordsSay s words (λ d. nth 0 (listOf (d .listing)) k) r
 unfolding listedPiece
 place-read s words k h r w e f =
     record { is = λ records cells q. e ∙ ap (λ (x : ℕ). x % 65536) f ∙ sym (listed-is s records words cells q k h) }
@@ -81,8 +81,8 @@ module _ (s : Shape) (words : List ℕ) (r : WordsSpan s words) (a : ℕ) (ea : 
     unfolding piecesOf listHeld wordPiece listedPiece
     front-pieces =
         rw (← en)
-        (sym (tabulate-each listedPiece (take n (lentAt a (s .pieces) words)) n (λ k. listedPiece (pieceWord words (s .pieces) 1 k)) front-long
-        (λ k h. ap listedPiece (sym (front-word k h)))))
+        (sym (tabulate-each listedPiece (take n (lentAt a (s .pieces) words)) n (λ k. listedPiece (pieceWord words (s .pieces) 1 k))
+        front-long (λ k h. ap listedPiece (sym (front-word k h)))))
 
     -- with the ranks beside them
     pub front-ranks : (g : ℕ → ℕ) → RanksHeld (s .pieces) words g → RanksIn g (take n (lentAt a (s .pieces) words))
@@ -118,6 +118,10 @@ flag-is records words cells = go (yes? (headWord words 5)) _
     go : (t : Bool) (l : List ℕ) → isDirty (cond t dirty (fresh l)) ≡ t
     go true l = refl
     go false l = refl
+
+-- as it is read
+pub flag-read : (words : List ℕ) (r t : Bool) → HeadSays words (λ d. isDirty (d .listing)) r → r ≡ t → yes? (headWord words 5) ≡ t
+flag-read words r t h e = sym (flag-is [] words []) ∙ sym (h .is [] []) ∙ e
 
 -- fresh by its word
 pub list-clean : (s : Shape) (records : List Record) (words cells : List ℕ) → s .pieces ≡ piecesOn words → yes? (headWord words 5) ≡ false
@@ -169,8 +173,8 @@ module _ (s : Shape) (step : Drawing → Drawing) (words cells : List ℕ) (used
             wordsKept = b .kept;
             cellsKept = cells-kept-none s cells;
             became = λ records r.
-                became-named s (withListing (fresh (piecesOf (take m part)))) (λ d. step (drawing used d) .picker) records words cells words′
-                cells (same records) (b .became records cells r);
+                became-named s (withListing (fresh (piecesOf (take m part)))) (λ d. step (drawing used d) .picker) records words cells
+                words′ cells (same records) (b .became records cells r);
           };
           next-is = next-same;
           ranks = λ records. rw (ranks-stay records) (held records);

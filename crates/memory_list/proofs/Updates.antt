@@ -23,7 +23,8 @@ use Rattle.list_words.proofs.Natural.{pieces-map}
 use Rattle.list_words.proofs.Mending.{former-same}
 use Rattle.list_words.proofs.Listing.{listed-ready, listed-room}
 use Rattle.memory_list.specs.Listings.{RanksRight, ListBounds, ListBefore, IsRankAt, ListBecame}
-use Rattle.memory_list.proofs.Regions.{lentAt, backAt, part-long, front-pieces, front-ranks, part-stored, flag-is, list-clean, list-stored, list-left}
+use Rattle.memory_list.proofs.Regions.{lentAt, backAt, part-long, front-pieces, front-ranks, part-stored, flag-is, list-clean}
+use Rattle.memory_list.proofs.Regions.{list-stored, list-left}
 
 -- ---- the model
 -- a fresh list mended
@@ -34,7 +35,8 @@ unfolding update updateIn drawing
 update-clean draws old i used d l e = ap (λ (k : Listing). updateIn k draws old i (drawing used d)) e
 
 -- a dirty one left
-update-dirty : (draws : List ℕ) (old i used : ℕ) (d : Picker) → isDirty (d .listing) ≡ true → update draws old i (drawing used d) ≡ drawing used d
+update-dirty : (draws : List ℕ) (old i used : ℕ) (d : Picker) → isDirty (d .listing) ≡ true
+    → update draws old i (drawing used d) ≡ drawing used d
 unfolding update updateIn drawing isDirty
 update-dirty draws old i used d e = go (d .listing) e
   where
@@ -49,8 +51,9 @@ unfolding piecesIn piecesHeld
 pieces-many s records words cells e = tabulate-len (piecesOn words) (pieceHeld words cells (piecesOn words)) ∙ sym e
 
 -- ---- a list that is not dirty
-module _ (s : Shape) (words cells : List ℕ) (q : ListBounds s words cells) (old i : ℕ) (h : i < s .pieces) (g : ListBefore s words cells old i)
-    (clean : yes? (headWord words 5) ≡ false) (a : ℕ) (ea : a ≡ pieceWordAt (s .pieces) 1 0) (n : ℕ) (en : n ≡ headWord words 6) where
+module _ (s : Shape) (words cells : List ℕ) (q : ListBounds s words cells) (old i : ℕ) (h : i < s .pieces)
+    (g : ListBefore s words cells old i) (clean : yes? (headWord words 5) ≡ false) (a : ℕ) (ea : a ≡ pieceWordAt (s .pieces) 1 0)
+    (n : ℕ) (en : n ≡ headWord words 6) where
   abbrev ws : List ℕ
   ws = take n (lentAt a (s .pieces) words)
 
@@ -85,17 +88,18 @@ module _ (s : Shape) (words cells : List ℕ) (q : ListBounds s words cells) (ol
   -- as the code has the piece and its old rank
   module _ (piece was new : ℕ) (ep : piece ≡ i) (ew : was ≡ old) (r : IsRankAt s words cells i new) where
     -- what the mending asks
-    pub update-room : n + bit (eqb was 0) ≤ length (lentAt a (s .pieces) words)
-    update-room =
+    pub update-asks : old < 65536 → (used many : ℕ) → used ≤ many
+        → (n + bit (eqb was 0) ≤ length (lentAt a (s .pieces) words))
+        × ((piece < 65536) × ((was < 65536) × ((new < 65536) × (Ready was piece (take n (lentAt a (s .pieces) words)) × (used ≤ many)))))
+    update-asks low used many drawn =
         let long = part-long s words (q .spans .inWords) a ea in
-        let m = length-take-le n (lentAt a (s .pieces) words) (omega (arith, long, q .list)) in
-        rw (ew, long) (omega (arith, room [], m))
-
-    pub update-ready : Ready was piece (take n (lentAt a (s .pieces) words))
-    update-ready = rw (ew, ep) (ready [])
-
-    pub update-small : (piece < 65536) × (new < 65536)
-    update-small = (omega (arith, q .spans .inWords .sizes .many), omega (arith, r .low))
+        let m = length-take-le n (lentAt a (s .pieces) words) (omega (arith, long, q .list)) in (
+          rw (ew, long) (omega (arith, room [], m)),
+          (
+            omega (arith, q .spans .inWords .sizes .many),
+            (omega arith, (omega (arith, r .low), (rw (ew, ep) (ready []), drawn))),
+          ),
+        )
 
     -- what it leaves
     module _ (draws : List ℕ) (used : ℕ) (part : List ℕ) (m next : ℕ) (long : length part ≡ length (lentAt a (s .pieces) words))

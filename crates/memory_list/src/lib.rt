@@ -5,5 +5,6 @@ mod ranks;
 
 pub use lists::list_place;
 pub use lists::update;
+pub use lists::update_pieces;
 pub use ranks::rank_at;
 pub use ranks::rank_pieces;

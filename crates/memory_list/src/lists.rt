@@ -1,5 +1,6 @@
-// The list in its part of the words: read, and mended.
+// The list in its part of the words: read, mended, and rebuilt.
 use crate::ranks::rank_at;
+use crate::ranks::rank_pieces;
 use memory_fields::is_dirty;
 use memory_fields::list_length;
 use memory_layout::Shape;
@@ -10,16 +11,16 @@ use types::u16_to_u64;
 use types::u64_to_usize;
 use types::usize_to_u64;
 ghost use mathlib.Core.Path.{_≡_};
-ghost use mathlib.Core.Bool.{false};
+ghost use mathlib.Core.Bool.{true, false};
 ghost use Prim.Native.Nat.{_≤_, _<_};
 ghost use lib.ListN.{length, set};
 ghost use Rattle.model.specs.Lists.{nth};
 ghost use Rattle.model.specs.State.{listOf};
-ghost use Rattle.model.specs.list.Order.{update};
+ghost use Rattle.model.specs.list.Order.{update, updatePieces};
 ghost use Rattle.memory_layout.specs.Decode.{headWord, yes?};
 ghost use Rattle.memory_layout.specs.Bounds.{WordsSpan};
 ghost use Rattle.memory_fields.specs.Reading.{WordsSay};
-ghost use Rattle.memory_list.specs.Listings.{ListBounds, ListBefore, ListBecame};
+ghost use Rattle.memory_list.specs.Listings.{ListBounds, RanksRight, ListBefore, ListBecame};
 
 // The piece at place k of the list.
 pub fn list_place(words: &[u64], s: Shape, k: usize) -> usize
@@ -54,7 +55,8 @@ fn update_list(
     requires { ⌜ ListBefore s (now words) (now cells) old i ⌝ }
     requires { ⌜ yes? (headWord (now words) 5) ≡ false ⌝ }
     requires { ⌜ used ≤ length (now draws) ⌝ }
-    ensures { λ r. ⌜ ListBecame s (update (now (draws .entry)) old i) (now (words .entry)) (now (words .exit)) (now (cells .entry)) used r ⌝ }
+    ensures { λ r. ⌜ ListBecame s (update (now (draws .entry)) old i)
+        (now (words .entry)) (now (words .exit)) (now (cells .entry)) used r ⌝ }
 {
     let new = u16_to_u64(rank_at(words, cells, s, i));
     let was = u16_to_u64(old);
@@ -81,10 +83,48 @@ pub fn update(
     requires { ⌜ i < s .pieces ⌝ }
     requires { ⌜ ListBefore s (now words) (now cells) old i ⌝ }
     requires { ⌜ used ≤ length (now draws) ⌝ }
-    ensures { λ r. ⌜ ListBecame s (update (now (draws .entry)) old i) (now (words .entry)) (now (words .exit)) (now (cells .entry)) used r ⌝ }
+    ensures { λ r. ⌜ ListBecame s (update (now (draws .entry)) old i)
+        (now (words .entry)) (now (words .exit)) (now (cells .entry)) used r ⌝ }
 {
     if is_dirty(words, s) {
         return used;
     }
     update_list(words, cells, s, i, old, draws, used)
+}
+
+// `update_pieces` of a dirty list.
+fn rebuild_list(words: &mut [u64], cells: &[u16], s: Shape, draws: &[u32], used: usize) -> usize
+    requires { ⌜ ListBounds s (now words) (now cells) ⌝ }
+    requires { ⌜ yes? (headWord (now words) 5) ≡ true ⌝ }
+    requires { ⌜ used ≤ length (now draws) ⌝ }
+    ensures { λ r. ⌜ ListBecame s (updatePieces (now (draws .entry)))
+        (now (words .entry)) (now (words .exit)) (now (cells .entry)) used r ⌝ }
+{
+    let mut ranks = [0; 4096];
+    let n = s.pieces;
+    rank_pieces(words, cells, s, &mut ranks);
+    let a = list_start(s);
+    let done = list_rebuild::update_pieces(&mut words[a..a + n], &ranks, n, draws, used);
+    set_list_length(words, done.len);
+    done.used
+}
+
+// The list rebuilt where it is dirty. Answers the number of the next draw.
+pub fn update_pieces(
+    words: &mut [u64],
+    cells: &[u16],
+    s: Shape,
+    draws: &[u32],
+    used: usize,
+) -> usize
+    requires { ⌜ ListBounds s (now words) (now cells) ⌝ }
+    requires { ⌜ RanksRight s (now words) (now cells) ⌝ }
+    requires { ⌜ used ≤ length (now draws) ⌝ }
+    ensures { λ r. ⌜ ListBecame s (updatePieces (now (draws .entry)))
+        (now (words .entry)) (now (words .exit)) (now (cells .entry)) used r ⌝ }
+{
+    if is_dirty(words, s) {
+        return rebuild_list(words, cells, s, draws, used);
+    }
+    used
 }

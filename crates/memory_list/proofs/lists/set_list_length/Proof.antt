@@ -1,5 +1,4 @@
 -- `set_list_length` meets its contract. Assumes nothing.
-use native.Mathlib.Omega.{arith}
 use borrow.Author.Needs.{needs}
 use Rattle.memory_list.proofs.lists.set_list_length.Statement.{statement}
 use Rattle.memory_list.proofs.lists.set_list_length.Tie as tie
@@ -17,7 +16,11 @@ same-length : tie.Need-same-length
 same-length c = search needs
 
 returns : tie.Need-returns
-returns c = rw (c .before .before .set-head-word2 .ensures, c .before .before .before .before .before .before .set-head-word .ensures, c .before .before .before .before .before .before .before .usize-to-u64 .ensures)
+returns c =
+    let c2 = c .before .before in
+    let c6 = c2 .before .before .before .before in
+    let c7 = c6 .before in
+    rw (c2 .set-head-word2 .ensures, c6 .set-head-word .ensures, c7 .usize-to-u64 .ensures)
 
 pub set-list-length-spec : {M : Type 1} → statement M
 set-list-length-spec =

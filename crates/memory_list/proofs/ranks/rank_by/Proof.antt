@@ -1,5 +1,5 @@
 -- `rank_by` meets its contract: the rank by the number of the state that the cell means. Assumes nothing.
-use mathlib.Core.Path.{sym, ap, _∙_}
+use mathlib.Core.Path.{_∙_}
 use native.Mathlib.Omega.{arith}
 use borrow.Author.Needs.{needs}
 use Rattle.memory_list.proofs.Ranking.{rank-of-cells}
@@ -27,10 +27,12 @@ u64-to-u16-requires c κs = omega (arith, c .rank .ensures .low)
 returns : tie.Need-returns
 returns c =
     let c1 = c .before in
-    let c3 = c1 .before .before in
-    let c5 = c3 .before .before in
-    rank-of-cells _ _ _ _ _ _ _ _ _ _ (c3 .u16-to-u642 .ensures) (c3 .before .u16-to-u64 .ensures ∙ c5 .state-number .ensures)
-    (c1 .before .u16-to-u643 .ensures) (c .u64-to-u16 .ensures) (c1 .rank .ensures)
+    let c2 = c1 .before in
+    let c3 = c2 .before in
+    let c4 = c3 .before in
+    let c5 = c4 .before in
+    rank-of-cells _ _ _ _ _ _ _ _ _ _ (c3 .u16-to-u642 .ensures) (c4 .u16-to-u64 .ensures ∙ c5 .state-number .ensures)
+    (c2 .u16-to-u643 .ensures) (c .u64-to-u16 .ensures) (c1 .rank .ensures)
 
 pub rank-by-spec : {M : Type 1} → statement M
 rank-by-spec =

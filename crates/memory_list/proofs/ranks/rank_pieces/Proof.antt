@@ -13,25 +13,40 @@ abbrev μ-loop : tie.MeasureT-loop
 μ-loop words cells s ranks₀ n i₀ ranks i = s .pieces - i
 
 loop-holds : tie.Need-loop-holds Inv-loop μ-loop
-loop-holds c = let t = c .before .before .before in filling-start (t .args .s) (t .args .words .now) (t .args .cells .now) _
+loop-holds c =
+    let c3 = c .before .before .before in
+    filling-start (c3 .args .s) (c3 .args .words .now) (c3 .args .cells .now) _
 
 rank-at-requires : tie.Need-rank-at-requires Inv-loop μ-loop
-rank-at-requires c κs = let t = c .before .before .before .before .before in (t .pre .0, (t .pre .1 .0, c .loop-test .taken))
+rank-at-requires c κs =
+    let c5 = c .before .before .before .before .before in
+    (c5 .pre .0, (c5 .pre .1 .0, c .loop-test .taken))
 
 mul-ranks : tie.Need-mul-ranks Inv-loop μ-loop
-mul-ranks c = omega (arith, c .before .before .before .before .before .before .pre .0 .inWords .sizes .many)
+mul-ranks c =
+    let c6 = c .before .before .before .before .before .before in
+    omega (arith, c6 .pre .0 .inWords .sizes .many)
 
 slice-write-ranks : tie.Need-slice-write-ranks Inv-loop μ-loop
-slice-write-ranks c = omega (arith, c .before .before .before .before .before .before .pre .1 .1, c .before .before .loop .inv .filled .long)
+slice-write-ranks c =
+    let c2 = c .before .before in
+    let c6 = c2 .before .before .before .before in
+    omega (arith, c6 .pre .1 .1, c2 .loop .inv .filled .long)
 
 add-i : tie.Need-add-i Inv-loop μ-loop
-add-i c = omega (arith, c .before .before .before .before .before .before .pre .0 .inWords .sizes .many)
+add-i c =
+    let c6 = c .before .before .before .before .before .before in
+    omega (arith, c6 .pre .0 .inWords .sizes .many)
 
 loop-less : tie.Need-loop-less Inv-loop μ-loop
 loop-less c = search needs
 
 loop-again : tie.Need-loop-again Inv-loop μ-loop
-loop-again c = let t = c .before .before .before .before .before .before in filling-next _ _ _ _ _ _ (c .before .before .loop .inv) (t .pre .1 .1) (c .before .loop-test .taken) _ (c .rank-at .ensures)
+loop-again c =
+    let c1 = c .before in
+    let c2 = c1 .before in
+    let c6 = c2 .before .before .before .before in
+    filling-next _ _ _ _ _ _ (c2 .loop .inv) (c6 .pre .1 .1) (c1 .loop-test .taken) _ (c .rank-at .ensures)
 
 same-length : tie.Need-same-length Inv-loop μ-loop
 same-length c = c .before .loop .inv .filled .long
