@@ -1,1 +1,2 @@
 pub mod WorkLaws
+pub mod MendLaws

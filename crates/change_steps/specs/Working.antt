@@ -3,13 +3,14 @@
 use Prim.Native.Nat.{ℕ}
 use mathlib.Core.Path.{_≡_}
 use mathlib.Core.List.{List}
+use Rattle.model.specs.State.{Picker}
 use Rattle.model.specs.list.Order.{Drawing, drawing}
 use Rattle.model.specs.list.Listed.{ListingOk}
 use Rattle.memory_records.specs.declared.record.DownloadingPiece.{DownloadingPiece as Record}
 use Rattle.memory_layout.specs.declared.shape.Shape.{Shape}
 use Rattle.memory_layout.specs.Decode.{decode}
 use Rattle.memory_layout.specs.Bounds.{InBounds, Plain}
-use Rattle.memory_layout.specs.Stores.{WordsKept, CellsKept}
+use Rattle.memory_layout.specs.Stores.{WordsKept, CellsKept, ListKept}
 use Rattle.memory_list.specs.Listings.{Ranges, RanksRight}
 
 -- in bounds and plain, peer counts and priorities in range; the list dirty or right, and beside each of its pieces the piece's rank
@@ -36,3 +37,14 @@ pub record Went (s : Shape) (step : Drawing → Drawing) (records : List Record)
 -- and that with whichever records stand beside them, which stay
 pub record Goes (s : Shape) (step : Drawing → Drawing) (words cells : List ℕ) (used : ℕ) (words′ cells′ : List ℕ) (next : ℕ) : Type 0 where
   pub went : (records : List Record) → Works s records words cells → Went s step records words cells used records words′ cells′ next
+
+-- `change` is stored, and the list is as it was, still to be mended
+pub record Stored (s : Shape) (change : Picker → Picker) (records : List Record) (words cells : List ℕ) (records′ : List Record)
+    (words′ cells′ : List ℕ) : Type 0 where
+  pub is : decode records′ words′ cells′ ≡ change (decode records words cells)
+  pub bounds : InBounds s records′ words′ cells′
+  pub plain : Plain s records′ words′ cells′
+  pub ranges : Ranges (s .pieces) cells′
+  pub list : ListKept s words words′
+  pub wordsKept : WordsKept s words words′
+  pub cellsKept : CellsKept s cells cells′

@@ -76,11 +76,14 @@ pub record Standing (records : List Record) (words : List ℕ) (i p k : ℕ) : T
 pub opened-standing : (s : Shape) (records : List Record) (words cells words′ : List ℕ) (x : Record) → InBounds s records words cells
     → headWord words 7 < length records → headWord words′ 7 ≡ suc (headWord words 7)
     → (k : ℕ) × Standing (inserted (headWord words 7) x records) words′ (x .index) (x .«info_idx») k
-opened-standing s records words cells words′ x r fits e = (slot x (take (headWord words 7) records) .0, record {
-  low = omega (arith, e, opened-low s records words cells words cells x r fits);
-  index = ap (λ (y : Record). y .index) (opened-here s records words cells words cells x r fits);
-  place = ap (λ (y : Record). y .«info_idx») (opened-here s records words cells words cells x r fits);
-})
+opened-standing s records words cells words′ x r fits e = (
+  slot x (take (headWord words 7) records) .0,
+  record {
+    low = omega (arith, e, opened-low s records words cells words cells x r fits);
+    index = ap (λ (y : Record). y .index) (opened-here s records words cells words cells x r fits);
+    place = ap (λ (y : Record). y .«info_idx») (opened-here s records words cells words cells x r fits);
+  },
+)
 
 module _ (s : Shape) (records : List Record) (words cells : List ℕ) (i p k : ℕ) (t : Standing records words i p k)
     (r : InBounds s records words cells) (rising : partialsFrom 0 (decode records words cells .partials) ≡ true) where
