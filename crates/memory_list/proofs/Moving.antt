@@ -1,6 +1,6 @@
 -- What callers need: a piece changed, then the list mended after it. What the mending asks follows from the picker before the change, and
 -- both together are the model's change and update. Assumes nothing.
-use mathlib.Core.Path.{_≡_, refl, sym, ap, _∙_, subst, fun-ext}
+use mathlib.Core.Path.{_≡_, sym, ap, _∙_, subst, fun-ext}
 use mathlib.Core.Bool.{true}
 use mathlib.Core.List.{List}
 use Prim.Native.Nat.{ℕ, _+_, _≤_, _<_}
@@ -14,7 +14,6 @@ use Rattle.model.specs.State.{withFlushed}
 use Rattle.model.specs.list.Listed.{ListingOf, ListingOk}
 use Rattle.model.specs.list.Order.{rank, Drawing, drawing, noDraw, update, changeAndUpdate}
 use Rattle.model.specs.image.WellFormed.{pieceOk, wellFormed}
-use Rattle.model.specs.image.Sound.{Sound}
 use Rattle.model.proofs.base.Truths.{and-left, and-right}
 use Rattle.model.proofs.list.RankLaws.{piecesIn-withPiece, pieceAt-same, pieceAt-other}
 use Rattle.model.proofs.sound.SoundBody.{Frame, sound-body}

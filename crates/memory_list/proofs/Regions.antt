@@ -9,7 +9,7 @@ use lib.Seq.{getD-take, length-take-le}
 use borrow.Rule.Slice.PartMut.{putMid, midOf}
 use Rattle.model.specs.Lists.{nth}
 use Rattle.model.specs.Bep3.{numPieces}
-use Rattle.model.specs.State.{Picker, Piece, dirty, fresh, isDirty, listOf, withListing}
+use Rattle.model.specs.State.{dirty, fresh, isDirty, listOf, withListing}
 use Rattle.model.specs.list.Order.{rank, Drawing, drawing}
 use Rattle.model.proofs.list.RankLaws.{rank-same}
 use Rattle.memory_records.specs.declared.record.DownloadingPiece.{DownloadingPiece as Record}

@@ -8,12 +8,11 @@ use lib.Dec.{eqb}
 use lib.ListN.{length, take, drop, set, length-append, length-map, take-append-drop}
 use lib.Seq.{length-take-le}
 use Rattle.model.specs.Lists.{bit, len}
-use Rattle.model.specs.State.{Picker, Piece, Listing, dirty, fresh, isDirty, piecesIn, withListing}
+use Rattle.model.specs.State.{Picker, Listing, dirty, fresh, isDirty, piecesIn, withListing}
 use Rattle.model.specs.list.Listed.{Listed, ListingOf}
 use Rattle.model.specs.list.Order.{rank, updated, updateDraws, drawing, update, updateIn}
 use Rattle.memory_records.specs.declared.record.DownloadingPiece.{DownloadingPiece as Record}
 use Rattle.memory_layout.specs.declared.shape.Shape.{Shape}
-use Rattle.memory_layout.specs.Tables.{tabulate}
 use Rattle.memory_layout.specs.Offsets.{pieceWordAt}
 use Rattle.memory_layout.specs.Decode.{headWord, piecesOn, yes?, pieceHeld, piecesHeld, listHeld, decode}
 use Rattle.memory_layout.proofs.TableLaws.{tabulate-len}
@@ -22,7 +21,7 @@ use Rattle.list_words.specs.Updating.{former, Ready, IsUpdated, Updates}
 use Rattle.list_words.proofs.Natural.{pieces-map}
 use Rattle.list_words.proofs.Mending.{former-same}
 use Rattle.list_words.proofs.Listing.{listed-ready, listed-room}
-use Rattle.memory_list.specs.Listings.{RanksRight, ListBounds, ListBefore, IsRankAt, ListBecame}
+use Rattle.memory_list.specs.Listings.{ListBounds, ListBefore, IsRankAt, ListBecame}
 use Rattle.memory_list.proofs.Regions.{lentAt, backAt, part-long, front-pieces, front-ranks, part-stored, flag-is, list-clean}
 use Rattle.memory_list.proofs.Regions.{list-stored, list-left}
 

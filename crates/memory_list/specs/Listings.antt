@@ -5,7 +5,7 @@ use mathlib.Core.Path.{_≡_}
 use mathlib.Core.Bool.{true}
 use mathlib.Core.List.{List}
 use lib.ListN.{length, getD}
-use Rattle.model.specs.State.{Picker, maxPeers, maxPriority, piecesIn}
+use Rattle.model.specs.State.{maxPeers, maxPriority, piecesIn}
 use Rattle.model.specs.list.Order.{rank, Drawing, drawing}
 use Rattle.model.specs.list.Listed.{ListingOf}
 use Rattle.memory_records.specs.declared.record.DownloadingPiece.{DownloadingPiece as Record}

@@ -5,7 +5,6 @@ use memory_layout::head_word;
 use memory_layout::piece_cell;
 use types::u16_to_u64;
 use types::u64_to_u16;
-ghost use mathlib.Core.Path.{_≡_};
 ghost use Prim.Native.Nat.{_≤_, _<_};
 ghost use lib.Dec.{eqb};
 ghost use lib.ListN.{length};

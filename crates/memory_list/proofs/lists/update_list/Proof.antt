@@ -76,7 +76,8 @@ update-requires c κs =
     let a = c12 .args in
     let pre = c12 .pre in
     update-asks (a .s) (a .words .now) (a .cells .now) (pre .0) (a .old) (a .i) (pre .1 .0) (pre .1 .1 .0) (pre .1 .1 .1 .0) (b .result)
-    (b .ensures) (n .result) (n .ensures .0) (p .result) (w .result) (v .result) (p .ensures) (w .ensures) (rank-wide (v .ensures) (r .ensures))
+    (b .ensures) (n .result) (n .ensures .0) (p .result) (w .result) (v .result) (p .ensures) (w .ensures)
+    (rank-wide (v .ensures) (r .ensures))
     (c12 .fits .old .fits) (a .used) _ (pre .1 .1 .1 .1)
 
 set-list-length-requires : tie.Need-set-list-length-requires
@@ -114,7 +115,8 @@ returns c =
     let pre = c19 .pre in
     let u = c6 .update in
     list-mended (a .s) (a .words .now) (a .cells .now) (pre .0) (a .old) (a .i) (pre .1 .0) (pre .1 .1 .0) (pre .1 .1 .1 .0) (b .result)
-    (b .ensures) (n .result) (n .ensures .0) (p .result) (w .result) (v .result) (p .ensures) (w .ensures) (rank-wide (v .ensures) (r .ensures))
+    (b .ensures) (n .result) (n .ensures .0) (p .result) (w .result) (v .result) (p .ensures) (w .ensures)
+    (rank-wide (v .ensures) (r .ensures))
     (a .draws .now) (a .used) (u .last .0) (u .result .len) (u .result .used) (c5 .words .given .0) (u .ensures)
     _ (c2 .set-list-length .ensures)
 

@@ -1,6 +1,5 @@
 -- `rank_at` meets its contract. Assumes nothing.
 use native.Mathlib.Omega.{arith}
-use borrow.Author.Needs.{needs}
 use Rattle.memory_layout.proofs.OffsetLaws.{head-in}
 use Rattle.memory_list.proofs.Ranking.{cells-most, rank-is}
 use Rattle.memory_list.proofs.ranks.rank_at.Statement.{statement}
