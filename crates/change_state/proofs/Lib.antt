@@ -1,1 +1,3 @@
 pub mod StateLaws
+pub mod QueueLaws
+pub mod MoveLaws

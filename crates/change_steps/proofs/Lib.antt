@@ -1,2 +1,3 @@
 pub mod WorkLaws
 pub mod MendLaws
+pub mod FieldLaws

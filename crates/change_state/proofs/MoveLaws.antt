@@ -1,0 +1,57 @@
+-- A piece in another state: what is stored, and what becomes of the picker once the list is mended. Assumes nothing.
+use mathlib.Core.Path.{_≡_, sym, ap, _∙_, subst}
+use mathlib.Core.List.{List}
+use Prim.Native.Nat.{ℕ, _<_}
+use Rattle.types.specs.declared.queue.DownloadQueue.{DownloadQueue}
+use Rattle.types.specs.Queue.{queueNumber}
+use Rattle.model.specs.State.{Picker, pieceAt, withPiece, withState}
+use Rattle.model.specs.list.Order.{Draws, rank, update, changeAndUpdate}
+use Rattle.model.specs.change.Partials.{setState}
+use Rattle.model.proofs.sound.SoundFields.{alone-piece}
+use Rattle.memory_records.specs.declared.record.DownloadingPiece.{DownloadingPiece as Record}
+use Rattle.memory_layout.specs.declared.shape.Shape.{Shape}
+use Rattle.memory_layout.specs.Decode.{decode, queueFrom}
+use Rattle.memory_layout.specs.Stores.{CellsBecame}
+use Rattle.memory_layout.proofs.Numbers.{number-queue}
+use Rattle.memory_list.specs.Listings.{ListBounds, ListBefore, IsRankAt, ListBecame}
+use Rattle.memory_list.proofs.Moving.{range-state}
+use Rattle.change_steps.specs.Working.{Works, WorksBeside, Goes, Went, Stored}
+use Rattle.change_steps.proofs.FieldLaws.{works-range, works-piece, field-stored}
+use Rattle.change_steps.proofs.MendLaws.{mend-bounds, mend-before, mended}
+
+-- the state is stored
+module _ (s : Shape) (i : ℕ) (h : i < s .pieces) (q : DownloadQueue) (n : ℕ) (e : n ≡ queueNumber q) (words cells cells′ : List ℕ)
+    (c : CellsBecame s (withPiece i (withState (queueFrom n))) cells cells′) where
+  pub state-stored : (records : List Record) → Works s records words cells
+      → Stored s (withPiece i (withState q)) records words cells records words cells′
+  state-stored records w =
+      let d = decode records words cells in
+      field-stored s records words cells w i (withState q) cells′
+      (subst (λ (x : DownloadQueue). CellsBecame s (withPiece i (withState x)) cells cells′) (ap queueFrom e ∙ number-queue q) c)
+      (range-state q (pieceAt d i) (works-range s records words cells w i (works-piece s records words cells w i h)))
+
+  module _ (old : ℕ) (r : IsRankAt s words cells i old) where
+    old-is : (records : List Record) → Works s records words cells → old ≡ rank (decode records words cells) i
+    old-is records w = r .is (w .bounds .pieces) records
+
+    -- what mending asks
+    pub state-asks : WorksBeside s words cells → ListBounds s words cells′ × ListBefore s words cells′ old i
+    state-asks b =
+        let records = b .records in
+        let d = decode records words cells in
+        let t = state-stored records (b .works) in
+        let a = alone-piece i (withState q) d in (
+          mend-bounds s (withPiece i (withState q)) i records words cells records words cells′ (b .works) t a,
+          subst (λ (v : ℕ). ListBefore s words cells′ v i) (sym (old-is records (b .works)))
+              (mend-before s (withPiece i (withState q)) i records words cells records words cells′ (b .works) t a),
+        )
+
+    -- what it leaves
+    pub state-set : (draws : Draws) (used : ℕ) (words′ : List ℕ) (next : ℕ) → ListBecame s (update draws old i) words words′ cells′ used next
+        → Goes s (setState draws i q) words cells used words′ cells′ next
+    unfolding setState
+    state-set draws used words′ next l = record {
+      went = λ records w.
+          mended s (withPiece i (withState q)) i records words cells records words cells′ w (state-stored records w)
+          (alone-piece i (withState q) (decode records words cells)) draws old used (old-is records w) words′ next l;
+    }
