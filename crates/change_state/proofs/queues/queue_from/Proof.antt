@@ -27,7 +27,7 @@ returns-6 c = queue-is (c .before .args .v) 6 FullReverse (c .match .keys6) (num
 returns-7 : tie.Need-returns-7
 returns-7 c =
     let r = c .match .rest in
-    queue-other (c .before .args .v) (r .0) (r .1 .0) (r .1 .1 .0) (r .1 .1 .1 .0) (r .1 .1 .1 .1 .0) (r .1 .1 .1 .1 .1 .0)
+    queue-other (c .before .args .v) (r .0 .0 .0 .0 .0 .1) (r .0 .0 .0 .0 .1) (r .0 .0 .0 .1) (r .0 .0 .1) (r .0 .1) (r .1)
 
 pub queue-from-spec : {M : Type 1} → statement M
 queue-from-spec = tie.close (tie.spec returns returns-2 returns-3 returns-4 returns-5 returns-6 returns-7)
