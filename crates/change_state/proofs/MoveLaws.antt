@@ -1,12 +1,15 @@
 -- A piece in another state: what is stored, and what becomes of the picker once the list is mended. Assumes nothing.
-use mathlib.Core.Path.{_≡_, sym, ap, _∙_, subst}
+use mathlib.Core.Path.{_≡_, refl, sym, ap, ap₂, _∙_, subst}
+use mathlib.Core.Bool.{true, false, _||_}
+use mathlib.Core.Option.{Option, some}
 use mathlib.Core.List.{List}
 use Prim.Native.Nat.{ℕ, _<_}
 use Rattle.types.specs.declared.queue.DownloadQueue.{DownloadQueue}
 use Rattle.types.specs.Queue.{queueNumber}
-use Rattle.model.specs.State.{Picker, pieceAt, withPiece, withState}
-use Rattle.model.specs.list.Order.{Draws, rank, update, changeAndUpdate}
-use Rattle.model.specs.change.Partials.{setState}
+use Rattle.model.specs.Lists.{unless}
+use Rattle.model.specs.State.{Picker, Piece, DownloadingPiece, sameQueue, isOpen, pieceAt, withPiece, withState}
+use Rattle.model.specs.list.Order.{Draws, Drawing, drawing, rank, update}
+use Rattle.model.specs.change.Partials.{partialOf, newState, setState, moveState, updateStateOf, updatePieceState}
 use Rattle.model.proofs.sound.SoundFields.{alone-piece}
 use Rattle.memory_records.specs.declared.record.DownloadingPiece.{DownloadingPiece as Record}
 use Rattle.memory_layout.specs.declared.shape.Shape.{Shape}
@@ -17,7 +20,12 @@ use Rattle.memory_list.specs.Listings.{ListBounds, ListBefore, IsRankAt, ListBe
 use Rattle.memory_list.proofs.Moving.{range-state}
 use Rattle.change_steps.specs.Working.{Works, WorksBeside, Goes, Went, Stored}
 use Rattle.change_steps.proofs.FieldLaws.{works-range, works-piece, field-stored}
+use Rattle.change_steps.proofs.WorkLaws.{went-nowhere, went-named}
 use Rattle.change_steps.proofs.MendLaws.{mend-bounds, mend-before, mended}
+use Rattle.memory_fields.specs.Reading.{CellsSay}
+use Rattle.change_state.specs.declared.states.Tally.{Tally}
+use Rattle.change_state.specs.Numbers.{IsTally, stateBy, StateUpdated}
+use Rattle.change_state.proofs.StateLaws.{new-state-is}
 
 -- the state is stored
 module _ (s : Shape) (i : ℕ) (h : i < s .pieces) (q : DownloadQueue) (n : ℕ) (e : n ≡ queueNumber q) (words cells cells′ : List ℕ)
@@ -55,3 +63,43 @@ module _ (s : Shape) (i : ℕ) (h : i < s .pieces) (q : DownloadQueue) (n : ℕ)
           mended s (withPiece i (withState q)) i records words cells records words cells′ w (state-stored records w)
           (alone-piece i (withState q) (decode records words cells)) draws old used (old-is records w) words′ next l;
     }
+
+-- ---- left or moved
+module _ (s : Shape) (draws : Draws) (i : ℕ) (current q : DownloadQueue) (words cells : List ℕ) (used : ℕ) where
+  pub move-left : true ≡ (sameQueue q current || isOpen q) → Goes s (moveState draws i current q) words cells used words cells used
+  unfolding moveState unless
+  move-left e = record { went = λ records w. went-nowhere s records words cells used (moveState draws i current q) w (rw (← e)) }
+
+  pub move-made : (words′ cells′ : List ℕ) (next : ℕ) → false ≡ (sameQueue q current || isOpen q)
+      → Goes s (setState draws i q) words cells used words′ cells′ next
+      → Goes s (moveState draws i current q) words cells used words′ cells′ next
+  unfolding moveState unless
+  move-made words′ cells′ next e g = record {
+    went = λ records w.
+        went-named s records words cells used records words′ cells′ next (setState draws i q) (moveState draws i current q) (rw (← e))
+        (g .went records w);
+  }
+
+-- ---- `update_piece_state`
+pub state-updated : (s : Shape) (draws : Draws) (i : ℕ) (t : Tally) (words cells : List ℕ) (used : ℕ) (words′ cells′ : List ℕ) (next : ℕ)
+    (current : DownloadQueue) (priority : ℕ) (q : DownloadQueue)
+    → CellsSay s cells (λ d. pieceAt d i .state) current → CellsSay s cells (λ d. pieceAt d i .priority) priority
+    → q ≡ stateBy t priority current
+    → Goes s (moveState draws i current q) words cells used words′ cells′ next
+    → StateUpdated s draws i t words cells used words′ cells′ next
+unfolding updatePieceState updateStateOf moveState drawing
+state-updated s draws i t words cells used words′ cells′ next current priority q a b e g = record {
+  went = λ records w d f y.
+      let p = decode records words cells in
+      let h : moveState draws i current q (drawing used p) ≡ updateStateOf draws i (partialOf p i) (drawing used p) =
+      same p d f (a .is records words (w .bounds)) (b .is records words (w .bounds)) (e ∙ new-state-is t priority current d y) in
+      went-named s records words cells used records words′ cells′ next (moveState draws i current q) (updatePieceState draws i) h
+      (g .went records w);
+}
+  where
+    same : (p : Picker) (d : DownloadingPiece) → partialOf p i ≡ some d → current ≡ pieceAt p i .state → priority ≡ pieceAt p i .priority
+        → q ≡ newState d priority current
+        → moveState draws i current q (drawing used p) ≡ updateStateOf draws i (partialOf p i) (drawing used p)
+    same p d f h k l =
+        rw (f) (ap₂ (λ (x y : DownloadQueue). moveState draws i x y (drawing used p)) h
+        (l ∙ ap₂ (λ (n : ℕ) (x : DownloadQueue). newState d n x) k h))

@@ -5,6 +5,7 @@ mod queues;
 mod states;
 
 pub use moves::set_state;
+pub use moves::update_piece_state;
 pub use queues::queue_at;
 pub use queues::queue_number;
 pub use states::Tally;
