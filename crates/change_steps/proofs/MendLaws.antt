@@ -3,9 +3,10 @@
 use mathlib.Core.Path.{_≡_, refl, sym, ap, ap₂, _∙_, subst}
 use mathlib.Core.List.{List}
 use Prim.Native.Nat.{ℕ}
-use Rattle.model.specs.State.{Picker}
+use Rattle.model.specs.State.{Picker, withListing, markDirty}
 use Rattle.model.specs.list.Listed.{ListingOk}
 use Rattle.model.specs.list.Order.{Drawing, drawing, noDraw, rank, update, changeAndUpdate}
+use Rattle.model.proofs.list.ListingLaws.{ok-dirty}
 use Rattle.model.proofs.sound.SoundFields.{Alone, moved-listed}
 use Rattle.model.proofs.sound.SoundLaws.{wellFormed-sound}
 use Rattle.memory_records.specs.declared.record.DownloadingPiece.{DownloadingPiece as Record}
@@ -13,6 +14,7 @@ use Rattle.memory_layout.specs.declared.shape.Shape.{Shape}
 use Rattle.memory_layout.specs.Decode.{decode}
 use Rattle.memory_layout.specs.Standing.{Stands, Changed}
 use Rattle.memory_layout.proofs.BoundsLaws.{words-kept-again, cells-kept-none}
+use Rattle.memory_fields.specs.Storing.{DirtyMarked}
 use Rattle.memory_list.specs.Listings.{ListBounds, ListBefore, ListBecame}
 use Rattle.memory_list.proofs.Moving.{well-formed-range, ranges-held, ranks-right, list-before}
 use Rattle.change_steps.specs.Working.{Works, Went, Stored}
@@ -94,3 +96,25 @@ module _ (s : Shape) (f : Picker → Picker) (i : ℕ) (records : List Record) (
           wordsKept = words-kept-again s words words′ words″ (t .wordsKept) (l .became .wordsKept);
           cellsKept = t .cellsKept;
         }
+
+-- ---- a change stored, and the list given up
+module _ (s : Shape) (f : Picker → Picker) (records : List Record) (words cells : List ℕ) (records′ : List Record)
+    (words′ cells′ : List ℕ) (t : Stored s f records words cells records′ words′ cells′) where
+  pub given-up : (used : ℕ) (words″ : List ℕ) → DirtyMarked s words′ words″
+      → Went s (noDraw (λ d. markDirty (f d))) records words cells used records′ words″ cells′ used
+  unfolding noDraw drawing
+  given-up used words″ m =
+      let b = m .became .became records′ cells′ (t .bounds) in
+      let e : decode records′ words″ cells′ ≡ markDirty (f (decode records words cells)) = b .is ∙ ap markDirty (t .is) in
+      record {
+        is = ap (drawing used) e;
+        works = record {
+          bounds = b .bounds;
+          plain = b .plain (t .plain);
+          ranges = t .ranges;
+          ranks = λ rs. m .ranks (rank (decode rs words″ cells′));
+          listed = subst ListingOk (sym e) (unfold markDirty withListing in ok-dirty (markDirty (f (decode records words cells))) refl);
+        };
+        wordsKept = words-kept-again s words words′ words″ (t .wordsKept) (m .became .kept);
+        cellsKept = t .cellsKept;
+      }
