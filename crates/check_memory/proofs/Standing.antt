@@ -1,6 +1,6 @@
 -- What a good verdict gives a call: a well-formed picker, and the bounds under which the buffers may be read and written. Assumes nothing.
 use mathlib.Core.Path.{_≡_, refl, sym}
-use Prim.Native.Nat.{ℕ, zero, suc, _/_, _≤_, _<_}
+use Prim.Native.Nat.{ℕ, zero, suc, _≤_, _<_}
 use native.Mathlib.Omega.{arith}
 use native.Mathlib.Decide.{decLt}
 use mathlib.Core.Bool.{Bool, true, false, not, or-true}
@@ -17,13 +17,14 @@ use Rattle.model.specs.State.{piecesIn, validGeometry}
 use Rattle.model.specs.list.Order.{rank}
 use Rattle.model.specs.image.WellFormed.{headOk, piecesOk, partialsOk, extentsOk, listingOk, wellFormed}
 use Rattle.model.proofs.base.Truths.{both-true, and-left, and-right, true-both, not-both}
+use Rattle.list_groups.specs.Words.{listedPiece, listedRank}
 use Rattle.memory_records.specs.declared.record.DownloadingPiece.{DownloadingPiece as Record}
 use Rattle.memory_records.specs.Rows.{liveRecords, recordsIn}
 use Rattle.memory_records.proofs.laws.RowLaws.{length-records}
 use Rattle.memory_layout.specs.declared.shape.Shape.{Shape}
 use Rattle.memory_layout.specs.Tables.{tabulate}
 use Rattle.memory_layout.specs.Offsets.{placesFor}
-use Rattle.memory_layout.specs.Decode.{headWord, pieceWord, rankUnit, listedPiece, pieceCell, blockCell}
+use Rattle.memory_layout.specs.Decode.{headWord, pieceWord, pieceCell, blockCell}
 use Rattle.memory_layout.specs.Decode.{recordAt, piecesOn, blocksOn, blocksOf, yes?, decode}
 use Rattle.memory_layout.specs.Bounds.{ShapeOf, InBounds, PlainPieces, PlainBlock, PlainRecord, Plain, RanksHeld}
 use Rattle.memory_layout.specs.Good.{short, headRaw, pieceRaw, piecesRaw, blockRaw, recordRaw, placeRaw, rankRaw, goodHead, goodPieces}
@@ -213,5 +214,5 @@ ranks-held lent rs words cells h k l =
     let t = rankRaw words (piecesOn words) (rank (decode rs words cells)) in
     let a = both-true (every t (from 0 (headWord words 6))) (listingOk (decode rs words cells) (decode rs words cells .listing))
     (v .list) in
-    eqb-true (pieceWord words (piecesOn words) 1 k / rankUnit)
+    eqb-true (listedRank (pieceWord words (piecesOn words) 1 k))
     (rank (decode rs words cells) (listedPiece (pieceWord words (piecesOn words) 1 k))) (every-at t (headWord words 6) (a .0) k l)

@@ -3,7 +3,7 @@ use mathlib.Core.Path.{_≡_, refl, sym, ap, _∙_}
 use mathlib.Core.Bool.{Bool, true, false, cond, not, _&&_, and-false, or-true, or-false}
 use mathlib.Core.Logic.{_≢_}
 use mathlib.Core.List.{List, []}
-use Prim.Native.Nat.{ℕ, suc, _+_, _-_, _/_, _≤_, _<_}
+use Prim.Native.Nat.{ℕ, suc, _+_, _-_, _≤_, _<_}
 use native.Mathlib.Decide.{ℕ-discrete, decLe, decLt}
 use native.Mathlib.Omega.{arith}
 use lib.Dec.{eqb, ltb, leb}
@@ -16,10 +16,11 @@ use Rattle.model.specs.list.Order.{rank, withBucket}
 use Rattle.model.specs.image.WellFormed.{placeOk, orderOk, listingOk}
 use Rattle.model.proofs.base.Counts.{lt-bit, ge-bit, length-filter}
 use Rattle.model.proofs.base.Truths.{both-true}
+use Rattle.list_groups.specs.Words.{listedPiece, listedRank}
 use Rattle.memory_records.specs.declared.record.DownloadingPiece.{DownloadingPiece as Record}
 use Rattle.memory_layout.specs.declared.shape.Shape.{Shape}
 use Rattle.memory_layout.specs.Tables.{tabulate}
-use Rattle.memory_layout.specs.Decode.{headWord, pieceWord, piecesOn, yes?, rankUnit, listedPiece, listHeld, listingHeld, decode}
+use Rattle.memory_layout.specs.Decode.{headWord, pieceWord, piecesOn, yes?, listHeld, listingHeld, decode}
 use Rattle.memory_layout.specs.Bounds.{WordColumn}
 use Rattle.memory_layout.specs.Good.{rankRaw, goodList}
 use Rattle.memory_layout.proofs.TableLaws.{tabulate-len}
@@ -79,29 +80,29 @@ module _ (n last word : ℕ) (entry : List ℕ) where
     long = refl;
   }
 
-  pub falls : word / 65536 < last → Stepped n last word entry 0 entry
+  pub falls : listedRank word < last → Stepped n last word entry 0 entry
   unfolding placeIn
-  falls h = failed (rw (lt-leb last (word / 65536) h))
+  falls h = failed (rw (lt-leb last (listedRank word) h))
 
-  module _ (l : last ≤ word / 65536) (piece : ℕ) (ep : piece ≡ listedPiece word) where
+  module _ (l : last ≤ listedRank word) (piece : ℕ) (ep : piece ≡ listedPiece word) where
     pub outside : n ≤ piece → Stepped n last word entry 0 entry
     unfolding placeIn
-    outside h = failed (rw (le-leb last (word / 65536) l, le-ltb (listedPiece word) n (omega (arith, ep))))
+    outside h = failed (rw (le-leb last (listedRank word) l, le-ltb (listedPiece word) n (omega (arith, ep))))
 
     module _ (m : piece < n) (held : ℕ) (eh : held ≡ getD entry piece 0) where
       held-is : held ≡ getD entry (listedPiece word) 0
       held-is = eh ∙ ap (λ (i : ℕ). getD entry i 0) ep
 
-      pub other-rank : held ≢ word / 65536 → Stepped n last word entry 0 entry
+      pub other-rank : held ≢ listedRank word → Stepped n last word entry 0 entry
       unfolding placeIn
       other-rank h =
-          failed (rw (le-leb last (word / 65536) l, lt-ltb (listedPiece word) n (omega (arith, ep)), ne-eqb (getD entry (listedPiece word) 0) (word / 65536) (λ e. h (held-is ∙ e))))
+          failed (rw (le-leb last (listedRank word) l, lt-ltb (listedPiece word) n (omega (arith, ep)), ne-eqb (getD entry (listedPiece word) 0) (listedRank word) (λ e. h (held-is ∙ e))))
 
-      pub stepped : 1 ≤ last → held ≡ word / 65536 → Stepped n last word entry (word / 65536) (set entry piece 0)
+      pub stepped : 1 ≤ last → held ≡ listedRank word → Stepped n last word entry (listedRank word) (set entry piece 0)
       unfolding placeIn
       stepped o h = record {
         fails = λ z. absurd (omega arith);
-        passes = λ z. rw (le-leb last (word / 65536) l, lt-ltb (listedPiece word) n (omega (arith, ep)), eq-eqb (getD entry (listedPiece word) 0) (word / 65536) (sym held-is ∙ h));
+        passes = λ z. rw (le-leb last (listedRank word) l, lt-ltb (listedPiece word) n (omega (arith, ep)), eq-eqb (getD entry (listedPiece word) 0) (listedRank word) (sym held-is ∙ h));
         rank = λ z. refl;
         taken = λ z. ap (λ (i : ℕ). set entry i 0) ep;
         long = length-set entry piece 0;
@@ -192,10 +193,10 @@ module _ (d : Picker) (n : ℕ) (words ranks : List ℕ) (last k : ℕ) (whole :
     test-is : (rankAt d words k && placeOk d (tabulate k (placeAt words)) (placeAt words k)) ≡ placeIn n last word ranks
     unfolding rankAt rankRaw placeOk placeIn
     test-is = elim (decLt (listedPiece word) n) [
-      | no l ↦ rw (word-is, piece-is, en, le-ltb (listedPiece word) n (omega arith), and-false (eqb (word / 65536) (rank d (listedPiece word))), and-false (leb last (word / 65536)))
+      | no l ↦ rw (word-is, piece-is, en, le-ltb (listedPiece word) n (omega arith), and-false (eqb (listedRank word) (rank d (listedPiece word))), and-false (leb last (listedRank word)))
       | yes l ↦ rw (word-is, piece-is, en, lt-ltb (listedPiece word) n l, one-test (member (listedPiece word) (tabulate k (placeAt words))) (rank d (listedPiece word)) last _ o (p .lasts (listedPiece word)))
-          (beside (member (listedPiece word) (tabulate k (placeAt words))) (word / 65536) (rank d (listedPiece word)) last o
-          ∙ ap (λ (x : ℕ). leb last (word / 65536) && eqb x (word / 65536)) (sym (unfold leftOf in (p .each (listedPiece word) l))))
+          (beside (member (listedPiece word) (tabulate k (placeAt words))) (listedRank word) (rank d (listedPiece word)) last o
+          ∙ ap (λ (x : ℕ). leb last (listedRank word) && eqb x (listedRank word)) (sym (unfold leftOf in (p .each (listedPiece word) l))))
     ]
 
     pub place-bad : placeIn n last word ranks ≡ false → false ≡ whole
@@ -203,21 +204,21 @@ module _ (d : Picker) (n : ℕ) (words ranks : List ℕ) (last k : ℕ) (whole :
 
     -- a place that passes: it is a piece, and the rank beside it is the one that is left, and so its own
     module _ (e : placeIn n last word ranks ≡ true) (wide : n ≤ length ranks) where
-      low : last ≤ word / 65536
+      low : last ≤ listedRank word
       unfolding placeIn
-      low = leb-true last (word / 65536) (both-true (leb last (word / 65536)) _ e .0)
+      low = leb-true last (listedRank word) (both-true (leb last (listedRank word)) _ e .0)
 
       there : listedPiece word < n
       unfolding placeIn
-      there = ltb-true (listedPiece word) n (both-true (ltb (listedPiece word) n) _ (both-true (leb last (word / 65536)) _ e .1) .0)
+      there = ltb-true (listedPiece word) n (both-true (ltb (listedPiece word) n) _ (both-true (leb last (listedRank word)) _ e .1) .0)
 
-      held : getD ranks (listedPiece word) 0 ≡ word / 65536
+      held : getD ranks (listedPiece word) 0 ≡ listedRank word
       unfolding placeIn
       held =
-          eqb-true (getD ranks (listedPiece word) 0) (word / 65536)
-          (both-true (ltb (listedPiece word) n) (eqb (getD ranks (listedPiece word) 0) (word / 65536)) (both-true (leb last (word / 65536)) _ e .1) .1)
+          eqb-true (getD ranks (listedPiece word) 0) (listedRank word)
+          (both-true (ltb (listedPiece word) n) (eqb (getD ranks (listedPiece word) 0) (listedRank word)) (both-true (leb last (listedRank word)) _ e .1) .1)
 
-      rank-is : rank d (listedPiece word) ≡ word / 65536
+      rank-is : rank d (listedPiece word) ≡ listedRank word
       unfolding leftOf
       rank-is =
           sym (rank-left (member (listedPiece word) (tabulate k (placeAt words))) (rank d (listedPiece word)) (omega (arith, p .each (listedPiece word) there, held, low, o)))
@@ -232,7 +233,7 @@ module _ (d : Picker) (n : ℕ) (words ranks : List ℕ) (last k : ℕ) (whole :
             | no q ↦ getD-set-other ranks (listedPiece word) j 0 0 q ∙ p .each j m ∙ sym (rw (ne-eqb j (listedPiece word) q, or-false))
           ])
 
-      pub place-next : Ordering d n words (set ranks (listedPiece word) 0) (word / 65536) (k + 1) whole
+      pub place-next : Ordering d n words (set ranks (listedPiece word) 0) (listedRank word) (k + 1) whole
       place-next = record {
         left = sym (step ∙ rw (test-is ∙ e));
         each = rest;

@@ -1,6 +1,6 @@
 -- What the tests of the pieces read: the four cells of a piece as a piece, its rank and its test; the columns of all pieces.
 -- Assumes nothing.
-use Prim.Native.Nat.{ℕ, _+_, _-_, _/_, _≤_, _<_}
+use Prim.Native.Nat.{ℕ, _+_, _-_, _≤_, _<_}
 use mathlib.Core.Path.{_≡_}
 use mathlib.Core.Bool.{Bool, true, false, not, _&&_, _||_}
 use mathlib.Core.Logic.{_≢_}
@@ -10,7 +10,8 @@ use lib.Dec.{eqb, ltb, leb}
 use Rattle.model.specs.Lists.{every, count, from}
 use Rattle.model.specs.State.{Piece, maxPeers, maxPriority, isOpen}
 use Rattle.model.specs.list.Order.{bucket, rankOf}
-use Rattle.memory_layout.specs.Decode.{queueFrom, yes?, rankUnit, listedPiece}
+use Rattle.list_groups.specs.Words.{listedPiece, listedRank}
+use Rattle.memory_layout.specs.Decode.{queueFrom, yes?}
 
 -- ---- one piece
 -- pad bytes do not matter to its rank
@@ -66,13 +67,13 @@ rankedIn ranks n = count (λ i. ltb 0 (getD ranks i 0)) (from 0 n)
 -- its rank is no lower than the last one, and is that of its piece among the ranks that are left
 unfoldable pub placeIn : (n last word : ℕ) (ranks : List ℕ) → Bool
 placeIn n last word ranks =
-    leb last (word / rankUnit) && (ltb (listedPiece word) n && eqb (getD ranks (listedPiece word) 0) (word / rankUnit))
+    leb last (listedRank word) && (ltb (listedPiece word) n && eqb (getD ranks (listedPiece word) 0) (listedRank word))
 
 -- what a step over it leaves: 0 where it fails, else its rank, and the rank of its piece is taken
 pub record Stepped (n last word : ℕ) (entry : List ℕ) (r : ℕ) (exit : List ℕ) : Type 0 where
   pub fails : r ≡ 0 → placeIn n last word entry ≡ false
   pub passes : r ≢ 0 → placeIn n last word entry ≡ true
-  pub rank : r ≢ 0 → r ≡ word / rankUnit
+  pub rank : r ≢ 0 → r ≡ listedRank word
   pub taken : r ≢ 0 → exit ≡ set entry (listedPiece word) 0
   pub long : length exit ≡ length entry
 

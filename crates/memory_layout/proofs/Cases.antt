@@ -11,13 +11,14 @@ use Rattle.types.specs.declared.block.BlockState.the-variants.{Requested}
 use Rattle.model.specs.Lists.{least, nth}
 use Rattle.model.specs.Bep3.{partsOf, partLength, numPieces, pieceLength, blockLength, blockCount, wholePieceBlocks, pieceBlocks, bitOf}
 use Rattle.model.specs.State.{Picker, fresh, validGeometry}
+use Rattle.list_groups.specs.Words.{listedPiece}
 use Rattle.memory_records.specs.declared.record.DownloadingPiece.{DownloadingPiece as Record}
 use Rattle.memory_layout.specs.declared.shape.Shape.{Shape}
 use Rattle.memory_layout.specs.Tables.{tabulate}
 use Rattle.memory_layout.specs.Offsets.{cell, placesFor, pieceWordAt, peerAt, pieceCellAt, blockCellAt, wordsFor, cellsFor}
 use Rattle.memory_layout.specs.Decode.{headWord, pieceWord, peerWord, pieceCell, blockCell, recordAt, piecesOn, blocksOn, blocksOf}
 use Rattle.memory_layout.specs.Decode.{queueFrom}
-use Rattle.memory_layout.specs.Decode.{stateFrom, yes?, peerFrom, listedPiece, pieceHeld, blockFrom, blockHeld, blocksHeld}
+use Rattle.memory_layout.specs.Decode.{stateFrom, yes?, peerFrom, pieceHeld, blockFrom, blockHeld, blocksHeld}
 use Rattle.memory_layout.specs.Decode.{partialFrom}
 use Rattle.memory_layout.specs.Decode.{partialHeld, piecesHeld, partialsHeld, extentsHeld, listHeld, listingHeld, decode}
 use Rattle.memory_layout.specs.Bounds.{InBounds, PlainBlock, PlainRecord, Plain}

@@ -1,16 +1,16 @@
 -- The bounds under which the buffers may be read, one tower: a shape that can be; buffers long enough for it; what they hold in bounds.
 -- Beside it what the memory test asks for and `decode` forgets. Assumes nothing.
-use Prim.Native.Nat.{ℕ, _/_, _≤_, _<_}
+use Prim.Native.Nat.{ℕ, _≤_, _<_}
 use mathlib.Core.Path.{_≡_}
 use mathlib.Core.Bool.{true}
 use mathlib.Core.List.{List}
 use lib.ListN.{length, getD}
 use Rattle.model.specs.State.{maxPieces, maxExtents, validGeometry}
+use Rattle.list_groups.specs.Words.{listedPiece, listedRank}
 use Rattle.memory_records.specs.declared.record.DownloadingPiece.{DownloadingPiece as Record}
 use Rattle.memory_layout.specs.declared.shape.Shape.{Shape}
 use Rattle.memory_layout.specs.Offsets.{placesFor, wordsFor, cellsFor}
 use Rattle.memory_layout.specs.Decode.{headWord, pieceWord, pieceCell, blockCell, recordAt, piecesOn, blocksOn, blocksOf, yes?}
-use Rattle.memory_layout.specs.Decode.{rankUnit, listedPiece}
 
 -- ---- the tower
 -- the shape of a picker that can be
@@ -96,4 +96,4 @@ pub record Plain (s : Shape) (records : List Record) (words cells : List ℕ) : 
 -- ---- ranks: the one thing stored that could be computed
 -- each word of the list has the rank of its piece beside the piece
 abbrev pub RanksHeld : (n : ℕ) (words : List ℕ) (r : ℕ → ℕ) → Type 0
-RanksHeld n words r = (k : ℕ) → k < headWord words 6 → pieceWord words n 1 k / rankUnit ≡ r (listedPiece (pieceWord words n 1 k))
+RanksHeld n words r = (k : ℕ) → k < headWord words 6 → listedRank (pieceWord words n 1 k) ≡ r (listedPiece (pieceWord words n 1 k))

@@ -1,7 +1,7 @@
 -- The picker that stands in the three lent buffers. Assumes nothing.
 -- What is not read means nothing: words 14 and 15, extents past their number, the list past its length, records behind the last, a peer
 -- beside a has-peer other than 1, blocks of a place that no record has, and what lies beyond the needs.
-use Prim.Native.Nat.{ℕ, _+_, _%_}
+use Prim.Native.Nat.{ℕ, _+_}
 use mathlib.Core.Bool.{Bool, cond}
 use mathlib.Core.List.{List}
 use mathlib.Core.Option.{Option, none, some}
@@ -16,6 +16,7 @@ use Rattle.types.specs.Block.{blockStates}
 use Rattle.model.specs.Lists.{nth}
 use Rattle.model.specs.Bep3.{numPieces, wholePieceBlocks, pieceBlocks, bitOf}
 use Rattle.model.specs.State.{Piece, Block, DownloadingPiece, Listing, dirty, fresh, Picker}
+use Rattle.list_groups.specs.Words.{listedPiece}
 use Rattle.memory_records.specs.declared.record.DownloadingPiece.{DownloadingPiece as Record}
 use Rattle.memory_records.specs.Records.{noRecord}
 use Rattle.memory_layout.specs.Tables.{tabulate}
@@ -73,13 +74,6 @@ yes? number = eqb number 1
 -- a flag and a number
 unfoldable pub peerFrom : (has peer : ℕ) → Option ℕ
 peerFrom has peer = cond (yes? has) (some peer) none
-
--- the piece in a word of the list, beside its rank
-abbrev pub rankUnit : ℕ
-rankUnit = 65536
-
-unfoldable pub listedPiece : (word : ℕ) → ℕ
-listedPiece word = word % rankUnit
 
 -- ---- the parts of the picker
 unfoldable pub pieceHeld : (words cells : List ℕ) (n i : ℕ) → Piece

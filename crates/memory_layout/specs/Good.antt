@@ -1,6 +1,6 @@
 -- When the lent buffers hold a well-formed picker: they are long enough, their numbers are numbers that an image could hold, the list has
 -- its ranks, and the picker that they mean is well-formed. `lent` is the number of records lent. Assumes nothing.
-use Prim.Native.Nat.{ℕ, _/_}
+use Prim.Native.Nat.{ℕ}
 use mathlib.Core.Bool.{Bool, true, false, cond, not, _&&_}
 use mathlib.Core.List.{List, []}
 use mathlib.Core.Option.{Option, none, some}
@@ -12,11 +12,12 @@ use Rattle.model.specs.Lists.{every, from, member}
 use Rattle.model.specs.State.{maxExtents, validGeometry}
 use Rattle.model.specs.list.Order.{rank}
 use Rattle.model.specs.image.WellFormed.{headOk, piecesOk, partialsOk, extentsOk, listingOk}
+use Rattle.list_groups.specs.Words.{listedPiece, listedRank}
 use Rattle.memory_records.specs.declared.record.DownloadingPiece.{DownloadingPiece as Record}
 use Rattle.memory_layout.specs.Tables.{tabulate}
 use Rattle.memory_layout.specs.Offsets.{placesFor, headLength, wordsFor, cellsFor}
-use Rattle.memory_layout.specs.Decode.{headWord, pieceWord, pieceCell, blockCell, recordAt, piecesOn, blocksOn, blocksOf, rankUnit}
-use Rattle.memory_layout.specs.Decode.{listedPiece, decode}
+use Rattle.memory_layout.specs.Decode.{headWord, pieceWord, pieceCell, blockCell, recordAt, piecesOn, blocksOn, blocksOf}
+use Rattle.memory_layout.specs.Decode.{decode}
 
 -- ---- lengths
 -- a buffer is shorter than the geometry of the head needs
@@ -58,7 +59,7 @@ placeRaw records n k =
 
 -- place k of the list has the rank of its piece
 unfoldable pub rankRaw : (words : List ℕ) (n : ℕ) (r : ℕ → ℕ) (k : ℕ) → Bool
-rankRaw words n r k = eqb (pieceWord words n 1 k / rankUnit) (r (listedPiece (pieceWord words n 1 k)))
+rankRaw words n r k = eqb (listedRank (pieceWord words n 1 k)) (r (listedPiece (pieceWord words n 1 k)))
 
 -- ---- the parts of the test, in the order in which they are made
 unfoldable pub goodHead : (records : List Record) (words cells : List ℕ) → Bool

@@ -7,14 +7,18 @@ use Prim.Native.Nat.{ℕ, _+_, _≤_, _<_}
 use native.Mathlib.Decide.{ℕ-discrete}
 use native.Mathlib.Omega.{arith}
 use lib.Dec.{leb}
+use lib.ListN.{length}
 use borrow.Author.Tests.{eq-eqb, ne-eqb, leb-true}
 use Rattle.types.specs.declared.queue.DownloadQueue.{DownloadQueue}
 use Rattle.model.specs.State.{Piece, Picker, maxPeers, maxPriority, pieceAt, piecesIn, withPiece, withPeerCount, withState, withPriority}
-use Rattle.model.specs.State.{withFlushed}
+use Rattle.model.specs.State.{withFlushed, Listing, dirty, fresh, listOf}
+use Rattle.model.specs.Lists.{nth, len}
 use Rattle.model.specs.list.Listed.{ListingOf, ListingOk}
 use Rattle.model.specs.list.Order.{rank, Drawing, drawing, noDraw, update, changeAndUpdate}
 use Rattle.model.specs.image.WellFormed.{pieceOk, wellFormed}
 use Rattle.model.proofs.base.Truths.{and-left, and-right}
+use Rattle.model.proofs.list.ListedLaws.{listed-at-lt}
+use Rattle.model.proofs.list.ListingLaws.{update-keeps}
 use Rattle.model.proofs.list.RankLaws.{piecesIn-withPiece, pieceAt-same, pieceAt-other}
 use Rattle.model.proofs.sound.SoundBody.{Frame, sound-body}
 use Rattle.model.proofs.sound.SoundLaws.{wellFormed-sound}
@@ -28,6 +32,7 @@ use Rattle.memory_layout.proofs.Meanings.{pieces-number, peer-count-is, priorit
 use Rattle.memory_layout.proofs.BoundsLaws.{became-again, became-named}
 use Rattle.memory_layout.proofs.stores.ListFrames.{ranks-kept, list-kept-none}
 use Rattle.list_words.specs.Updating.{former}
+use Rattle.list_words.proofs.Mending.{former-same, former-other}
 use Rattle.memory_list.specs.Listings.{Ranges, ListBounds, RanksRight, ListBefore, ListBecame}
 
 -- ---- peer counts and priorities in range
@@ -161,9 +166,9 @@ pub record Updatable (s : Shape) (words cells : List ℕ) (old i : ℕ) : Type 0
   pub bounds : ListBounds s words cells
   pub before : ListBefore s words cells old i
 
--- from a well-formed picker, after a change that left of all that the list depends on all but piece i, which is in range
+-- after a change that left of all that the list depends on all but piece i, from a picker whose list was right
 pub updatable : (s : Shape) (f : Picker → Picker) (records : List Record) (words words′ cells cells′ : List ℕ) (i : ℕ)
-    → InBounds s records words cells → wellFormed (decode records words cells) ≡ true
+    → InBounds s records words cells → ListingOk (decode records words cells)
     → RanksHeld (s .pieces) words (rank (decode records words cells))
     → Became s f records words cells words′ cells′ → ListKept s words words′
     → Alone i (decode records words cells) (f (decode records words cells)) → InRange (f (decode records words cells))
@@ -172,20 +177,38 @@ updatable s f records words words′ cells cells′ i r ok held b kept a g =
     let d = decode records words cells in
     record {
       bounds = list-bounds s records words′ cells′ (b .bounds) (subst InRange (sym (b .is)) g);
-      before = list-before s records records words words′ cells cells′ i (subst (Alone i d) (sym (b .is)) a) kept (r .list)
-          (wellFormed-sound d ok .list) held;
+      before = list-before s records records words words′ cells cells′ i (subst (Alone i d) (sym (b .is)) a) kept (r .list) ok held;
     }
 
--- after a store of one of its fields
-pub updatable-field : (s : Shape) (g : Piece → Piece) (records : List Record) (words cells cells′ : List ℕ) (i : ℕ)
-    → InBounds s records words cells → wellFormed (decode records words cells) ≡ true
-    → RanksHeld (s .pieces) words (rank (decode records words cells))
-    → CellsBecame s (withPiece i g) cells cells′ → PieceInRange (g (pieceAt (decode records words cells) i))
-    → Updatable s words cells′ (rank (decode records words cells) i) i
-updatable-field s g records words cells cells′ i r ok held c o =
-    let d = decode records words cells in
-    updatable s (withPiece i g) records words words cells cells′ i r ok held (c .became records words r) (list-kept-none s words)
-    (alone-piece i g d) (range-piece i g d (well-formed-range d ok) o)
+-- from a well-formed picker, after a store of one field of piece i
+module _ (s : Shape) (records : List Record) (words cells cells′ : List ℕ) (i : ℕ) (r : InBounds s records words cells)
+    (ok : wellFormed (decode records words cells) ≡ true) (held : RanksHeld (s .pieces) words (rank (decode records words cells)))
+    (h : i < s .pieces) where
+  abbrev AfterStore : Type 0
+  AfterStore = Updatable s words cells′ (rank (decode records words cells) i) i
+
+  own : PieceInRange (pieceAt (decode records words cells) i)
+  own = well-formed-range (decode records words cells) ok i (rw (pieces-number s records words cells r) h)
+
+  -- any that leaves the piece in range
+  pub updatable-field : (g : Piece → Piece) → CellsBecame s (withPiece i g) cells cells′
+      → PieceInRange (g (pieceAt (decode records words cells) i)) → AfterStore
+  updatable-field g c o =
+      let d = decode records words cells in
+      updatable s (withPiece i g) records words words cells cells′ i r (wellFormed-sound d ok .list) held (c .became records words r)
+      (list-kept-none s words) (alone-piece i g d) (range-piece i g d (well-formed-range d ok) o)
+
+  pub updatable-peers : (n : ℕ) → n ≤ maxPeers → CellsBecame s (withPiece i (withPeerCount n)) cells cells′ → AfterStore
+  updatable-peers n l c = updatable-field (withPeerCount n) c (range-peers n _ l own)
+
+  pub updatable-priority : (n : ℕ) → n ≤ maxPriority → CellsBecame s (withPiece i (withPriority n)) cells cells′ → AfterStore
+  updatable-priority n l c = updatable-field (withPriority n) c (range-priority n _ l own)
+
+  pub updatable-state : (q : DownloadQueue) → CellsBecame s (withPiece i (withState q)) cells cells′ → AfterStore
+  updatable-state q c = updatable-field (withState q) c (range-state q _ own)
+
+  pub updatable-flushed : CellsBecame s (withPiece i withFlushed) cells cells′ → AfterStore
+  updatable-flushed c = updatable-field withFlushed c (range-flushed _ own)
 
 -- ---- both together
 pub moved-became : (s : Shape) (f : Picker → Picker) (records : List Record) (words words′ words″ cells cells′ draws : List ℕ)
@@ -205,3 +228,24 @@ moved-became s f records words words′ words″ cells cells′ draws old i used
           (l .became .became records (b .bounds))),
       l .next-is records ∙ ap (λ (x : Picker). update draws old i (drawing used x) .used) (b .is) ∙ ap (λ (w : Drawing). w .used) h,
     )
+
+-- after mending, the list is right again
+pub mended-ok : (s : Shape) (records : List Record) (words words′ cells draws : List ℕ) (old i used next : ℕ)
+    → InBounds s records words cells → i < s .pieces → ListBefore s words cells old i
+    → ListBecame s (update draws old i) words words′ cells used next → ListingOk (decode records words′ cells)
+unfolding drawing
+mended-ok s records words words′ cells draws old i used next r h g l =
+    let d = decode records words cells in
+    subst ListingOk (sym (l .became .became records r .is))
+    (update-keeps (former (rank d) old i) draws old i (drawing used d) (λ k e. sym (former-other (rank d) old i k e))
+    (sym (former-same (rank d) old i)) (rw (pieces-number s records words cells r) h) (g .order records))
+
+-- ---- a place of the list
+-- a piece stands there
+pub place-there : (d : Picker) → ListingOk d → (k : ℕ) → k < len (listOf (d .listing)) → nth 0 (listOf (d .listing)) k < piecesIn d
+unfolding ListingOk listOf len
+place-there d g k h = go (d .listing) g h
+  where
+    go : (l : Listing) → ListingOf (rank d) (piecesIn d) l → k < length (listOf l) → nth 0 (listOf l) k < piecesIn d
+    go dirty g h = absurd (omega arith)
+    go (fresh l) g h = listed-at-lt (rank d) (piecesIn d) l g k h

@@ -9,9 +9,8 @@ use lib.ListN.{length, getD, take, drop, set, replicate, getD-replicate, length-
 use lib.Seq.{take-at}
 use Rattle.model.specs.Lists.{nth, len}
 use Rattle.model.specs.State.{Picker, Listing, dirty, fresh, isDirty, piecesIn, withListing}
-use Rattle.model.specs.list.Listed.{Listed}
 use Rattle.model.specs.list.Order.{rank, rebuilt, rebuildDraws, drawing, updatePieces, updatePiecesIn}
-use Rattle.model.proofs.base.Counts.{stands}
+use Rattle.model.proofs.list.ListedLaws.{listed-at-lt}
 use Rattle.model.proofs.list.RankLaws.{rank-beyond}
 use Rattle.model.proofs.list.ListedRebuild.{rebuilt-listed}
 use Rattle.memory_records.specs.declared.record.DownloadingPiece.{DownloadingPiece as Record}
@@ -48,13 +47,6 @@ rebuild-clean draws used d e = go (d .listing) e
     go : (k : Listing) → isDirty k ≡ false → updatePiecesIn k draws (drawing used d) ≡ drawing used d
     go dirty e = absurd (true≢false e)
     go (fresh l) e = refl
-
--- pieces of a list are pieces
-listed-below : (r : ℕ → ℕ) (n : ℕ) (l : List ℕ) → Listed r n l → (k : ℕ) → k < length l → getD l k 0 < n
-listed-below r n l g k h = elim (decLt (getD l k 0) n) [
-  | yes q ↦ q
-  | no q ↦ absurd (omega (arith, g .beyond (getD l k 0) (omega arith), stands (getD l k 0) 0 l k h refl))
-]
 
 -- ---- the ranks
 zeros : (n i : ℕ) → getD (replicate {A = ℕ} n 0) i 0 ≡ 0
@@ -100,12 +92,13 @@ module _ (s : Shape) (words cells : List ℕ) (q : ListBounds s words cells) (si
     draws-are = ap₂ drawsBelow ranks-are (sym many) ∙ sym (rebuildDraws-is d)
 
     list-small : (draws : List ℕ) (used k : ℕ) → k < length (rebuilt draws used d) → getD (rebuilt draws used d) k 0 < 65536
+    unfolding nth
     list-small draws used k h =
         omega (
           arith,
           many,
           q .spans .inWords .sizes .many,
-          listed-below (rank d) (piecesIn d) (rebuilt draws used d) (rebuilt-listed d draws used) k h,
+          listed-at-lt (rank d) (piecesIn d) (rebuilt draws used d) (rebuilt-listed d draws used) k h,
         )
 
   -- ---- the list

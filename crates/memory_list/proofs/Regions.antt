@@ -16,7 +16,7 @@ use Rattle.memory_records.specs.declared.record.DownloadingPiece.{DownloadingPi
 use Rattle.memory_layout.specs.declared.shape.Shape.{Shape}
 use Rattle.memory_layout.specs.Tables.{front}
 use Rattle.memory_layout.specs.Offsets.{cell, pieceWordAt}
-use Rattle.memory_layout.specs.Decode.{headWord, pieceWord, piecesOn, yes?, listedPiece, piecesHeld, listHeld, listingHeld, decode}
+use Rattle.memory_layout.specs.Decode.{headWord, pieceWord, piecesOn, yes?, piecesHeld, listHeld, listingHeld, decode}
 use Rattle.memory_layout.specs.Bounds.{Sizes, WordsSpan, RanksHeld}
 use Rattle.memory_layout.proofs.TableLaws.{tabulate-each}
 use Rattle.memory_layout.proofs.OffsetLaws.{words-from, head-in}
@@ -24,7 +24,7 @@ use Rattle.memory_layout.proofs.Meanings.{listed-is}
 use Rattle.memory_layout.proofs.Parts.{pieces-same}
 use Rattle.memory_layout.proofs.BoundsLaws.{cells-kept-none, became-named, became-none, words-kept-none}
 use Rattle.memory_layout.proofs.stores.ListStores.{part-put-long, lent-long, lent-word, ListPut, list-became, list-ranks, list-put}
-use Rattle.list_groups.specs.Words.{listedPiece as wordPiece, listedRank, piecesOf, RanksIn}
+use Rattle.list_groups.specs.Words.{listedPiece, piecesOf, RanksIn}
 use Rattle.list_words.proofs.Listing.{ranks-places}
 use Rattle.memory_fields.specs.Reading.{HeadSays, WordsSay}
 use Rattle.memory_list.specs.Listings.{RanksRight, ListBecame}
@@ -78,7 +78,7 @@ module _ (s : Shape) (words : List ℕ) (r : WordsSpan s words) (a : ℕ) (ea : 
 
     -- in front stand the pieces of the list
     pub front-pieces : piecesOf (take n (lentAt a (s .pieces) words)) ≡ listHeld words (s .pieces)
-    unfolding piecesOf listHeld wordPiece listedPiece
+    unfolding piecesOf listHeld
     front-pieces =
         rw (← en)
         (sym (tabulate-each listedPiece (take n (lentAt a (s .pieces) words)) n (λ k. listedPiece (pieceWord words (s .pieces) 1 k))
@@ -86,7 +86,6 @@ module _ (s : Shape) (words : List ℕ) (r : WordsSpan s words) (a : ℕ) (ea : 
 
     -- with the ranks beside them
     pub front-ranks : (g : ℕ → ℕ) → RanksHeld (s .pieces) words g → RanksIn g (take n (lentAt a (s .pieces) words))
-    unfolding listedRank wordPiece listedPiece
     front-ranks g h =
         ranks-places g (take n (lentAt a (s .pieces) words)) .1 (λ k l.
         let m : k < n = omega (arith, front-long) in
@@ -150,7 +149,7 @@ module _ (s : Shape) (step : Drawing → Drawing) (words cells : List ℕ) (used
         (p .beside .head 2 (omega arith) (λ q. omega arith) (λ q. omega arith)) (pieces-stay records) i)
 
     held : (records : List Record) → RanksHeld (s .pieces) words′ (rank (decode records words cells))
-    unfolding front listedRank wordPiece listedPiece
+    unfolding front
     held records =
         list-ranks s words words′ (front m part) p (rank (decode records words cells))
         (ranks-places (rank (decode records words cells)) (take m part) .0 (ranks records))
@@ -165,7 +164,7 @@ module _ (s : Shape) (step : Drawing → Drawing) (words cells : List ℕ) (used
     next-same records = sym (ap (λ (w : Drawing). w .used) (is records))
 
     pub list-stored : ListBecame s step words words′ cells used next
-    unfolding front piecesOf wordPiece listedPiece
+    unfolding front piecesOf
     list-stored =
         let b = list-became s words words′ (front m part) p in
         record {

@@ -3,18 +3,19 @@ use mathlib.Core.Path.{_≡_, refl, sym, ap, ap₂, _∙_}
 use mathlib.Core.Logic.{_≢_}
 use mathlib.Core.Bool.{true, false, true≢false, cond}
 use mathlib.Core.List.{List, _++_}
-use Prim.Native.Nat.{ℕ, _+_, _-_, _*_, _/_, _≤_, _<_}
+use Prim.Native.Nat.{ℕ, _+_, _-_, _*_, _≤_, _<_}
 use native.Mathlib.Omega.{arith}
 use lib.ListN.{length, getD, take, drop, set, length-set, length-append, length-drop, List·getD-append}
 use lib.Seq.{getD-take, getD-drop, length-take-le, getD-append-add}
 use borrow.Rule.Slice.PartMut.{putMid, midOf, postOf}
 use Rattle.model.specs.Lists.{each}
 use Rattle.model.specs.State.{Listing, dirty, fresh, listOf, withListing, markDirty}
+use Rattle.list_groups.specs.Words.{listedPiece, listedRank}
 use Rattle.memory_records.specs.declared.record.DownloadingPiece.{DownloadingPiece as Record}
 use Rattle.memory_layout.specs.declared.shape.Shape.{Shape}
 use Rattle.memory_layout.specs.Tables.{tabulate, front}
 use Rattle.memory_layout.specs.Offsets.{cell, pieceWordAt, peerAt}
-use Rattle.memory_layout.specs.Decode.{headWord, pieceWord, peerWord, yes?, rankUnit, listedPiece, listHeld, listingHeld, decodeAt}
+use Rattle.memory_layout.specs.Decode.{headWord, pieceWord, peerWord, yes?, listHeld, listingHeld, decodeAt}
 use Rattle.memory_layout.specs.Decode.{decode}
 use Rattle.memory_layout.specs.Bounds.{WordsSpan, InBounds, RanksHeld}
 use Rattle.memory_layout.specs.Stores.{WordsKept, WordsBecame}
@@ -88,7 +89,7 @@ module _ (s : Shape) (records : List Record) (words cells : List ℕ) (r : InBou
 
   -- and the ranks beside them
   pub lent-ranks : (g : ℕ → ℕ) → RanksHeld (s .pieces) words g → (i : ℕ) → i < headWord words 6
-      → getD (midOf (pieceWordAt (s .pieces) 1 0) (headWord words 6) words) i 0 / rankUnit
+      → listedRank (getD (midOf (pieceWordAt (s .pieces) 1 0) (headWord words 6) words) i 0)
       ≡ g (listedPiece (getD (midOf (pieceWordAt (s .pieces) 1 0) (headWord words 6) words) i 0))
   lent-ranks g h i l = rw (lent-word s words (r .spans .inWords) (headWord words 6) (r .list) i l) (h i l)
 
@@ -221,7 +222,7 @@ module _ (s : Shape) (words words′ list : List ℕ) (p : ListPut s words words
       ∙ ap (λ (l : Listing). withListing l (decodeAt (s .pieces) (s .blocks) records words cells)) listing-new)
 
   -- and the ranks that those words have
-  pub list-ranks : (r : ℕ → ℕ) → ((i : ℕ) → i < length list → getD list i 0 / rankUnit ≡ r (listedPiece (getD list i 0)))
+  pub list-ranks : (r : ℕ → ℕ) → ((i : ℕ) → i < length list → listedRank (getD list i 0) ≡ r (listedPiece (getD list i 0)))
       → RanksHeld (s .pieces) words′ r
   list-ranks r h k l =
       let m : k < length list = omega (arith, p .long) in

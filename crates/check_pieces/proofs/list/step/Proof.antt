@@ -1,6 +1,6 @@
 -- `check_pieces::step` meets its contract: each way out by one law.
 use native.Mathlib.Omega.{arith}
-use Rattle.memory_layout.specs.Decode.{listedPiece}
+use Rattle.list_groups.specs.Words.{listedPiece, listedRank}
 use Rattle.check_pieces.proofs.ListTests.{falls, outside, other-rank, stepped}
 use borrow.Author.Needs.{needs}
 use Rattle.check_pieces.proofs.list.step.Statement.{statement}
@@ -10,10 +10,11 @@ u64-to-usize-requires : tie.Need-u64-to-usize-requires
 u64-to-usize-requires c κs = search needs
 
 returns : tie.Need-returns
+unfolding listedRank
 returns c = falls _ _ _ _ (c .if1 .taken)
 
 returns-2 : tie.Need-returns-2
-unfolding listedPiece
+unfolding listedPiece listedRank
 returns-2 c = outside _ _ _ _ (omega arith) _ (c .before .before .u64-to-usize .ensures) (c .if2 .taken)
 
 mul-u16-to-u64 : tie.Need-mul-u16-to-u64
@@ -26,7 +27,7 @@ u16-to-u64-requires : tie.Need-u16-to-u64-requires
 u16-to-u64-requires c κs = search needs
 
 returns-3 : tie.Need-returns-3
-unfolding listedPiece
+unfolding listedPiece listedRank
 returns-3 c = other-rank _ _ _ _ (omega arith) _ (c .before .before .before .before .before .u64-to-usize .ensures) (omega arith) _ (c .before .u16-to-u64 .ensures) (c .if3 .taken)
 
 mul-ranks : tie.Need-mul-ranks
@@ -39,7 +40,7 @@ same-length : tie.Need-same-length
 same-length c = search needs
 
 returns-4 : tie.Need-returns-4
-unfolding listedPiece
+unfolding listedPiece listedRank
 returns-4 c = stepped _ _ _ _ (omega arith) _ (c .before .before .before .before .before .u64-to-usize .ensures) (omega arith) _ (c .before .u16-to-u64 .ensures) (c .before .before .before .before .before .before .before .pre .1) (omega arith)
 
 pub step-spec : {M : Type 1} → statement M
