@@ -1,4 +1,5 @@
 pub mod RecordLaws
+pub mod PlaceLaws
 pub mod CountLaws
 pub mod RisingLaws
 pub mod OpenLaws

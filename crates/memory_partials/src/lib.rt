@@ -1,3 +1,6 @@
 // Partials opened, closed and flagged in the lent buffers.
 // The live records are seen as rows of numbers and never written: a function answers the record that the walk above puts in, takes out or
 // replaces by its piece, and contracts speak of the picker with the records as they will be.
+mod places;
+
+pub use places::free_place;
