@@ -1,26 +1,36 @@
 -- All that opening a partial stores, from the rows: the contract of `add_partial`. Assumes nothing.
-use mathlib.Core.Path.{_≡_, refl, sym, ap, subst, _∙_}
+use mathlib.Core.Path.{_≡_, sym, ap, subst, _∙_}
 use mathlib.Core.Logic.{_≢_}
+use mathlib.Core.Bool.{true}
+use mathlib.Core.Option.{none, Option·some-injective}
 use mathlib.Core.List.{List}
-use Prim.Native.Nat.{ℕ, suc, _+_, _≤_, _<_}
+use Prim.Native.Nat.{ℕ, suc, _+_, _<_}
 use native.Mathlib.Numerals.{add-one}
 use native.Mathlib.Omega.{arith}
 use lib.ListN.{length, set, take}
-use Rattle.model.specs.State.{payloadBlocksInPiece}
-use Rattle.model.specs.change.Partials.{addPartial}
+use Rattle.model.specs.State.{DownloadingPiece, Picker, payloadBlocksInPiece}
+use Rattle.model.specs.change.Partials.{partialOf, freshPartial, addPartial, replaceBlock}
+use Rattle.model.specs.image.Sound.{partialsFrom}
+use Rattle.model.proofs.sound.PartialLaws.{partialOf-add-same}
 use Rattle.memory_records.specs.declared.record.DownloadingPiece.{DownloadingPiece as Record}
 use Rattle.memory_records.specs.declared.edits.Edit.the-variants.{Insert}
-use Rattle.memory_records.specs.Rows.{rowAt, recordsIn}
+use Rattle.memory_records.specs.Records.{edited}
+use Rattle.memory_records.specs.Rows.{recordsIn}
 use Rattle.memory_records.proofs.laws.RowLaws.{records-at}
 use Rattle.memory_layout.specs.declared.shape.Shape.{Shape}
 use Rattle.memory_layout.specs.Decode.{headWord, blocksOf, recordAt, decode}
+use Rattle.memory_layout.specs.Changes.{partialIn}
 use Rattle.memory_layout.specs.Bounds.{ShapeOf, InBounds}
 use Rattle.memory_fields.specs.Reading.{WordsSay}
+use Rattle.memory_blocks.specs.declared.info.BlockInfo.{BlockInfo}
+use Rattle.memory_blocks.specs.Blocks.{blockOf, BlockStored}
 use Rattle.memory_partials.specs.Places.{placesTaken, PlacesBelow, lowestFree}
 use Rattle.memory_partials.specs.Partials.{Edited, Fresh, Opened}
+use Rattle.memory_partials.proofs.RecordLaws.{slot}
 use Rattle.memory_partials.proofs.PlaceLaws.{place-free}
-use Rattle.memory_partials.proofs.CountLaws.{Counted, counted-store, counted-kept, counted-list}
-use Rattle.memory_partials.proofs.OpenLaws.{opened}
+use Rattle.memory_partials.proofs.CountLaws.{Counted, counted-store, counted-kept, counted-list, opened-rising}
+use Rattle.memory_partials.proofs.OpenLaws.{opened-low, opened-here, opened}
+use Rattle.memory_partials.proofs.MarkLaws.{Standing, standing-found, block-replaced}
 
 -- the shape is the head's
 pub bounds-shape : (s : Shape) (records : List Record) (words cells : List ℕ) → InBounds s records words cells → ShapeOf s words
@@ -64,8 +74,49 @@ module _ (s : Shape) (i live : ℕ) (rows words cells words′ cells′ : List �
     index = ei;
     place = ex ∙ ep;
     flags = ef;
+    count = counted .count ∙ ap suc (sym el);
     wordsKept = counted-kept s words words′ (suc (headWord words 7)) counted;
     cellsKept = b .kept;
     list = counted-list s words words′ (suc (headWord words 7)) counted;
     became = became;
   }
+
+-- ---- what stands once a record is put in
+module _ (s : Shape) (i live : ℕ) (rows words cells words′ cells′ : List ℕ) (x : Record)
+    (o : Opened s i live rows words cells words′ cells′ x)
+    (records : List Record) (r : InBounds s records words cells) (el : live ≡ headWord words 7) (fits : live < length records) where
+  -- a live record of the piece, at the place taken
+  pub opened-standing : (k : ℕ) × Standing (edited (headWord words 7) (Insert x) records) words′ i
+      (lowestFree (s .places) (placesTaken live rows)) k
+  opened-standing = (
+    slot x (take (headWord words 7) records) .0,
+    record {
+      low = omega (arith, o .count, el, opened-low s records words cells words cells x r (omega (arith, el)));
+      index = ap (λ (y : Record). y .index) (opened-here s records words cells words cells x r (omega (arith, el))) ∙ o .index;
+      place = ap (λ (y : Record). y .«info_idx») (opened-here s records words cells words cells x r (omega (arith, el))) ∙ o .place;
+    },
+  )
+
+  module _ (e : take live records ≡ recordsIn live rows) (rising : partialsFrom 0 (decode records words cells .partials) ≡ true)
+      (vacant : partialOf (decode records words cells) i ≡ none) (words″ cells″ : List ℕ) (j : ℕ) (y : BlockInfo)
+      (b : BlockStored s words′ cells′ words″ cells″ (lowestFree (s .places) (placesTaken live rows)) j y) where
+    -- a block stored at that place is a block of the fresh partial replaced
+    pub opened-block : Edited s (λ d. replaceBlock (freshPartial d i) j (blockOf y) (addPartial i d)) (Insert x) records words cells words″
+        cells″
+    opened-block =
+        let a = o .became records r e fits in
+        let up = opened-rising s i records words cells words′ cells′ rising x a vacant in
+        let t = opened-standing in
+        let d : Picker = decode records words cells in
+        let after : Picker = decode (edited (headWord words 7) (Insert x) records) words′ cells′ in
+        let found = standing-found s (edited (headWord words 7) (Insert x) records) words′ cells′ i _ (t .0) (t .1) (a .bounds) up in
+        let put = block-replaced s (edited (headWord words 7) (Insert x) records) words′ cells′ i _ (t .0) (t .1) (a .bounds) up words″
+        cells″ j y b in
+        let same : partialIn after (t .0) ≡ freshPartial d i =
+        Option·some-injective (partialIn after (t .0)) (freshPartial d i) (sym found ∙ ap (λ (z : Picker). partialOf z i) (a .is) ∙ partialOf-add-same d i vacant) in
+        record {
+          is = put .is ∙ ap (λ (z : DownloadingPiece). replaceBlock z j (blockOf y) after) same
+              ∙ ap (replaceBlock (freshPartial d i) j (blockOf y)) (a .is);
+          bounds = put .bounds;
+          plain = λ p. put .plain (a .plain p);
+        }

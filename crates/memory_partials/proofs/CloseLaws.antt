@@ -10,7 +10,7 @@ use lib.Dec.{eqb}
 use lib.ListN.{length, getD, set, take}
 use lib.Seq.{length-take-le}
 use Rattle.model.specs.Lists.{each, filter}
-use Rattle.model.specs.State.{DownloadingPiece, Picker, withPartials}
+use Rattle.model.specs.State.{DownloadingPiece, withPartials}
 use Rattle.model.specs.change.Partials.{partialOf, dropPartial}
 use Rattle.model.specs.image.Sound.{partialsFrom}
 use Rattle.memory_records.specs.declared.record.DownloadingPiece.{DownloadingPiece as Record}
@@ -22,7 +22,7 @@ use Rattle.memory_layout.specs.Decode.{headWord, recordAt, partialHeld, partial
 use Rattle.memory_layout.specs.Bounds.{WordsSpan, InBounds, PlainRecord}
 use Rattle.memory_layout.proofs.BoundsLaws.{decode-at}
 use Rattle.memory_partials.specs.Partials.{Edited, Closed}
-use Rattle.memory_partials.proofs.RecordLaws.{at-live, without-each, Among, without-among}
+use Rattle.memory_partials.proofs.RecordLaws.{at-live, without-each, without-among}
 use Rattle.memory_partials.proofs.CountLaws.{Counted, counted-store, counted-kept, counted-list, counted-bounds, counted-plain}
 use Rattle.memory_partials.proofs.CountLaws.{counted-is, counted-record, counted-held}
 use Rattle.memory_partials.proofs.RisingLaws.{held-piece, held-each, live-rising, live-has, live-some}
@@ -114,6 +114,7 @@ module _ (s : Shape) (records : List Record) (words cells words′ : List ℕ) (
 pub closed-set : (s : Shape) (words : List ℕ) → WordsSpan s words → (n : ℕ) (words′ : List ℕ) → n ≡ headWord words 7
     → words′ ≡ set words 7 (n - 1) → Closed s words words′
 closed-set s words q n words′ en ew = record {
+  count = c .count;
   kept = counted-kept s words words′ (headWord words 7 - 1) c;
   list = counted-list s words words′ (headWord words 7 - 1) c;
   became = λ records cells r rising i d found. closed s records words cells words′ r c rising i d found;

@@ -8,7 +8,7 @@ use native.Mathlib.Nat.{le-of-suc-le-suc, not-suc-le-zero}
 use native.Mathlib.Numerals.{add-one}
 use native.Mathlib.Decide.{ℕ-discrete, decLe}
 use native.Mathlib.Omega.{arith}
-use lib.Dec.{eqb, leb}
+use lib.Dec.{eqb}
 use lib.ListN.{length, getD, set, take, replicate, length-replicate, getD-replicate, length-set}
 use lib.Seq.{getD-set-same, getD-set-other}
 use borrow.Author.Tests.{eq-eqb, ne-eqb, not-true, not-false, eqb-false}
@@ -16,7 +16,6 @@ use Rattle.model.specs.Lists.{len, any, filter, member}
 use Rattle.memory_records.specs.declared.record.DownloadingPiece.{DownloadingPiece as Record}
 use Rattle.memory_records.specs.Records.{noRecord, placeOf, firstFrom}
 use Rattle.memory_records.specs.Rows.{rowAt, recordsIn}
-use Rattle.memory_records.proofs.laws.SearchLaws.{first-within}
 use Rattle.memory_records.proofs.laws.RowLaws.{records-at}
 use Rattle.memory_layout.specs.Tables.{tabulate}
 use Rattle.memory_layout.specs.Decode.{recordAt}
@@ -109,7 +108,8 @@ module _ (marks : List Bool) where
       left : n - p ≡ suc (n - suc p)
       left = omega arith
 
-  pub unmarked-goes : (n p : ℕ) → p < n → getD marks p false ≡ true → unmarkedFrom marks (n - p) p ≡ unmarkedFrom marks (n - (p + 1)) (p + 1)
+  pub unmarked-goes : (n p : ℕ) → p < n → getD marks p false ≡ true
+      → unmarkedFrom marks (n - p) p ≡ unmarkedFrom marks (n - (p + 1)) (p + 1)
   unfolding unmarkedFrom
   unmarked-goes n p h e = rw (left, add-one) (from-next (λ q. not (getD marks q false)) (n - suc p) p (ap not e))
     where
@@ -186,8 +186,11 @@ pigeonhole (suc n) l h =
 pub lowest-there : (places : ℕ) (taken : List ℕ) → length taken < places → lowestFree places taken < places
 unfolding lowestFree
 lowest-there places taken h = elim (decLe places (firstFrom (λ p. not (member p taken)) places 0)) [
-  | yes e ↦ absurd (omega (arith, pigeonhole places taken (λ p l.
-      not-false (member p taken) (first-none (λ p. not (member p taken)) places 0 (omega arith) p (omega arith) (omega arith)))))
+  | yes e ↦ absurd (omega (
+    arith,
+    pigeonhole places taken (λ p l.
+        not-false (member p taken) (first-none (λ p. not (member p taken)) places 0 (omega arith) p (omega arith) (omega arith))),
+  ))
   | no n ↦ omega arith
 ]
 
@@ -195,7 +198,8 @@ lowest-there places taken h = elim (decLe places (firstFrom (λ p. not (member p
 lowest-free : (places : ℕ) (taken : List ℕ) → lowestFree places taken < places → member (lowestFree places taken) taken ≡ false
 unfolding lowestFree
 lowest-free places taken h =
-    not-true (member (firstFrom (λ p. not (member p taken)) places 0) taken) (first-holds (λ p. not (member p taken)) places 0 (omega arith))
+    not-true (member (firstFrom (λ p. not (member p taken)) places 0) taken)
+    (first-holds (λ p. not (member p taken)) places 0 (omega arith))
 
 -- ---- of rows
 taken-long : (live : ℕ) (rows : List ℕ) → length (placesTaken live rows) ≡ live

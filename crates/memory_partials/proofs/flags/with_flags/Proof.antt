@@ -1,6 +1,5 @@
 -- `with_flags` meets its contract. Assumes nothing.
-use native.Mathlib.Omega.{arith}
-use mathlib.Core.Path.{refl, ap₂}
+use mathlib.Core.Path.{refl}
 use Rattle.memory_partials.specs.Partials.{flagged}
 use Rattle.memory_partials.proofs.FlagLaws.{with-flags}
 use borrow.Author.Needs.{needs}

@@ -27,8 +27,7 @@ fresh-blocks-requires : tie.Need-fresh-blocks-requires
 fresh-blocks-requires c κs =
     let c3 = c .before .before .before in
     let c5 = c3 .before .before in
-    let c9 = c5 .before .before .before .before in
-    (
+    let c9 = c5 .before .before .before .before in (
       c9 .pre .0 .spans .inCells,
       (
         c5 .free-place .ensures .1,

@@ -36,8 +36,7 @@ loop-again c =
     let c2 = c .before .before in
     let c4 = c2 .before .before in
     let l = c4 .before .before .loop in
-    let q = c4 .before .before .before .before .pre in
-    (
+    let q = c4 .before .before .before .before .pre in (
       omega arith,
       fresh-next _ _ _ _ _ _ _ _ (omega (arith, q .0 .sizes .places, q .1 .0)) (omega (arith, q .1 .1)) (l .inv .1)
           (c2 .fresh-block .ensures) (c4 .fresh-state .ensures .0),

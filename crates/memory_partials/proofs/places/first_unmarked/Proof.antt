@@ -8,8 +8,6 @@ use Rattle.memory_partials.proofs.PlaceLaws.{unmarked-starts, unmarked-
 use borrow.Author.Needs.{needs}
 use Rattle.memory_partials.proofs.places.first_unmarked.Statement.{statement}
 use Rattle.memory_partials.proofs.places.first_unmarked.Tie as tie
-use Rattle.memory_partials.proofs.places.first_unmarked.Reads as reads
-use Rattle.memory_partials.proofs.places.first_unmarked.Lts as lts
 
 abbrev Inv-loop : tie.InvT-loop
 Inv-loop marks places p₀ p = (p ≤ places)
@@ -18,35 +16,28 @@ Inv-loop marks places p₀ p = (p ≤ places)
 abbrev μ-loop : tie.MeasureT-loop
 μ-loop marks places p₀ p = places - p
 
--- src/
 loop-holds : tie.Need-loop-holds Inv-loop μ-loop
 loop-holds c = (omega arith, unmarked-starts _ _)
 
--- src/places.rt:37:13
 element-copy-out-if1 : tie.Need-element-copy-out-if1 Inv-loop μ-loop
 element-copy-out-if1 c = search needs
 
--- src/places.rt:38:13
 returns : tie.Need-returns Inv-loop μ-loop
 returns c =
     let l = c .before .before .before .loop in
     sym (sym (l .inv .1) ∙ unmarked-stops _ _ _ (omega arith) (not-true _ (c .if1 .taken)))
 
--- src/places.rt:40:9
 add-p : tie.Need-add-p Inv-loop μ-loop
 add-p c = search needs
 
--- src/
 loop-less : tie.Need-loop-less Inv-loop μ-loop
 loop-less c = search needs
 
--- src/
 loop-again : tie.Need-loop-again Inv-loop μ-loop
 loop-again c =
     let l = c .before .before .before .loop in
     (omega arith, sym (unmarked-goes _ _ _ (omega arith) (not-false _ (c .if1 .left))) ∙ l .inv .1)
 
--- src/places.rt:31:1
 returns-2 : tie.Need-returns-2 Inv-loop μ-loop
 returns-2 c = sym (sym (c .before .loop .inv .1) ∙ unmarked-ends _ _ _ (omega arith))
 

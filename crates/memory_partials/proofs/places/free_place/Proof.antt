@@ -6,28 +6,20 @@ use Rattle.memory_layout.proofs.OffsetLaws.{places-min}
 use Rattle.memory_partials.proofs.PlaceLaws.{marked-none, lowest-is, place-there}
 use Rattle.memory_partials.proofs.places.free_place.Statement.{statement}
 use Rattle.memory_partials.proofs.places.free_place.Tie as tie
-use Rattle.memory_partials.proofs.places.free_place.Reads as reads
-use Rattle.memory_partials.proofs.places.free_place.Lts as lts
-use Rattle.memory_partials.proofs.places.first_unmarked.Reads as first-unmarked-reads
-use Rattle.memory_partials.proofs.places.mark_places.Reads as mark-places-reads
 
--- src/places.rt:53:5
 mark-places-requires : tie.Need-mark-places-requires
 mark-places-requires c κs =
     let q = c .before .before .pre in
     let few = q .0 .places ∙ places-min (c .before .before .args .s .pieces) in
     (marked-none, ((omega (arith, few, q .1 .0 .0), q .1 .0 .1), λ k h. omega (arith, few, q .1 .1 k h)))
 
--- src/places.rt:54:5
 first-unmarked-requires : tie.Need-first-unmarked-requires
 first-unmarked-requires c κs =
-    let q = c .before .before .before .before .pre in
-    (
+    let q = c .before .before .before .before .pre in (
       omega (arith, q .0 .places, places-min (c .before .before .before .before .args .s .pieces)),
       c .before .mark-places .ensures .long,
     )
 
--- src/places.rt:46:1
 returns : tie.Need-returns
 returns c =
     let c5 = c .before .before .before .before .before in

@@ -8,10 +8,6 @@ use Rattle.memory_partials.proofs.PlaceLaws.{marked-start, marked-next,
 use borrow.Author.Needs.{needs}
 use Rattle.memory_partials.proofs.places.mark_places.Statement.{statement}
 use Rattle.memory_partials.proofs.places.mark_places.Tie as tie
-use Rattle.memory_partials.proofs.places.mark_places.Reads as reads
-use Rattle.memory_partials.proofs.places.mark_places.Lts as lts
-use Rattle.memory_records.proofs.row.Reads as row-reads
-use Rattle.types.proofs.u32_to_usize.Reads as u32-to-usize-reads
 
 abbrev Inv-loop : tie.InvT-loop
 Inv-loop marks₀ rows live k₀ marks k = (k ≤ live) × Marked (placesTaken k rows) marks
@@ -19,44 +15,39 @@ Inv-loop marks₀ rows live k₀ marks k = (k ≤ live) × Marked (placesTaken k
 abbrev μ-loop : tie.MeasureT-loop
 μ-loop marks₀ rows live k₀ marks k = live - k
 
--- src/places.rt:22:5
 loop-holds : tie.Need-loop-holds Inv-loop μ-loop
 loop-holds c = (omega arith, marked-start _ _ (c .before .pre .0))
 
--- src/places.rt:23:13
 row-requires : tie.Need-row-requires Inv-loop μ-loop
 row-requires c κs = search needs
 
--- src/places.rt:24:13
 u32-to-usize-requires : tie.Need-u32-to-usize-requires Inv-loop μ-loop
 u32-to-usize-requires c κs = search needs
 
--- src/places.rt:25:9
 element-write-marks : tie.Need-element-write-marks Inv-loop μ-loop
 element-write-marks c =
     let place = c .u32-to-usize .ensures ∙ ap (λ (x : Record). x .«info_idx») (c .before .row .ensures) in
-    omega (arith, place, c .before .before .before .before .before .pre .1 .1 (c .before .before .before .loop .k) (omega arith),
-    c .before .before .before .loop .inv .1 .long)
+    omega (
+      arith,
+      place,
+      c .before .before .before .before .before .pre .1 .1 (c .before .before .before .loop .k) (omega arith),
+      c .before .before .before .loop .inv .1 .long,
+    )
 
--- src/places.rt:26:9
 add-k : tie.Need-add-k Inv-loop μ-loop
 add-k c = search needs
 
--- src/places.rt:22:5
 loop-less : tie.Need-loop-less Inv-loop μ-loop
 loop-less c = search needs
 
--- src/places.rt:22:5
 loop-again : tie.Need-loop-again Inv-loop μ-loop
 loop-again c =
-    let place = c .u32-to-usize .ensures ∙ ap (λ (x : Record). x .«info_idx») (c .before .row .ensures) in
-    (
+    let place = c .u32-to-usize .ensures ∙ ap (λ (x : Record). x .«info_idx») (c .before .row .ensures) in (
       omega arith,
       marked-next _ _ _ _ (c .before .before .before .loop .inv .1) place
           (omega (arith, place, c .before .before .before .before .before .pre .1 .1 (c .before .before .before .loop .k) (omega arith))),
     )
 
--- src/places.rt:15:1
 returns : tie.Need-returns Inv-loop μ-loop
 returns c = marked-end _ _ _ _ (c .before .loop .inv .1) (omega arith)
 
