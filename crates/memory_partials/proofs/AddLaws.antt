@@ -1,5 +1,5 @@
 -- All that opening a partial stores, from the rows: the contract of `add_partial`. Assumes nothing.
-use mathlib.Core.Path.{_≡_, sym, ap, subst, _∙_}
+use mathlib.Core.Path.{_≡_, refl, sym, ap, subst, _∙_}
 use mathlib.Core.Logic.{_≢_}
 use mathlib.Core.Bool.{true}
 use mathlib.Core.Option.{none, Option·some-injective}
@@ -7,26 +7,27 @@ use mathlib.Core.List.{List}
 use Prim.Native.Nat.{ℕ, suc, _+_, _<_}
 use native.Mathlib.Numerals.{add-one}
 use native.Mathlib.Omega.{arith}
-use lib.ListN.{length, set, take}
+use lib.ListN.{length, getD, set, take}
 use Rattle.model.specs.State.{DownloadingPiece, Picker, payloadBlocksInPiece}
 use Rattle.model.specs.change.Partials.{partialOf, freshPartial, addPartial, replaceBlock}
 use Rattle.model.specs.image.Sound.{partialsFrom}
 use Rattle.model.proofs.sound.PartialLaws.{partialOf-add-same}
 use Rattle.memory_records.specs.declared.record.DownloadingPiece.{DownloadingPiece as Record}
 use Rattle.memory_records.specs.declared.edits.Edit.the-variants.{Insert}
-use Rattle.memory_records.specs.Records.{edited}
+use Rattle.memory_records.specs.Records.{noRecord, edited}
 use Rattle.memory_records.specs.Rows.{recordsIn}
-use Rattle.memory_records.proofs.laws.RowLaws.{records-at}
+use Rattle.memory_records.proofs.laws.RowLaws.{length-records, records-at}
 use Rattle.memory_layout.specs.declared.shape.Shape.{Shape}
 use Rattle.memory_layout.specs.Decode.{headWord, blocksOf, recordAt, decode}
 use Rattle.memory_layout.specs.Changes.{partialIn}
 use Rattle.memory_layout.specs.Bounds.{ShapeOf, InBounds}
+use Rattle.memory_layout.proofs.ReadLaws.{SameRead}
 use Rattle.memory_fields.specs.Reading.{WordsSay}
 use Rattle.memory_blocks.specs.declared.info.BlockInfo.{BlockInfo}
 use Rattle.memory_blocks.specs.Blocks.{blockOf, BlockStored}
 use Rattle.memory_partials.specs.Places.{placesTaken, PlacesBelow, lowestFree}
 use Rattle.memory_partials.specs.Partials.{Edited, Fresh, Opened}
-use Rattle.memory_partials.proofs.RecordLaws.{slot}
+use Rattle.memory_partials.proofs.RecordLaws.{at-live, slot}
 use Rattle.memory_partials.proofs.PlaceLaws.{place-free}
 use Rattle.memory_partials.proofs.CountLaws.{Counted, counted-store, counted-kept, counted-list, opened-rising}
 use Rattle.memory_partials.proofs.OpenLaws.{opened-low, opened-here, opened}
@@ -42,6 +43,28 @@ pub rows-below : (s : Shape) (live : ℕ) (rows words cells : List ℕ) → InBo
 unfolding recordAt
 rows-below s live rows words cells r e k h =
     subst (λ (x : Record). x .«info_idx» < s .places) (records-at live rows k h) (r .placed k (omega (arith, e)))
+
+row-record : (live : ℕ) (rows : List ℕ) (records : List Record) → take live records ≡ recordsIn live rows → (k : ℕ) → k < live
+    → recordAt (recordsIn live rows) k ≡ recordAt records k
+unfolding recordAt
+row-record live rows records e k h = ap (λ (ds : List Record). getD ds k noRecord) (sym e) ∙ sym (at-live records live k h)
+
+-- the rows say what the records do that they were made of
+pub rows-read : (s : Shape) (records : List Record) (live : ℕ) (rows words cells : List ℕ) → InBounds s records words cells
+    → live ≡ headWord words 7 → take live records ≡ recordsIn live rows → SameRead s records (recordsIn live rows) words words cells cells
+rows-read s records live rows words cells r el e = record {
+  longWords = r .spans .inWords .long;
+  longCells = r .spans .inCells .long;
+  live = omega (arith, el, length-records live rows);
+  head = λ k h. refl;
+  extents = λ k h. refl;
+  pads = λ k h. refl;
+  list = λ k h. refl;
+  fields = λ f k h l. refl;
+  recordsAre = λ k h. row-record live rows records e k (omega (arith, el));
+  blocks = λ k j f h l m. refl;
+  peers = λ k j h l m. refl;
+}
 
 module _ (s : Shape) (i live : ℕ) (rows words cells words′ cells′ : List ℕ) (p many payload w : ℕ) (x : Record)
     (q : InBounds s (recordsIn live rows) words cells) (el : live ≡ headWord words 7) (room : live < s .places)
@@ -113,7 +136,8 @@ module _ (s : Shape) (i live : ℕ) (rows words cells words′ cells′ : List �
         let put = block-replaced s (edited (headWord words 7) (Insert x) records) words′ cells′ i _ (t .0) (t .1) (a .bounds) up words″
         cells″ j y b in
         let same : partialIn after (t .0) ≡ freshPartial d i =
-        Option·some-injective (partialIn after (t .0)) (freshPartial d i) (sym found ∙ ap (λ (z : Picker). partialOf z i) (a .is) ∙ partialOf-add-same d i vacant) in
+        Option·some-injective (partialIn after (t .0)) (freshPartial d i)
+        (sym found ∙ ap (λ (z : Picker). partialOf z i) (a .is) ∙ partialOf-add-same d i vacant) in
         record {
           is = put .is ∙ ap (λ (z : DownloadingPiece). replaceBlock z j (blockOf y) after) same
               ∙ ap (replaceBlock (freshPartial d i) j (blockOf y)) (a .is);

@@ -8,3 +8,4 @@ pub mod OpenLaws
 pub mod AddLaws
 pub mod CloseLaws
 pub mod FlagLaws
+pub mod Cases
