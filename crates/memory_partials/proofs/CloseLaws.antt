@@ -7,10 +7,10 @@ use Prim.Native.Nat.{ℕ, suc, _-_, _≤_, _<_}
 use native.Mathlib.Decide.{ℕ-discrete, decLe}
 use native.Mathlib.Omega.{arith}
 use lib.Dec.{eqb}
-use lib.ListN.{length, getD, take}
+use lib.ListN.{length, getD, set, take}
 use lib.Seq.{length-take-le}
 use Rattle.model.specs.Lists.{each, filter}
-use Rattle.model.specs.State.{DownloadingPiece, Picker, withPartials}
+use Rattle.model.specs.State.{DownloadingPiece, withPartials}
 use Rattle.model.specs.change.Partials.{partialOf, dropPartial}
 use Rattle.model.specs.image.Sound.{partialsFrom}
 use Rattle.memory_records.specs.declared.record.DownloadingPiece.{DownloadingPiece as Record}
@@ -19,11 +19,12 @@ use Rattle.memory_records.specs.Records.{noRecord, removed, withoutRecord}
 use Rattle.memory_records.proofs.laws.EditLaws.{length-removed, removed-live}
 use Rattle.memory_layout.specs.declared.shape.Shape.{Shape}
 use Rattle.memory_layout.specs.Decode.{headWord, recordAt, partialHeld, partialsHeld, decode, decodeAt}
-use Rattle.memory_layout.specs.Bounds.{InBounds, PlainRecord}
+use Rattle.memory_layout.specs.Bounds.{WordsSpan, InBounds, PlainRecord}
 use Rattle.memory_layout.proofs.BoundsLaws.{decode-at}
-use Rattle.memory_partials.specs.Partials.{Edited}
-use Rattle.memory_partials.proofs.RecordLaws.{at-live, without-each, Among, without-among}
-use Rattle.memory_partials.proofs.CountLaws.{Counted, counted-bounds, counted-plain, counted-is, counted-record, counted-held}
+use Rattle.memory_partials.specs.Partials.{Edited, Closed}
+use Rattle.memory_partials.proofs.RecordLaws.{at-live, without-each, without-among}
+use Rattle.memory_partials.proofs.CountLaws.{Counted, counted-store, counted-kept, counted-list, counted-bounds, counted-plain}
+use Rattle.memory_partials.proofs.CountLaws.{counted-is, counted-record, counted-held}
 use Rattle.memory_partials.proofs.RisingLaws.{held-piece, held-each, live-rising, live-has, live-some}
 
 -- a rising map takes no two places to one
@@ -108,3 +109,16 @@ module _ (s : Shape) (records : List Record) (words cells words′ : List ℕ) (
         (counted-record s records after words cells words′ cells (headWord words 7 - 1) r c refl (λ f j m l. refl) (recordAt records (to k))
         (λ f j m. refl) (p .partials (to k) (to-low k h)))) p;
   }
+
+-- one less stored
+pub closed-set : (s : Shape) (words : List ℕ) → WordsSpan s words → (n : ℕ) (words′ : List ℕ) → n ≡ headWord words 7
+    → words′ ≡ set words 7 (n - 1) → Closed s words words′
+closed-set s words q n words′ en ew = record {
+  count = c .count;
+  kept = counted-kept s words words′ (headWord words 7 - 1) c;
+  list = counted-list s words words′ (headWord words 7 - 1) c;
+  became = λ records cells r rising i d found. closed s records words cells words′ r c rising i d found;
+}
+  where
+    c : Counted s words words′ (headWord words 7 - 1)
+    c = rw (ew, en) (counted-store s words q (headWord words 7 - 1))

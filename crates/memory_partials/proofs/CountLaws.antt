@@ -1,21 +1,28 @@
 -- The number of partials stored, and the records changed with it: what stays in bounds, plain, and of the picker. Assumes nothing.
 use mathlib.Core.Path.{_≡_, refl, sym, ap, ap₂, subst, _∙_}
 use mathlib.Core.Logic.{_≢_}
+use mathlib.Core.Bool.{true, not}
+use mathlib.Core.Option.{none}
 use mathlib.Core.List.{List}
 use Prim.Native.Nat.{ℕ, _+_, _≤_, _<_}
 use native.Mathlib.Omega.{arith}
+use lib.Dec.{eqb}
 use lib.ListN.{length, set, take}
 use lib.Seq.{getD-set-same}
 use Rattle.model.specs.Lists.{each}
 use Rattle.model.specs.Bep3.{numPieces, wholePieceBlocks}
-use Rattle.model.specs.State.{Picker, validGeometry, withPartials}
+use Rattle.model.specs.State.{DownloadingPiece, Picker, validGeometry, withPartials}
+use Rattle.model.specs.change.Partials.{partialOf, freshPartial, addPartial, dropPartial, replacePartial}
+use Rattle.model.specs.image.Sound.{partialsFrom}
+use Rattle.model.proofs.sound.PartialLaws.{from-put, from-insert, from-filter}
 use Rattle.memory_records.specs.declared.record.DownloadingPiece.{DownloadingPiece as Record}
 use Rattle.memory_records.specs.declared.edits.Edit.{Edit}
+use Rattle.memory_records.specs.declared.edits.Edit.the-variants.{Keep, Replace, Insert, Remove}
 use Rattle.memory_records.specs.Records.{edited}
 use Rattle.memory_layout.specs.declared.shape.Shape.{Shape}
 use Rattle.memory_layout.specs.Decode.{headWord, blockCell, recordAt, piecesOn, blocksOn, blocksOf, partialHeld, partialsHeld, decode}
 use Rattle.memory_layout.specs.Decode.{decodeAt}
-use Rattle.memory_layout.specs.Bounds.{WordsSpan, InBounds, PlainBlock, PlainRecord, Plain}
+use Rattle.memory_layout.specs.Bounds.{WordsSpan, InBounds, PlainRecord, Plain}
 use Rattle.memory_layout.specs.Stores.{WordsKept, ListKept, Became}
 use Rattle.memory_layout.specs.Frames.{SameFields}
 use Rattle.memory_layout.proofs.TableLaws.{tabulate-ext}
@@ -178,3 +185,37 @@ module _ (s : Shape) (f g : Picker → Picker) (edit : Edit) (records : List Rec
     bounds = subst (λ (n : ℕ). InBounds s (edited n edit records) words″ cells″) e (b .bounds);
     plain = λ p. subst (λ (n : ℕ). Plain s (edited n edit records) words″ cells″) e (b .plain (a .plain p));
   }
+
+-- a store alone, with no edit
+pub kept-edited : (s : Shape) (f : Picker → Picker) (records : List Record) (words cells words′ cells′ : List ℕ)
+    → Became s f records words cells words′ cells′ → Edited s f Keep records words cells words′ cells′
+kept-edited s f records words cells words′ cells′ a = record { is = a .is; bounds = a .bounds; plain = a .plain }
+
+-- ---- the partials rise after an edit where they did before
+module _ (s : Shape) (i : ℕ) (records : List Record) (words cells words′ cells′ : List ℕ)
+    (rising : partialsFrom 0 (decode records words cells .partials) ≡ true) where
+  -- one opened, where the piece had none
+  pub opened-rising : (x : Record) → Edited s (addPartial i) (Insert x) records words cells words′ cells′
+      → partialOf (decode records words cells) i ≡ none
+      → partialsFrom 0 (decode (edited (headWord words 7) (Insert x) records) words′ cells′ .partials) ≡ true
+  unfolding addPartial partialOf withPartials freshPartial
+  opened-rising x a n =
+      ap (λ (d : Picker). partialsFrom 0 (d .partials)) (a .is)
+      ∙ from-insert 0 (freshPartial (decode records words cells) i) (decode records words cells .partials) (omega arith) n rising
+
+  -- one closed
+  pub closed-rising : Edited s (dropPartial i) (Remove i) records words cells words′ cells′
+      → partialsFrom 0 (decode (edited (headWord words 7) (Remove i) records) words′ cells′ .partials) ≡ true
+  unfolding dropPartial withPartials
+  closed-rising a =
+      ap (λ (d : Picker). partialsFrom 0 (d .partials)) (a .is)
+      ∙ from-filter (λ d. not (eqb (d .piece) i)) 0 (decode records words cells .partials) rising
+
+  -- one replaced
+  pub replaced-rising : (x : Record) (f : Picker → DownloadingPiece)
+      → Edited s (λ d. replacePartial (f d) d) (Replace x) records words cells words′ cells′
+      → partialsFrom 0 (decode (edited (headWord words 7) (Replace x) records) words′ cells′ .partials) ≡ true
+  unfolding replacePartial withPartials
+  replaced-rising x f a =
+      ap (λ (d : Picker). partialsFrom 0 (d .partials)) (a .is)
+      ∙ from-put 0 (f (decode records words cells)) (decode records words cells .partials) rising

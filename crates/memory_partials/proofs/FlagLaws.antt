@@ -3,14 +3,14 @@ use mathlib.Core.Path.{_≡_, refl, sym, ap, ap₂, subst, _∙_}
 use mathlib.Core.Logic.{_⊎_, inl, inr, ⊎-elim}
 use mathlib.Core.Bool.{Bool, true, false}
 use mathlib.Core.List.{List}
-use Prim.Native.Nat.{ℕ, suc, _+_, _*_, _/_, _%_, _^_, _≤_, _<_}
+use Prim.Native.Nat.{ℕ, _+_, _*_, _/_, _%_, _^_, _≤_, _<_}
 use native.Mathlib.Omega.{arith}
 use lib.Dec.{eqb}
 use lib.ListN.{length, getD, take}
 use lib.Seq.{length-take-le}
 use Rattle.model.specs.Lists.{bit, each}
 use Rattle.model.specs.Bep3.{bitOf}
-use Rattle.model.specs.State.{Block, DownloadingPiece, Picker, withPartials, withFlags}
+use Rattle.model.specs.State.{DownloadingPiece, Picker, withPartials, withFlags}
 use Rattle.model.specs.change.Partials.{replaceIn, replacePartial}
 use Rattle.model.specs.image.Sound.{partialsFrom}
 use Rattle.memory_records.specs.declared.record.DownloadingPiece.{DownloadingPiece as Record}

@@ -1,7 +1,11 @@
 pub mod RecordLaws
+pub mod PlaceLaws
 pub mod CountLaws
 pub mod RisingLaws
+pub mod MarkLaws
+pub mod FreshLaws
 pub mod OpenLaws
+pub mod AddLaws
 pub mod CloseLaws
 pub mod FlagLaws
-pub mod MarkLaws
+pub mod Cases

@@ -6,7 +6,6 @@ use mathlib.Core.List.{List, [], _∷_}
 use Prim.Native.Nat.{ℕ, zero, suc, _≤_, _<_}
 use native.Mathlib.Nat.{le-of-suc-le-suc, not-suc-le-zero}
 use native.Mathlib.Omega.{arith}
-use lib.ListN.{length, take}
 use borrow.Author.Tests.{eq-eqb, ne-eqb}
 use Rattle.model.specs.Lists.{nth, len, setNth, each}
 use Rattle.model.specs.State.{DownloadingPiece, Picker, withBlocks, withPartials}
@@ -15,7 +14,6 @@ use Rattle.model.specs.change.Partials.{partialOf, replaceIn, replacePartial, r
 use Rattle.model.specs.image.Sound.{partialsFrom}
 use Rattle.model.proofs.sound.PartialLaws.{from-head, from-tail}
 use Rattle.memory_records.specs.declared.record.DownloadingPiece.{DownloadingPiece as Record}
-use Rattle.memory_records.specs.Records.{inserted}
 use Rattle.memory_layout.specs.declared.shape.Shape.{Shape}
 use Rattle.memory_layout.specs.Decode.{headWord, recordAt, decode}
 use Rattle.memory_layout.specs.Changes.{partialIn, withPartial, withBlock}
@@ -25,13 +23,12 @@ use Rattle.memory_layout.proofs.Meanings.{partials-number}
 use Rattle.memory_layout.proofs.BoundsLaws.{became-named}
 use Rattle.memory_blocks.specs.declared.info.BlockInfo.{BlockInfo}
 use Rattle.memory_blocks.specs.Blocks.{blockOf, BlockStored}
-use Rattle.memory_partials.proofs.RecordLaws.{slot}
 use Rattle.memory_partials.proofs.RisingLaws.{live-found}
-use Rattle.memory_partials.proofs.OpenLaws.{opened-low, opened-here}
 
 -- ---- where the partials rise, a change by place is one by piece
 -- a piece below all of them is none's
-put-lower : (d : DownloadingPiece) (ds : List DownloadingPiece) (low : ℕ) → d .piece < low → partialsFrom low ds ≡ true → replaceIn d ds ≡ ds
+put-lower : (d : DownloadingPiece) (ds : List DownloadingPiece) (low : ℕ) → d .piece < low → partialsFrom low ds ≡ true
+    → replaceIn d ds ≡ ds
 unfolding replaceIn each
 put-lower d [] low h r = refl
 put-lower d (x ∷ xs) low h r =
@@ -72,6 +69,7 @@ pub record Standing (records : List Record) (words : List ℕ) (i p k : ℕ) : T
   pub index : recordAt records k .index ≡ i
   pub place : recordAt records k .«info_idx» ≡ p
 
+<<<<<<< HEAD
 -- the record just put in is one, where one partial more is counted
 pub opened-standing : (s : Shape) (records : List Record) (words cells words′ : List ℕ) (x : Record) → InBounds s records words cells
     → headWord words 7 < length records → headWord words′ 7 ≡ suc (headWord words 7)
@@ -85,6 +83,8 @@ opened-standing s records words cells words′ x r fits e = (
   },
 )
 
+=======
+>>>>>>> mpart
 module _ (s : Shape) (records : List Record) (words cells : List ℕ) (i p k : ℕ) (t : Standing records words i p k)
     (r : InBounds s records words cells) (rising : partialsFrom 0 (decode records words cells .partials) ≡ true) where
   -- its partial is the one of the piece
@@ -97,8 +97,8 @@ module _ (s : Shape) (records : List Record) (words cells : List ℕ) (i p k : �
       → Became s (λ d. replaceBlock (partialIn d k) j (blockOf x) d) records words cells words′ cells′
   unfolding replaceBlock withBlock withBlocks
   block-replaced words′ cells′ j x b =
-      became-named s (withPartial k (withBlock j (blockOf x))) (λ d. replaceBlock (partialIn d k) j (blockOf x) d) records words cells words′
-      cells′
+      became-named s (withPartial k (withBlock j (blockOf x))) (λ d. replaceBlock (partialIn d k) j (blockOf x) d) records words cells
+      words′ cells′
       (with-is-replaced (decode records words cells) k (omega (arith, t .low, partials-number s records words cells r)) rising
       (withBlock j (blockOf x)) refl)
       (b .live records k r (t .low) (t .place))

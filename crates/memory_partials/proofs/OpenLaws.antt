@@ -1,9 +1,8 @@
 -- A record put in at a free place whose blocks are fresh: the model's opening of a partial. Assumes nothing.
 use mathlib.Core.Path.{_≡_, refl, sym, ap, ap₂, subst, _∙_}
 use mathlib.Core.Logic.{_≢_, _⊎_, inl, inr, ⊎-elim}
-use mathlib.Core.Bool.{true, false}
-use mathlib.Core.List.{List, [], _∷_}
-use Prim.Native.Nat.{ℕ, zero, suc, _+_, _≤_, _<_}
+use mathlib.Core.List.{List, _∷_}
+use Prim.Native.Nat.{ℕ, zero, suc, _+_, _<_}
 use native.Mathlib.Decide.{ℕ-discrete, decLe}
 use native.Mathlib.Omega.{arith}
 use lib.Dec.{leb}
@@ -11,7 +10,7 @@ use lib.ListN.{length, getD, take}
 use lib.Seq.{length-take-le}
 use borrow.Author.Tests.{le-leb, lt-leb}
 use Rattle.model.specs.Lists.{bit, each, from}
-use Rattle.model.specs.Bep3.{bitOf, pieceBlocks}
+use Rattle.model.specs.Bep3.{bitOf}
 use Rattle.model.specs.State.{Block, DownloadingPiece, Picker, withPartials, blocksInPiece, payloadBlocksInPiece}
 use Rattle.model.specs.change.Partials.{freshBlock, freshPartial, insertIn, addPartial}
 use Rattle.memory_records.specs.declared.record.DownloadingPiece.{DownloadingPiece as Record}
@@ -20,14 +19,15 @@ use Rattle.memory_records.specs.Records.{noRecord, inserted, insertRecord}
 use Rattle.memory_records.proofs.laws.EditLaws.{length-inserted, inserted-live}
 use Rattle.memory_layout.specs.declared.shape.Shape.{Shape}
 use Rattle.memory_layout.specs.Tables.{tabulate}
-use Rattle.memory_layout.specs.Decode.{headWord, blockCell, recordAt, blocksOf, blockHeld, blocksHeld, partialFrom, partialHeld, partialsHeld}
-use Rattle.memory_layout.specs.Decode.{decode, decodeAt}
+use Rattle.memory_layout.specs.Decode.{headWord, blockCell, recordAt, blocksOf, blockHeld, blocksHeld, partialFrom, partialHeld}
+use Rattle.memory_layout.specs.Decode.{partialsHeld, decode, decodeAt}
 use Rattle.memory_layout.specs.Bounds.{InBounds, PlainRecord, Plain}
 use Rattle.memory_layout.proofs.TableLaws.{tabulate-ext}
 use Rattle.memory_layout.proofs.BoundsLaws.{decode-at, blocks-within, place-room}
 use Rattle.memory_partials.specs.Partials.{Edited, Fresh}
-use Rattle.memory_partials.proofs.RecordLaws.{at-live, insert-each, Slot, slot}
-use Rattle.memory_partials.proofs.CountLaws.{Counted, counted-blocks, counted-bounds, counted-plain, counted-is, counted-record, counted-held}
+use Rattle.memory_partials.proofs.RecordLaws.{at-live, insert-each, slot}
+use Rattle.memory_partials.proofs.CountLaws.{Counted, counted-blocks, counted-bounds, counted-plain, counted-is}
+use Rattle.memory_partials.proofs.CountLaws.{counted-record, counted-held}
 use Rattle.memory_partials.proofs.RisingLaws.{held-piece, held-each}
 
 -- ---- the blocks one after another
@@ -58,7 +58,8 @@ module _ (s : Shape) (records : List Record) (words cells words′ cells′ : Li
   live-long : length live ≡ headWord words 7
   live-long = length-take-le (headWord words 7) records (omega arith)
 
-  at-after : (k : ℕ) → k < suc (headWord words 7) → recordAt (inserted (headWord words 7) x records) k ≡ getD (insertRecord x live) k noRecord
+  at-after : (k : ℕ) → k < suc (headWord words 7) → recordAt (inserted (headWord words 7) x records) k
+      ≡ getD (insertRecord x live) k noRecord
   at-after k h =
       at-live (inserted (headWord words 7) x records) (suc (headWord words 7)) k h
       ∙ ap (λ (l : List Record). getD l k noRecord) (inserted-live (headWord words 7) x records fits)

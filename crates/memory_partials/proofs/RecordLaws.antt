@@ -1,10 +1,10 @@
 -- The live records put in, taken out and replaced, place by place and as the model's partials. Assumes nothing.
-use mathlib.Core.Path.{_≡_, refl, sym, ap, ap₂, subst, _∙_}
-use mathlib.Core.Logic.{_≢_, _⊎_, inl, inr}
-use mathlib.Core.Bool.{Bool, true, false, cond, not, _&&_, _||_}
+use mathlib.Core.Path.{_≡_, refl, sym, ap, ap₂, _∙_}
+use mathlib.Core.Logic.{_⊎_, inl, inr}
+use mathlib.Core.Bool.{Bool, true, false, cond, not}
 use mathlib.Core.Option.{some, Option·none-ne-some}
 use mathlib.Core.List.{List, [], _∷_}
-use Prim.Native.Nat.{ℕ, zero, suc, _+_, _-_, _≤_, _<_}
+use Prim.Native.Nat.{ℕ, zero, suc, _≤_, _<_}
 use native.Mathlib.Nat.{le-of-suc-le-suc, not-suc-le-zero}
 use native.Mathlib.Decide.{ℕ-discrete}
 use native.Mathlib.Omega.{arith}
@@ -21,7 +21,6 @@ use Rattle.memory_records.specs.declared.record.DownloadingPiece.{DownloadingPi
 use Rattle.memory_records.specs.Records.{noRecord, risingFrom, hasRecord, insertRecord, withoutRecord, replaceRecord}
 use Rattle.memory_layout.specs.Tables.{tabulate}
 use Rattle.memory_layout.specs.Decode.{recordAt}
-use Rattle.memory_layout.proofs.TableLaws.{tabulate-ext}
 
 -- ---- the live records as a list
 -- record k is the one at place k of the live ones
@@ -111,7 +110,8 @@ slot-first d ds e = record {
   above = λ k h. ap (λ l. getD l (suc k) noRecord) e;
 }
 
-slot-later : (d x : Record) (ds : List Record) (q : ℕ) → insertRecord d (x ∷ ds) ≡ x ∷ insertRecord d ds → Slot d ds q → Slot d (x ∷ ds) (suc q)
+slot-later : (d x : Record) (ds : List Record) (q : ℕ) → insertRecord d (x ∷ ds) ≡ x ∷ insertRecord d ds → Slot d ds q
+    → Slot d (x ∷ ds) (suc q)
 slot-later d x ds q e a = record {
   within = omega (arith, a .within);
   here = ap (λ l. getD l (suc q) noRecord) e ∙ a .here;
@@ -177,7 +177,8 @@ unfolding withoutRecord
 without-among i [] = record { to = λ k. k; within = λ k h. h; same = λ k h. refl; rises = λ k l h. h }
 without-among i (x ∷ xs) = go (not (eqb (x .index) i)) (without-among i xs)
   where
-    go : (t : Bool) → Among (withoutRecord i xs) xs → Among (cond {A = List Record} t (x ∷ withoutRecord i xs) (withoutRecord i xs)) (x ∷ xs)
+    go : (t : Bool) → Among (withoutRecord i xs) xs
+        → Among (cond {A = List Record} t (x ∷ withoutRecord i xs) (withoutRecord i xs)) (x ∷ xs)
     go true again = among-both x (withoutRecord i xs) xs again
     go false again = among-less x (withoutRecord i xs) xs again
 

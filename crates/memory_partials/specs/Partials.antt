@@ -1,6 +1,6 @@
 -- Partials opened, closed and flagged: what becomes of the picker with the records as they will be, the one edit of them made. Assumes
 -- nothing.
-use Prim.Native.Nat.{ℕ, _+_, _*_, _/_, _%_, _≤_, _<_}
+use Prim.Native.Nat.{ℕ, suc, _+_, _-_, _*_, _/_, _%_, _<_}
 use mathlib.Core.Path.{_≡_}
 use mathlib.Core.Logic.{_≢_}
 use mathlib.Core.Bool.{Bool, true}
@@ -49,6 +49,7 @@ pub record Opened (s : Shape) (i live : ℕ) (rows words cells words′ cells′
   pub index : r .index ≡ i
   pub place : r .«info_idx» ≡ lowestFree (s .places) (placesTaken live rows)
   pub flags : r .flags ≡ 0
+  pub count : headWord words′ 7 ≡ suc live
   pub wordsKept : WordsKept s words words′
   pub cellsKept : CellsKept s cells cells′
   pub list : ListKept s words words′
@@ -58,6 +59,7 @@ pub record Opened (s : Shape) (i live : ℕ) (rows words cells words′ cells′
 -- ---- closed
 -- the partial of a piece that has one is gone once its record is taken out
 pub record Closed (s : Shape) (words words′ : List ℕ) : Type 0 where
+  pub count : headWord words′ 7 ≡ headWord words 7 - 1
   pub kept : WordsKept s words words′
   pub list : ListKept s words words′
   pub became : (records : List Record) (cells : List ℕ) → InBounds s records words cells

@@ -13,6 +13,10 @@ use Rattle.memory_layout.specs.Tables.{tabulate}
 unfoldable pub placesTaken : (live : ℕ) (rows : List ℕ) → List ℕ
 placesTaken live rows = tabulate live (λ k. rowAt rows k .«info_idx»)
 
+-- each of them is below a number
+abbrev pub PlacesBelow : (most live : ℕ) (rows : List ℕ) → Type 0
+PlacesBelow most live rows = (k : ℕ) → k < live → rowAt rows k .«info_idx» < most
+
 -- the lowest of so many places that is not taken, or their number
 unfoldable pub lowestFree : (places : ℕ) (taken : List ℕ) → ℕ
 lowestFree places taken = firstFrom (λ p. not (member p taken)) places 0
@@ -21,3 +25,7 @@ lowestFree places taken = firstFrom (λ p. not (member p taken)) places 0
 pub record Marked (taken : List ℕ) (marks : List Bool) : Type 0 where
   pub long : length marks ≡ 512
   pub mark : (p : ℕ) → p < 512 → getD marks p false ≡ member p taken
+
+-- the first of t places from p on without a mark, or the place behind them
+unfoldable pub unmarkedFrom : (marks : List Bool) (t p : ℕ) → ℕ
+unmarkedFrom marks t p = firstFrom (λ q. not (getD marks q false)) t p

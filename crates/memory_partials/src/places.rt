@@ -3,17 +3,17 @@ use memory_layout::Shape;
 use memory_records::row;
 use types::u32_to_usize;
 ghost use mathlib.Core.Path.{_≡_};
+ghost use mathlib.Core.List.{[]};
 ghost use Prim.Native.Nat.{_<_, _≤_};
 ghost use lib.ListN.{length};
-ghost use Rattle.memory_records.specs.Rows.{rowAt};
 ghost use Rattle.memory_layout.specs.Bounds.{Sizes};
-ghost use Rattle.memory_partials.specs.Places.{placesTaken, lowestFree, Unmarked, Marked};
+ghost use Rattle.memory_partials.specs.Places.{placesTaken, PlacesBelow, lowestFree, Marked, unmarkedFrom};
 
 // A mark for each place that one of the first `live` rows has.
 fn mark_places(marks: &mut [bool; 512], rows: &[u32], live: usize)
-    requires { ⌜ Unmarked (now marks) ⌝ }
+    requires { ⌜ Marked [] (now marks) ⌝ }
     requires { ⌜ (live ≤ 512) × (length (now rows) ≡ 1536) ⌝ }
-    requires { ⌜ (k : ℕ) → k < live → rowAt (now rows) k .«info_idx» < 512 ⌝ }
+    requires { ⌜ PlacesBelow 512 live (now rows) ⌝ }
     ensures { λ _. ⌜ Marked (placesTaken live (now (rows .entry))) (now (marks .exit)) ⌝ }
 {
     let mut k = 0;
@@ -25,8 +25,10 @@ fn mark_places(marks: &mut [bool; 512], rows: &[u32], live: usize)
     }
 }
 
-// The lowest place without a mark, or their number.
-fn first_unmarked(marks: &[bool; 512], taken: ghost, places: usize) -> usize
+// The first of so many places without a mark, or their number.
+fn first_unmarked(marks: &[bool; 512], places: usize) -> usize
+    requires { ⌜ (places ≤ 512) × (length (now marks) ≡ 512) ⌝ }
+    ensures { λ r. ⌜ r ≡ unmarkedFrom (now (marks .entry)) places 0 ⌝ }
 {
     let mut p = 0;
     while p < places {
@@ -38,3 +40,14 @@ fn first_unmarked(marks: &[bool; 512], taken: ghost, places: usize) -> usize
     p
 }
 
+// The lowest place that no live row has. There is one where fewer records are live than there are places.
+pub fn free_place(rows: &[u32], live: usize, s: Shape) -> usize
+    requires { ⌜ Sizes s ⌝ }
+    requires { ⌜ (live < s .places) × (length (now rows) ≡ 1536) ⌝ }
+    requires { ⌜ PlacesBelow (s .places) live (now rows) ⌝ }
+    ensures { λ r. ⌜ (r ≡ lowestFree (s .places) (placesTaken live (now (rows .entry)))) × (r < s .places) ⌝ }
+{
+    let mut marks = [false; 512];
+    mark_places(&mut marks, rows, live);
+    first_unmarked(&marks, s.places)
+}

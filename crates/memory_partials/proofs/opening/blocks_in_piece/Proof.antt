@@ -1,0 +1,43 @@
+-- `blocks_in_piece` meets its contract. Assumes nothing.
+use native.Mathlib.Omega.{arith}
+use Rattle.memory_layout.proofs.OffsetLaws.{head-in}
+use Rattle.memory_partials.proofs.FreshLaws.{piece-low, blocks-is}
+use borrow.Author.Needs.{needs}
+use Rattle.memory_partials.proofs.opening.blocks_in_piece.Statement.{statement}
+use Rattle.memory_partials.proofs.opening.blocks_in_piece.Tie as tie
+
+head-word-requires : tie.Need-head-word-requires
+head-word-requires c κs = (head-in _ _ (c .before .pre .0 .0), omega arith)
+
+head-word-requires-2 : tie.Need-head-word-requires-2
+head-word-requires-2 c κs = (head-in _ _ (c .before .before .pre .0 .0), omega arith)
+
+usize-to-u64-requires : tie.Need-usize-to-u64-requires
+usize-to-u64-requires c κs = search needs
+
+blocks-at-requires : tie.Need-blocks-at-requires
+blocks-at-requires c κs =
+    let c4 = c .before .before .before .before in
+    piece-low _ _ (c4 .pre .0 .1) _ _ _ _ (c4 .pre .1) (c .before .before .head-word .ensures) (c .before .head-word2 .ensures)
+    (c .usize-to-u64 .ensures)
+
+u64-to-usize-requires : tie.Need-u64-to-usize-requires
+u64-to-usize-requires c κs = search needs
+
+returns : tie.Need-returns
+returns c =
+    let c2 = c .before .before in
+    let c4 = c2 .before .before in
+    blocks-is _ _ _ _ _ _ _ (c4 .head-word .ensures) (c2 .before .head-word2 .ensures) (c2 .usize-to-u64 .ensures)
+    (c .before .blocks-at .ensures) (c .u64-to-usize .ensures)
+
+pub blocks-in-piece-spec : {M : Type 1} → statement M
+blocks-in-piece-spec =
+    tie.close
+    (tie.spec
+    head-word-requires
+    head-word-requires-2
+    usize-to-u64-requires
+    blocks-at-requires
+    u64-to-usize-requires
+    returns)

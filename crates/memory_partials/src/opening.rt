@@ -1,0 +1,96 @@
+// A partial opened for a piece: the lowest free place, its blocks as those of a piece just opened, one partial more.
+use crate::places::free_place;
+use geometry::blocks_at;
+use geometry::payload_blocks_in_piece;
+use memory_blocks::fresh_block;
+use memory_fields::pad_bytes;
+use memory_layout::Shape;
+use memory_layout::head_word;
+use memory_layout::set_head_word;
+use memory_records::DownloadingPiece;
+use types::PieceIndex;
+use types::u64_to_usize;
+use types::usize_to_u32;
+use types::usize_to_u64;
+ghost use mathlib.Core.Path.{_≡_};
+ghost use Prim.Native.Nat.{_<_, _≤_};
+ghost use lib.ListN.{length};
+ghost use Rattle.model.specs.State.{payloadBlocksInPiece};
+ghost use Rattle.model.specs.change.Partials.{freshBlock};
+ghost use Rattle.memory_records.specs.Rows.{recordsIn};
+ghost use Rattle.memory_layout.specs.Decode.{headWord, blocksOf, stateFrom};
+ghost use Rattle.memory_layout.specs.Bounds.{WordsSpan, CellsSpan, ShapeOf, InBounds};
+ghost use Rattle.memory_fields.specs.Reading.{WordsSay};
+ghost use Rattle.memory_partials.specs.Partials.{Fresh, Opened};
+
+// The number of blocks of piece i.
+pub fn blocks_in_piece(words: &[u64], s: Shape, i: usize) -> usize
+    requires { ⌜ (WordsSpan s (now words)) × (ShapeOf s (now words)) ⌝ }
+    requires { ⌜ i < s .pieces ⌝ }
+    ensures { λ r. ⌜ r ≡ blocksOf (now (words .entry)) i ⌝ }
+{
+    let total = head_word(words, 0);
+    let size = head_word(words, 1);
+    u64_to_usize(blocks_at(total, size, usize_to_u64(i)))
+}
+
+// The number of blocks of piece i that hold more than pad bytes.
+pub fn payload_blocks(words: &[u64], s: Shape, i: usize) -> usize
+    requires { ⌜ (WordsSpan s (now words)) × (ShapeOf s (now words)) ⌝ }
+    requires { ⌜ i < s .pieces ⌝ }
+    ensures { λ r. ⌜ WordsSay s (now (words .entry)) (λ d. payloadBlocksInPiece d i) r ⌝ }
+{
+    let total = head_word(words, 0);
+    let size = head_word(words, 1);
+    let pad = pad_bytes(words, s, i);
+    let piece = PieceIndex::at(i);
+    u64_to_usize(payload_blocks_in_piece(total, size, piece, pad))
+}
+
+// The number of the state of block j of a piece just opened: Finished where it holds pad bytes alone.
+fn fresh_state(payload: usize, j: usize) -> u16
+    ensures { λ r. ⌜ (stateFrom r ≡ freshBlock payload j .state) × (r ≤ 3) ⌝ }
+{
+    if j < payload { 0 } else { 3 }
+}
+
+// The first `many` blocks of place p as those of a piece just opened.
+fn fresh_blocks(cells: &mut [u16], s: Shape, p: usize, many: usize, payload: usize)
+    requires { ⌜ CellsSpan s (now cells) ⌝ }
+    requires { ⌜ (p < s .places) × (many ≤ s .blocks) ⌝ }
+    ensures { λ _. ⌜ Fresh s (now (cells .entry)) (now (cells .exit)) p many payload ⌝ }
+{
+    let mut j = 0;
+    while j < many {
+        let state = fresh_state(payload, j);
+        fresh_block(cells, s, p, j, state);
+        j += 1;
+    }
+}
+
+// The record of a partial for piece i. With it put in, the partial stands; the piece's state is a later store's.
+pub fn add_partial(
+    words: &mut [u64],
+    cells: &mut [u16],
+    rows: &[u32],
+    live: usize,
+    s: Shape,
+    i: usize,
+) -> DownloadingPiece
+    requires { ⌜ InBounds s (recordsIn live (now rows)) (now words) (now cells) ⌝ }
+    requires { ⌜ (live ≡ headWord (now words) 7) × (live < s .places) × (length (now rows) ≡ 1536) ⌝ }
+    requires { ⌜ i < s .pieces ⌝ }
+    ensures { λ r. ⌜ Opened s i live (now (rows .entry)) (now (words .entry)) (now (cells .entry)) (now (words .exit))
+        (now (cells .exit)) r ⌝ }
+{
+    let p = free_place(rows, live, s);
+    let many = blocks_in_piece(words, s, i);
+    let payload = payload_blocks(words, s, i);
+    fresh_blocks(cells, s, p, many, payload);
+    set_head_word(words, 7, usize_to_u64(live + 1));
+    DownloadingPiece {
+        index: usize_to_u32(i),
+        info_idx: usize_to_u32(p),
+        flags: 0,
+    }
+}
