@@ -1,6 +1,6 @@
 // The number of seeds, and the list that depends on whether there is one.
-use crate::counts::lower_all;
-use crate::counts::raise_all;
+use crate::lowering::lower_all;
+use crate::raising::raise_all;
 use memory_fields::mark_dirty;
 use memory_fields::seeds;
 use memory_fields::set_seeds;
@@ -17,10 +17,10 @@ fn mark_dirty_if(words: &mut [u64], s: Shape, test: bool)
     requires { ⌜ WordsSpan s (now words) ⌝ }
     ensures { λ _. ⌜ DirtyWhere s test (now (words .entry)) (now (words .exit)) ⌝ }
 {
-    if test {
-        mark_dirty(words, s);
+    if !test {
         return;
     }
+    mark_dirty(words, s);
 }
 
 // A seed more. A first one gives a bucket to pieces without peers, so the list is dirty.
@@ -44,7 +44,8 @@ pub fn dec_refcount_all(words: &mut [u64], cells: &mut [u16], s: Shape)
         mark_dirty(words, s);
         return;
     }
-    set_seeds(words, s, n - 1);
+    let left = n - 1;
+    set_seeds(words, s, left);
     mark_dirty_if(words, s, n == 1);
 }
 

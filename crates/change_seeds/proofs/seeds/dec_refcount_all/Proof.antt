@@ -30,8 +30,8 @@ returns c =
     peers-went (a .s) (a .words .now) (c2 .mark-dirty .last .0) (a .cells .now) (c6 .lower-all .last .0) (c9 .seeds .result)
     (c9 .seeds .ensures) (c8 .if1 .taken) (c6 .lower-all .ensures) (c2 .mark-dirty .ensures)
 
-sub-set-seeds : tie.Need-sub-set-seeds
-sub-set-seeds c = search needs
+sub-left : tie.Need-sub-left
+sub-left c = search needs
 
 set-seeds-requires : tie.Need-set-seeds-requires
 set-seeds-requires c κs = c .before .before .before .before .before .before .pre .stands .bounds .spans .inWords
@@ -65,7 +65,7 @@ dec-refcount-all-spec =
     same-length
     same-length-2
     returns
-    sub-set-seeds
+    sub-left
     set-seeds-requires
     mark-dirty-if-requires
     same-length-3

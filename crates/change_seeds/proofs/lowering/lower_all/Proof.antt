@@ -4,8 +4,8 @@ use Prim.Native.Nat.{_-_, _≤_}
 use native.Mathlib.Omega.{arith}
 use Rattle.change_seeds.proofs.PassLaws.{Passed, pass-none, pass-next, cell-there, pass-whole, all-lowered}
 use borrow.Author.Needs.{needs}
-use Rattle.change_seeds.proofs.counts.lower_all.Statement.{statement}
-use Rattle.change_seeds.proofs.counts.lower_all.Tie as tie
+use Rattle.change_seeds.proofs.lowering.lower_all.Statement.{statement}
+use Rattle.change_seeds.proofs.lowering.lower_all.Tie as tie
 
 abbrev Inv-loop : tie.InvT-loop
 Inv-loop cells₀ n i₀ cells i = (i ≤ n) × Passed (λ n. n - 1) i cells₀ cells

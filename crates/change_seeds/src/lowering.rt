@@ -1,11 +1,10 @@
-// The peer counts of all pieces, one up or one down. They are the first column of the cells, and each pass goes over it without a branch.
+// A peer less of each piece: one pass without a branch over the peer counts, which are the first column of the cells.
 use memory_layout::Shape;
 ghost use mathlib.Core.Path.{_≡_};
 ghost use Prim.Native.Nat.{_-_};
-ghost use Rattle.model.specs.change.Changes.{incPeerCount, decPeerCount, allPieces};
+ghost use Rattle.model.specs.change.Changes.{decPeerCount, allPieces};
 ghost use Rattle.memory_layout.specs.Bounds.{CellsSpan};
 ghost use Rattle.memory_layout.specs.Stores.{CellsBecame};
-ghost use Rattle.change_seeds.specs.Seeds.{CountsFit};
 
 // A peer less, and none where there was none.
 fn one_less(count: u16) -> u16
@@ -17,21 +16,6 @@ fn one_less(count: u16) -> u16
     0
 }
 
-// A peer more of each piece.
-pub fn raise_all(cells: &mut [u16], s: Shape)
-    requires { ⌜ CellsSpan s (now cells) ⌝ }
-    requires { ⌜ CountsFit s (now cells) ⌝ }
-    ensures { λ _. ⌜ CellsBecame s (allPieces incPeerCount) (now (cells .entry)) (now (cells .exit)) ⌝ }
-{
-    let n = s.pieces;
-    let mut i = 0;
-    while i < n {
-        cells[i] = cells[i] + 1;
-        i += 1;
-    }
-}
-
-// A peer less of each piece.
 pub fn lower_all(cells: &mut [u16], s: Shape)
     requires { ⌜ CellsSpan s (now cells) ⌝ }
     ensures { λ _. ⌜ CellsBecame s (allPieces decPeerCount) (now (cells .entry)) (now (cells .exit)) ⌝ }

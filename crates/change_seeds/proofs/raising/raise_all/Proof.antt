@@ -4,8 +4,8 @@ use Prim.Native.Nat.{suc, _-_, _≤_}
 use native.Mathlib.Omega.{arith}
 use Rattle.change_seeds.proofs.PassLaws.{Passed, pass-none, pass-next, cell-there, cell-fits, pass-whole, all-raised}
 use borrow.Author.Needs.{needs}
-use Rattle.change_seeds.proofs.counts.raise_all.Statement.{statement}
-use Rattle.change_seeds.proofs.counts.raise_all.Tie as tie
+use Rattle.change_seeds.proofs.raising.raise_all.Statement.{statement}
+use Rattle.change_seeds.proofs.raising.raise_all.Tie as tie
 
 abbrev Inv-loop : tie.InvT-loop
 Inv-loop cells₀ n i₀ cells i = (i ≤ n) × Passed suc i cells₀ cells
