@@ -17,14 +17,12 @@ use Rattle.model.proofs.sound.SoundBody.{sound-body, head-in, piece-in}
 use Rattle.memory_records.specs.declared.record.DownloadingPiece.{DownloadingPiece as Record}
 use Rattle.memory_layout.specs.declared.shape.Shape.{Shape}
 use Rattle.memory_layout.specs.Decode.{headWord, piecesOn, pieceCell, pieceHeld, piecesHeld, decode}
-use Rattle.memory_layout.specs.Bounds.{WordsSpan}
-use Rattle.memory_layout.specs.Stores.{WordsKept, CellsBecame}
+use Rattle.memory_layout.specs.Stores.{CellsBecame}
 use Rattle.memory_layout.specs.Standing.{Stands, StandsBeside, ChangeMade}
 use Rattle.memory_layout.proofs.TableLaws.{tabulate-len}
 use Rattle.memory_layout.proofs.Meanings.{peer-count-is}
 use Rattle.memory_layout.proofs.BoundsLaws.{words-none, words-again, both-words, both-cells, both-again}
-use Rattle.memory_layout.proofs.StandingLaws.{ranks-named, both-made, made-named}
-use Rattle.memory_layout.proofs.stores.ListFrames.{ranks-kept}
+use Rattle.memory_layout.proofs.StandingLaws.{ranks-again, both-made, made-named}
 use Rattle.memory_fields.specs.Reading.{HeadSays}
 use Rattle.memory_fields.specs.Storing.{WordsStored, DirtyMarked}
 use Rattle.change_seeds.specs.Seeds.{CountsFit, DirtyWhere}
@@ -46,10 +44,6 @@ module _ (s : Shape) (words cells : List ℕ) (t : StandsBeside s words cells) w
       let l : i < piecesIn d = omega (arith, many, t .stands .bounds .pieces) in
       let q = piece-in d i (pieceAt d i) (sound-body d (wellFormed-sound d (t .stands .sound)) .frame .piece i l) .peers in
       omega (arith, q, peer-count-is s (t .records) words cells (t .stands .bounds) i h)
-
--- the words are as long after a store
-pub span-again : (s : Shape) (words words′ : List ℕ) → WordsSpan s words → WordsKept s words words′ → WordsSpan s words′
-span-again s words words′ r k = record { sizes = r .sizes; long = omega (arith, r .long, k .long) }
 
 -- ---- dirty or not
 -- marked
@@ -83,10 +77,8 @@ module _ (s : Shape) (words words₁ words₂ cells : List ℕ) (n v : ℕ) (tes
       (both-words s (λ d. when test markDirty (withSeeds v d)) words words₂ cells
       (words-again s (withSeeds v) (when test markDirty) words words₁ words₂ (stored .became) (marked .became)))
       (λ records t.
-      marked .ranks (rank (when test markDirty (withSeeds v (decode records words cells)))) (λ e.
-      ranks-named (s .pieces) words₁ (rank (decode records words cells))
-      (rank (when test markDirty (withSeeds v (decode records words cells)))) (same-ranks records e)
-      (ranks-kept s words words₁ (rank (decode records words cells)) (stored .list) (t .bounds .list) (t .ranks))))
+      let after = when test markDirty (withSeeds v (decode records words cells)) in
+      marked .ranks (rank after) (λ e. ranks-again s records words cells words₁ after t (stored .list) (same-ranks records e)))
 
 -- ---- the changes
 module _ (s : Shape) (words words₁ words₂ cells : List ℕ) (n : ℕ) (read : HeadSays words (λ d. d .seeds) n) where

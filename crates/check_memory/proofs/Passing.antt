@@ -21,13 +21,14 @@ use Rattle.memory_records.specs.Rows.{liveRecords, recordsIn}
 use Rattle.memory_layout.specs.declared.shape.Shape.{Shape}
 use Rattle.memory_layout.specs.Tables.{tabulate}
 use Rattle.memory_layout.specs.Offsets.{placesFor, wordsFor, cellsFor}
-use Rattle.memory_layout.specs.Decode.{headWord, pieceWord, rankUnit, listedPiece, pieceCell, blockCell}
+use Rattle.memory_layout.specs.Decode.{headWord, pieceCell, blockCell}
 use Rattle.memory_layout.specs.Decode.{recordAt, piecesOn, blocksOn, blocksOf, yes?, decode}
-use Rattle.memory_layout.specs.Bounds.{ShapeOf, InBounds, PlainPieces, PlainRecord, Plain, RanksHeld}
+use Rattle.memory_layout.specs.Bounds.{ShapeOf, PlainPieces, PlainRecord, RanksHeld}
 use Rattle.memory_layout.specs.Standing.{Stands, Changed}
 use Rattle.memory_layout.specs.Good.{short, headRaw, pieceRaw, piecesRaw, blockRaw, recordRaw, placeRaw, rankRaw, goodHead, goodPieces}
 use Rattle.memory_layout.specs.Good.{goodPlaces, goodPartials, goodExtents, goodList, goodBody, orElse, memoryRefusal}
 use Rattle.memory_layout.proofs.OffsetLaws.{head-in}
+use Rattle.memory_layout.proofs.StandingLaws.{changed-stands}
 use Rattle.check_partials.proofs.BelowLaws.{every-all}
 use Rattle.check_memory.proofs.Standing.{well-formed-picker, in-bounds, plain, ranks-held}
 
@@ -174,5 +175,4 @@ pub changed-passes : (s : Shape) (lent : ℕ) (after : Picker) (words cells : Li
     → s .places ≤ lent → wellFormed after ≡ true → Changed s after words cells records′ words′ cells′
     → memoryRefusal lent records′ words′ cells′ ≡ none
 changed-passes s lent after words cells records′ words′ cells′ h v c =
-    stands-passes s records′ words′ cells′
-    (record { bounds = c .bounds; plain = c .plain; ranks = c .ranks; sound = ap wellFormed (c .is) ∙ v }) lent h
+    stands-passes s records′ words′ cells′ (changed-stands s after words cells records′ words′ cells′ v c) lent h

@@ -1,6 +1,7 @@
 -- `break_one_seed` meets its contract. Assumes nothing.
 use native.Mathlib.Omega.{arith}
-use Rattle.change_seeds.proofs.SeedLaws.{counts-fit, span-again, seed-broken}
+use Rattle.memory_layout.proofs.StandingLaws.{words-span-kept}
+use Rattle.change_seeds.proofs.SeedLaws.{counts-fit, seed-broken}
 use borrow.Author.Needs.{needs}
 use Rattle.change_seeds.proofs.seeds.break_one_seed.Statement.{statement}
 use Rattle.change_seeds.proofs.seeds.break_one_seed.Tie as tie
@@ -25,7 +26,7 @@ raise-all-requires c κs =
 mark-dirty-requires : tie.Need-mark-dirty-requires
 mark-dirty-requires c κs =
     let c13 = c .before .before .before .before .before .before .before .before .before .before .before .before .before in
-    span-again (c13 .args .s) (c13 .args .words .now) _ (c13 .pre .0 .stands .bounds .spans .inWords)
+    words-span-kept (c13 .args .s) (c13 .args .words .now) _ (c13 .pre .0 .stands .bounds .spans .inWords)
     (c .before .before .before .before .before .before .before .set-seeds .ensures .became .kept)
 
 same-length : tie.Need-same-length

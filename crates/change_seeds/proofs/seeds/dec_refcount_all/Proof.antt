@@ -1,6 +1,7 @@
 -- `dec_refcount_all` meets its contract. Assumes nothing.
 use native.Mathlib.Omega.{arith}
-use Rattle.change_seeds.proofs.SeedLaws.{span-again, peers-went, seed-went}
+use Rattle.memory_layout.proofs.StandingLaws.{words-span-kept}
+use Rattle.change_seeds.proofs.SeedLaws.{peers-went, seed-went}
 use borrow.Author.Needs.{needs}
 use Rattle.change_seeds.proofs.seeds.dec_refcount_all.Statement.{statement}
 use Rattle.change_seeds.proofs.seeds.dec_refcount_all.Tie as tie
@@ -39,7 +40,7 @@ set-seeds-requires c κs = c .before .before .before .before .before .before .pr
 mark-dirty-if-requires : tie.Need-mark-dirty-if-requires
 mark-dirty-if-requires c κs =
     let c10 = c .before .before .before .before .before .before .before .before .before .before in
-    span-again (c10 .args .s) (c10 .args .words .now) _ (c10 .pre .stands .bounds .spans .inWords)
+    words-span-kept (c10 .args .s) (c10 .args .words .now) _ (c10 .pre .stands .bounds .spans .inWords)
     (c .before .before .before .set-seeds .ensures .became .kept)
 
 same-length-3 : tie.Need-same-length-3

@@ -1,6 +1,7 @@
 -- `inc_refcount_all` meets its contract. Assumes nothing.
 use native.Mathlib.Omega.{arith}
-use Rattle.change_seeds.proofs.SeedLaws.{seeds-few, span-again, seed-came}
+use Rattle.memory_layout.proofs.StandingLaws.{words-span-kept}
+use Rattle.change_seeds.proofs.SeedLaws.{seeds-few, seed-came}
 use borrow.Author.Needs.{needs}
 use Rattle.change_seeds.proofs.seeds.inc_refcount_all.Statement.{statement}
 use Rattle.change_seeds.proofs.seeds.inc_refcount_all.Tie as tie
@@ -20,7 +21,7 @@ set-seeds-requires c κs = c .before .before .before .before .before .pre .stand
 mark-dirty-if-requires : tie.Need-mark-dirty-if-requires
 mark-dirty-if-requires c κs =
     let c9 = c .before .before .before .before .before .before .before .before .before in
-    span-again (c9 .args .s) (c9 .args .words .now) _ (c9 .pre .stands .bounds .spans .inWords)
+    words-span-kept (c9 .args .s) (c9 .args .words .now) _ (c9 .pre .stands .bounds .spans .inWords)
     (c .before .before .before .set-seeds .ensures .became .kept)
 
 same-length : tie.Need-same-length
