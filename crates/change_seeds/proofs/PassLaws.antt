@@ -1,6 +1,6 @@
 -- A pass over the column of peer counts: what it makes of the picker. Assumes nothing.
 use mathlib.Core.Path.{_≡_, refl, sym, ap, subst, _∙_}
-use mathlib.Core.List.{List, [], _∷_}
+use mathlib.Core.List.{List, _∷_}
 use Prim.Native.Nat.{ℕ, zero, suc, _+_, _*_, _-_, _≤_, _<_}
 use native.Mathlib.Omega.{arith}
 use native.Mathlib.Decide.{ℕ-discrete}
@@ -95,7 +95,8 @@ module _ (g : ℕ → ℕ) (s : Shape) (cells cells′ : List ℕ) (r : CellsSpa
   blocks-are f q j h l m =
       p .rest (blockCellAt (s .pieces) (s .blocks) f q j) (omega (arith, block-cell-from (s .pieces) (s .blocks) f q j))
 
-  piece-is : (words : List ℕ) (i : ℕ) → i < s .pieces → pieceHeld words cells′ (s .pieces) i ≡ counted g (pieceHeld words cells (s .pieces) i)
+  piece-is : (words : List ℕ) (i : ℕ) → i < s .pieces
+      → pieceHeld words cells′ (s .pieces) i ≡ counted g (pieceHeld words cells (s .pieces) i)
   unfolding pieceHeld withPeerCount
   piece-is words i h = λ k. record {
     peerCount = count-is i h k;

@@ -8,7 +8,7 @@ use native.Mathlib.Omega.{arith}
 use lib.Dec.{eqb}
 use borrow.Author.Tests.{eqb-false, ne-eqb}
 use Rattle.model.specs.Lists.{when}
-use Rattle.model.specs.State.{Picker, maxPeers, pieceAt, piecesIn, withSeeds, markDirty}
+use Rattle.model.specs.State.{maxPeers, pieceAt, piecesIn, withSeeds, markDirty}
 use Rattle.model.specs.list.Order.{rank}
 use Rattle.model.specs.change.Changes.{incPeerCount, decPeerCount, allPieces, breakOneSeed, incRefcountAll, decRefcountAll}
 use Rattle.model.proofs.list.RankLaws.{rank-seeds}
@@ -16,9 +16,9 @@ use Rattle.model.proofs.sound.SoundLaws.{wellFormed-sound}
 use Rattle.model.proofs.sound.SoundBody.{sound-body, head-in, piece-in}
 use Rattle.memory_records.specs.declared.record.DownloadingPiece.{DownloadingPiece as Record}
 use Rattle.memory_layout.specs.declared.shape.Shape.{Shape}
-use Rattle.memory_layout.specs.Decode.{headWord, piecesOn, pieceCell, pieceHeld, piecesHeld, decode}
+use Rattle.memory_layout.specs.Decode.{headWord, piecesOn, pieceHeld, piecesHeld, decode}
 use Rattle.memory_layout.specs.Stores.{CellsBecame}
-use Rattle.memory_layout.specs.Standing.{Stands, StandsBeside, ChangeMade}
+use Rattle.memory_layout.specs.Standing.{StandsBeside, ChangeMade}
 use Rattle.memory_layout.proofs.TableLaws.{tabulate-len}
 use Rattle.memory_layout.proofs.Meanings.{peer-count-is}
 use Rattle.memory_layout.proofs.BoundsLaws.{words-none, words-again, both-words, both-cells, both-again}

@@ -81,7 +81,8 @@ module _ (s : Shape) (change : Picker → Picker) where
   module _ (words words′ cells cells′ : List ℕ) where
     -- whichever records stand beside the buffers
     pub both-made : BothBecame s change words words′ cells cells′
-        → ((records : List Record) → Stands s records words cells → RanksHeld (s .pieces) words′ (rank (change (decode records words cells))))
+        → ((records : List Record) → Stands s records words cells
+        → RanksHeld (s .pieces) words′ (rank (change (decode records words cells))))
         → ChangeMade s change words words′ cells cells′
     both-made b r = record {
       made = λ records t.
@@ -90,7 +91,8 @@ module _ (s : Shape) (change : Picker → Picker) where
 
     -- another name for the change
     pub made-named : (other : Picker → Picker)
-        → ((records : List Record) → Stands s records words cells → change (decode records words cells) ≡ other (decode records words cells))
+        → ((records : List Record) → Stands s records words cells
+        → change (decode records words cells) ≡ other (decode records words cells))
         → ChangeMade s change words words′ cells cells′ → ChangeMade s other words words′ cells cells′
     made-named other e m = record {
       made = λ records t.

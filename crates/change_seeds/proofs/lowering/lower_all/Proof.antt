@@ -1,5 +1,4 @@
 -- `lower_all` meets its contract. In the loop the first i counts are lowered. Assumes nothing.
-use mathlib.Core.Path.{refl}
 use Prim.Native.Nat.{_-_, _≤_}
 use native.Mathlib.Omega.{arith}
 use Rattle.change_seeds.proofs.PassLaws.{Passed, pass-none, pass-next, cell-there, pass-whole, all-lowered}

@@ -1,5 +1,4 @@
 -- `raise_all` meets its contract. In the loop the first i counts are raised. Assumes nothing.
-use mathlib.Core.Path.{refl}
 use Prim.Native.Nat.{suc, _-_, _≤_}
 use native.Mathlib.Omega.{arith}
 use Rattle.change_seeds.proofs.PassLaws.{Passed, pass-none, pass-next, cell-there, cell-fits, pass-whole, all-raised}
@@ -60,7 +59,8 @@ returns : tie.Need-returns Inv-loop μ-loop
 returns c =
     let a = c .before .before .args in
     let o = c .before .loop in
-    all-raised (a .s) (a .cells .now) (o .cells) (c .before .before .pre .0) (pass-whole suc (a .cells .now) (o .cells) (o .i) (a .s .pieces) (omega arith) (o .inv .1))
+    all-raised (a .s) (a .cells .now) (o .cells) (c .before .before .pre .0)
+    (pass-whole suc (a .cells .now) (o .cells) (o .i) (a .s .pieces) (omega arith) (o .inv .1))
 
 pub raise-all-spec : {M : Type 1} → statement M
 raise-all-spec =

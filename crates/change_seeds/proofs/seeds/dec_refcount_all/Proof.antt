@@ -1,5 +1,4 @@
 -- `dec_refcount_all` meets its contract. Assumes nothing.
-use native.Mathlib.Omega.{arith}
 use Rattle.memory_layout.proofs.StandingLaws.{words-span-kept}
 use Rattle.change_seeds.proofs.SeedLaws.{peers-went, seed-went}
 use borrow.Author.Needs.{needs}
@@ -13,7 +12,9 @@ lower-all-requires : tie.Need-lower-all-requires
 lower-all-requires c κs = c .before .before .before .before .before .before .pre .stands .bounds .spans .inCells
 
 mark-dirty-requires : tie.Need-mark-dirty-requires
-mark-dirty-requires c κs = c .before .before .before .before .before .before .before .before .before .before .pre .stands .bounds .spans .inWords
+mark-dirty-requires c κs =
+    let c6 = c .before .before .before .before .before .before in
+    c6 .before .before .before .before .pre .stands .bounds .spans .inWords
 
 same-length : tie.Need-same-length
 same-length c = search needs
