@@ -152,16 +152,31 @@ module _ (n : ℕ) (ds : List Record) (rises : risingFrom 0 (take n ds) ≡ true
   edited-front (Insert d) h = (suc n, inserted-live n d ds h)
   edited-front (Remove piece) h = removed-front piece h
 
+  module _ (s : Shape) (edit : Edit) (fits : EditFits n edit ds) (words cells : List ℕ)
+      (few : headWord words 7 ≤ length (editRecords edit (take n ds))) where
+    -- record by record, as far as they are live
+    pub edited-at : (k : ℕ) → k < headWord words 7 → recordAt (edited n edit ds) k ≡ recordAt (editRecords edit (take n ds)) k
+    edited-at k h =
+        let f = edited-front edit fits in
+        front-at (f .0) (edited n edit ds) (editRecords edit (take n ds)) (f .1) k (omega arith)
+
+    -- as many are lent
+    pub edited-long : headWord words 7 ≤ length (edited n edit ds)
+    edited-long =
+        let f = edited-front edit fits in
+        omega (arith, few, front-long (f .0) (edited n edit ds) (editRecords edit (take n ds)) (f .1))
+
+    -- the same picker
+    pub decode-edited : decode (edited n edit ds) words cells ≡ decode (editRecords edit (take n ds)) words cells
+    decode-edited = decode-live s (editRecords edit (take n ds)) (edited n edit ds) words cells edited-at
+
   -- a change with an edit of the live records is one with that edit of all lent ones
   pub changed-edited : (s : Shape) (edit : Edit) → EditFits n edit ds → (after : Picker) (words cells words′ cells′ : List ℕ)
       → Changed s after words cells (editRecords edit (take n ds)) words′ cells′
       → Changed s after words cells (edited n edit ds) words′ cells′
   changed-edited s edit h after words cells words′ cells′ c =
-      let f = edited-front edit h in
-      let l = c .bounds .live in
       changed-live s (editRecords edit (take n ds)) (edited n edit ds) words′ cells′
-      (λ k b. front-at (f .0) (edited n edit ds) (editRecords edit (take n ds)) (f .1) k (omega arith)) after words cells
-      (omega (arith, front-long (f .0) (edited n edit ds) (editRecords edit (take n ds)) (f .1))) c
+      (edited-at s edit h words′ cells′ (c .bounds .live)) after words cells (edited-long s edit h words′ cells′ (c .bounds .live)) c
 
 -- ---- the live ones alone
 -- the partials rise as the records do

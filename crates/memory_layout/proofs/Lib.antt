@@ -7,8 +7,8 @@ pub mod Same
 pub mod Parts
 pub mod BoundsLaws
 pub mod EditedRecords
-pub mod StandingLaws
 pub mod Meanings
 pub mod ReadLaws
 pub mod stores
+pub mod StandingLaws
 pub mod Cases
