@@ -1,12 +1,12 @@
 -- The cursors' changes in the words, by how the numbers that were read compare. Assumes nothing.
 use mathlib.Core.Path.{_≡_, sym, ap, ap₂, _∙_}
 use mathlib.Core.Logic.{_≢_}
-use mathlib.Core.Bool.{Bool, true, false, _&&_}
+use mathlib.Core.Bool.{true, false, _&&_}
 use mathlib.Core.List.{List}
 use Prim.Native.Nat.{ℕ, suc, _+_}
 use native.Mathlib.Omega.{arith}
 use lib.Dec.{eqb}
-use Rattle.model.specs.State.{Picker, withCursors, piecesIn}
+use Rattle.model.specs.State.{Picker, withCursors}
 use Rattle.model.specs.change.Changes.{cursorFrom, reverseFrom, emptyRange, advanceCursors, cursorsOnFilter}
 use Rattle.memory_records.specs.declared.record.DownloadingPiece.{DownloadingPiece as Record}
 use Rattle.memory_layout.specs.declared.shape.Shape.{Shape}

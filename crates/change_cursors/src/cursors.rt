@@ -7,7 +7,6 @@ use memory_fields::set_cursor;
 use memory_fields::set_reverse_cursor;
 use memory_layout::Shape;
 use types::usize_to_u64;
-ghost use mathlib.Core.Path.{_≡_};
 ghost use Prim.Native.Nat.{_<_};
 ghost use Rattle.model.specs.change.Changes.{emptyRange, advanceCursors, cursorsOnFilter};
 ghost use Rattle.memory_layout.specs.Bounds.{WordsSpan, Spans};

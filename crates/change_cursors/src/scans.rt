@@ -2,7 +2,6 @@
 use memory_fields::flushed;
 use memory_fields::priority;
 use memory_layout::Shape;
-ghost use mathlib.Core.Path.{_≡_};
 ghost use Prim.Native.Nat.{_<_, _≤_};
 ghost use Rattle.model.specs.State.{pieceAt};
 ghost use Rattle.model.specs.change.Changes.{flushedOrFiltered, cursorFrom, reverseFrom};
