@@ -69,22 +69,6 @@ pub record Standing (records : List Record) (words : List ℕ) (i p k : ℕ) : T
   pub index : recordAt records k .index ≡ i
   pub place : recordAt records k .«info_idx» ≡ p
 
-<<<<<<< HEAD
--- the record just put in is one, where one partial more is counted
-pub opened-standing : (s : Shape) (records : List Record) (words cells words′ : List ℕ) (x : Record) → InBounds s records words cells
-    → headWord words 7 < length records → headWord words′ 7 ≡ suc (headWord words 7)
-    → (k : ℕ) × Standing (inserted (headWord words 7) x records) words′ (x .index) (x .«info_idx») k
-opened-standing s records words cells words′ x r fits e = (
-  slot x (take (headWord words 7) records) .0,
-  record {
-    low = omega (arith, e, opened-low s records words cells words cells x r fits);
-    index = ap (λ (y : Record). y .index) (opened-here s records words cells words cells x r fits);
-    place = ap (λ (y : Record). y .«info_idx») (opened-here s records words cells words cells x r fits);
-  },
-)
-
-=======
->>>>>>> mpart
 module _ (s : Shape) (records : List Record) (words cells : List ℕ) (i p k : ℕ) (t : Standing records words i p k)
     (r : InBounds s records words cells) (rising : partialsFrom 0 (decode records words cells .partials) ≡ true) where
   -- its partial is the one of the piece

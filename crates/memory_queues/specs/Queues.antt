@@ -65,6 +65,6 @@ pub record Filled (s : Shape) (live : ℕ) (rows cells : List ℕ) (queues : Lis
       → each (partialIn (pickerIn live rows words cells)) (front (nth 0 sizes q) (nth [] queues q))
       ≡ inQueue (queueFrom q) (pickerIn live rows words cells)
   pub rising : (words : List ℕ) → LiveRows s live rows words cells → wellFormed (pickerIn live rows words cells) ≡ true
-      → (q i j : ℕ) → q < 4 → i < j → j < nth 0 sizes q
-      → partialIn (pickerIn live rows words cells) (nth 0 (nth [] queues q) i) .piece
-      < partialIn (pickerIn live rows words cells) (nth 0 (nth [] queues q) j) .piece
+      → (q k l : ℕ) → q < 4 → k < l → l < nth 0 sizes q
+      → partialIn (pickerIn live rows words cells) (nth 0 (nth [] queues q) k) .piece
+      < partialIn (pickerIn live rows words cells) (nth 0 (nth [] queues q) l) .piece

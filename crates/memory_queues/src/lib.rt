@@ -63,10 +63,10 @@ pub fn download_queues(
     }
 }
 
-// Place j of row q.
-pub fn place_at(queues: &[[u16; 512]; 4], q: usize, j: usize) -> usize
-    requires { ⌜ (q < 4) × (j < 512) ⌝ }
-    ensures { λ r. ⌜ r ≡ nth 0 (nth [] (now (queues .entry)) q) j ⌝ }
+// Place k of row q.
+pub fn place_at(queues: &[[u16; 512]; 4], q: usize, k: usize) -> usize
+    requires { ⌜ (q < 4) × (k < 512) ⌝ }
+    ensures { λ r. ⌜ r ≡ nth 0 (nth [] (now (queues .entry)) q) k ⌝ }
 {
-    u16_to_usize(queues[q][j])
+    u16_to_usize(queues[q][k])
 }
