@@ -64,7 +64,7 @@ module _ (rs : List Record) (n many : ℕ) (h : every (placeRaw rs n) (from 0 ma
 
 -- ---- the whole test
 -- its parts
-pub record Stands (lent : ℕ) (rs : List Record) (words cells : List ℕ) : Type 0 where
+pub record Passes (lent : ℕ) (rs : List Record) (words cells : List ℕ) : Type 0 where
   pub there : 16 ≤ length words
   pub geometry : validGeometry (headWord words 0) (headWord words 1) ≡ true
   pub long : short lent words cells ≡ false
@@ -81,9 +81,9 @@ unfolding orElse
 or-none true r next h = absurd (Option·none-ne-some r (sym h))
 or-none false r next h = (refl, h)
 
-pub stands : (lent : ℕ) (rs : List Record) (words cells : List ℕ) → memoryRefusal lent rs words cells ≡ none → Stands lent rs words cells
+pub parts-pass : (lent : ℕ) (rs : List Record) (words cells : List ℕ) → memoryRefusal lent rs words cells ≡ none → Passes lent rs words cells
 unfolding memoryRefusal goodBody
-stands lent rs words cells h =
+parts-pass lent rs words cells h =
     let a = or-none (ltb (length words) 16) ShortMemory _ h in
     let b = or-none (not (validGeometry (headWord words 0) (headWord words 1))) IllFormedMemory _ (a .1) in
     let c = or-none (short lent words cells) ShortMemory _ (b .1) in
@@ -114,7 +114,7 @@ pub well-formed-picker : (lent : ℕ) (rs : List Record) (words cells : List ℕ
     → wellFormed (decode rs words cells) ≡ true
 unfolding wellFormed goodHead goodPieces goodPartials goodExtents goodList
 well-formed-picker lent rs words cells h =
-    let v = stands lent rs words cells h in
+    let v = parts-pass lent rs words cells h in
     let s = decode rs words cells in
     let a = and-right (headRaw words) (headOk s) (v .head) in
     let b = eq-eqb (piecesIn s) (numPieces (s .totalSize) (s .pieceSize)) (unfold piecesOn in pieces-in rs words cells) in
@@ -134,7 +134,7 @@ module _ (s : Shape) (lent : ℕ) (rows words cells : List ℕ) (g : ShapeOf s w
   pub in-bounds : InBounds s (recordsIn (liveRecords words) rows) words cells
   unfolding goodPlaces yes? rs
   in-bounds =
-      let v = stands lent rs words cells h in
+      let v = parts-pass lent rs words cells h in
       let a = head-any rs words cells (v .head) in
       let p = passed s lent words cells g (v .there) (v .geometry) (v .long) a in
       let w = headed s words p in
@@ -195,7 +195,7 @@ plain-record words cells n b r h =
 pub plain : (s : Shape) (lent : ℕ) (rs : List Record) (words cells : List ℕ) → ShapeOf s words → memoryRefusal lent rs words cells ≡ none
     → Plain s rs words cells
 plain s lent rs words cells g h =
-    let v = stands lent rs words cells h in
+    let v = parts-pass lent rs words cells h in
     let a = head-any rs words cells (v .head) in
     let w = headed s words (passed s lent words cells g (v .there) (v .geometry) (v .long) a) in
     record {
@@ -210,7 +210,7 @@ pub ranks-held : (lent : ℕ) (rs : List Record) (words cells : List ℕ) → me
     → RanksHeld (piecesOn words) words (rank (decode rs words cells))
 unfolding goodList rankRaw
 ranks-held lent rs words cells h k l =
-    let v = stands lent rs words cells h in
+    let v = parts-pass lent rs words cells h in
     let t = rankRaw words (piecesOn words) (rank (decode rs words cells)) in
     let a = both-true (every t (from 0 (headWord words 6))) (listingOk (decode rs words cells) (decode rs words cells .listing))
     (v .list) in

@@ -16,8 +16,9 @@ use Rattle.model.proofs.sound.SoundLaws.{wellFormed-sound}
 use Rattle.memory_records.specs.declared.record.DownloadingPiece.{DownloadingPiece as Record}
 use Rattle.memory_records.specs.declared.edits.Edit.{Edit}
 use Rattle.memory_records.specs.declared.edits.Edit.the-variants.{Keep, Replace, Insert, Remove}
-use Rattle.memory_records.specs.Records.{noRecord, EditFits, edited, risingFrom, hasRecord, withoutRecord}
-use Rattle.memory_records.proofs.laws.EditLaws.{inserted-live, removed-live, removed-absent, replaced-live}
+use Rattle.memory_records.specs.Records.{noRecord, EditFits, inserted, removed, replaced, edited, risingFrom, hasRecord, withoutRecord}
+use Rattle.memory_records.proofs.laws.EditLaws.{length-inserted, length-removed, length-replaced, inserted-live, removed-live, removed-absent}
+use Rattle.memory_records.proofs.laws.EditLaws.{replaced-live}
 use Rattle.memory_layout.specs.declared.shape.Shape.{Shape}
 use Rattle.memory_layout.specs.Tables.{tabulate}
 use Rattle.memory_layout.specs.Decode.{headWord, recordAt, piecesOn, blocksOn, partialFrom, partialHeld, partialsHeld, decode}
@@ -151,6 +152,26 @@ module _ (n : ℕ) (ds : List Record) (rises : risingFrom 0 (take n ds) ≡ true
   edited-front (Replace d) h = (n, replaced-live n d ds h rises)
   edited-front (Insert d) h = (suc n, inserted-live n d ds h)
   edited-front (Remove piece) h = removed-front piece h
+
+  -- how many are live after an insert
+  pub insert-number : (d : Record) → n < length ds → length (editRecords (Insert d) (take n ds)) ≡ suc n
+  unfolding editRecords
+  insert-number d h =
+      ap length (sym (inserted-live n d ds h)) ∙ length-take-le (suc n) (inserted n d ds) (omega (arith, length-inserted n d ds))
+
+  -- after a replacement
+  pub replace-number : (d : Record) → n ≤ length ds → length (editRecords (Replace d) (take n ds)) ≡ n
+  unfolding editRecords
+  replace-number d h =
+      ap length (sym (replaced-live n d ds h rises)) ∙ length-take-le n (replaced n d ds) (omega (arith, length-replaced n d ds))
+
+  -- after a removal
+  pub remove-number : (piece : ℕ) → n ≤ length ds → hasRecord piece (take n ds) ≡ true
+      → length (editRecords (Remove piece) (take n ds)) ≡ n - 1
+  unfolding editRecords
+  remove-number piece h e =
+      ap length (sym (removed-live n piece ds h rises e))
+      ∙ length-take-le (n - 1) (removed n piece ds) (omega (arith, length-removed n piece ds))
 
   module _ (s : Shape) (edit : Edit) (fits : EditFits n edit ds) (words cells : List ℕ)
       (few : headWord words 7 ≤ length (editRecords edit (take n ds))) where
