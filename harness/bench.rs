@@ -14,7 +14,7 @@ use records::{unpack, ROWS};
 use std::hint::black_box;
 use std::time::Instant;
 
-#[link(name = "link_check", kind = "static")]
+#[link(name = "link_memory", kind = "static")]
 extern "C" {
     fn pm_check(
         words: *const u64,

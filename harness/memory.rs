@@ -9,7 +9,7 @@ use std::io::BufRead;
 use std::process::exit;
 use std::str::FromStr;
 
-#[link(name = "link_check", kind = "static")]
+#[link(name = "link_memory", kind = "static")]
 extern "C" {
     fn pm_check(
         words: *const u64,

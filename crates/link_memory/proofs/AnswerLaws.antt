@@ -6,7 +6,7 @@ use native.Mathlib.Omega.{arith}
 use Rattle.check_memory.specs.declared.verdict.Verdict.{Verdict}
 use Rattle.check_memory.specs.declared.verdict.Verdict.the-variants.{Good, Short, IllFormed}
 use Rattle.check_memory.specs.Verdicts.{refusalOf, Checked}
-use Rattle.link_check.specs.Answers.{refusalAs, verdictAs, Answered}
+use Rattle.link_memory.specs.Answers.{refusalAs, verdictAs, Answered}
 
 number-is : (v : Verdict) → verdictAs v ≡ refusalAs (refusalOf v)
 unfolding refusalOf

@@ -1,8 +1,8 @@
 -- `pm_check` meets its contract: the answer is the number of the test's verdict. Assumes nothing.
 use borrow.Author.Needs.{needs}
-use Rattle.link_check.proofs.AnswerLaws.{answered}
-use Rattle.link_check.proofs.pm_check.Statement.{statement}
-use Rattle.link_check.proofs.pm_check.Tie as tie
+use Rattle.link_memory.proofs.AnswerLaws.{answered}
+use Rattle.link_memory.proofs.pm_check.Statement.{statement}
+use Rattle.link_memory.proofs.pm_check.Tie as tie
 
 check-memory-requires : tie.Need-check-memory-requires
 check-memory-requires c κs = search needs
