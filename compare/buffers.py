@@ -1,5 +1,5 @@
-"""A picker in three lent buffers, by the layout of crates/memory_layout/specs/Offsets.antt: words, cells, and records of partials, three numbers
-to a record. What stands there is judged by the reader of images: the numbers are written as an image, as far as one can hold them."""
+"""A picker in three lent buffers, by the layout of crates/memory_layout/specs/Offsets.antt: words, cells, and records of partials, three
+numbers to a record. What stands there is judged by the reader of images: the numbers are written as an image, as far as one can hold them."""
 from reference.bucket import bucket_at
 from reference.geometry import HEAD_WORDS, blocks_of, length_of_piece, pieces_of, valid_geometry
 from reference.image import BLOCK, EXTENT, HEAD, PARTIAL, PIECE, PLACE, Fault, read, record
@@ -65,7 +65,7 @@ def anything(rng, width, many):
 
 
 def laid_out(rng, s):
-    """The buffers, longer than they have to be by a place's blocks and one. What is not read, and which partial has which place, is random."""
+    """The buffers, longer than they have to be by a place's blocks and one. Random: what is not read, and which partial has which place."""
     shape = Shape(s.total, s.size)
     words, cells, lent = (need + 1 for need in shape.needs)
     words, cells, records = (anything(rng, *x) for x in ((64, words + shape.b), (16, cells + shape.b), (32, 3 * lent)))

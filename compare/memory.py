@@ -1,16 +1,16 @@
 """`python3 -m compare.memory COUNT SEED`: memories in three buffers, whole and damaged, each with the reference's verdict.
 
-COUNT small pickers have each of their numbers set to 0, 1, its limit, the limit + 1 and its largest number, one at a time, and then two at a
-time; each buffer of some of them is lent at every length up to its need + 1. A few pickers of many pieces, blocks and partials
-follow. Lines, their numbers parted by spaces; `end` is the last one:
+COUNT small pickers have each of their numbers set to 0, 1, its limit, the limit + 1 and its largest number, one at a time, and then two
+at a time; each buffer of some of them is lent at every length up to its need + 1. Other small ones, whole and damaged, and a few of many
+pieces, blocks and partials follow. Lines, their numbers parted by spaces; `end` is the last one:
 
     words WORDS..
     cells CELLS..
     partials INDEX INFO_IDX FLAGS ..
     try VERDICT WORDS CELLS PARTIALS EDITS.. [: COUNTS..]
 
-A `try` is about the buffers above it, cut to so many words, cells and records, with edits such as `c5=7`: cell 5 is 7. Records are counted three
-numbers to a record there. COUNTS are those of a good one: requested, writing and finished of each partial."""
+A `try` is about the buffers above it, cut to so many words, cells and records, with edits such as `c5=7`: cell 5 is 7; `p5` is the last
+number of the second record. COUNTS are those of a good one: requested, writing and finished of each partial."""
 import argparse
 import random
 import sys
@@ -222,7 +222,15 @@ def many_ones(rng, count):
 
 
 # pieces, blocks, partials, pairs of edits
-LARGE = ((513, 1, 512, 12), (700, 2, 512, 12), (1024, 16, 8, 12), (4096, 1, 512, 12), (4096, 16, 64, 12), (4096, 256, 8, 8), (4096, 256, 64, 2))
+LARGE = (
+    (513, 1, 512, 12),
+    (700, 2, 512, 12),
+    (1024, 16, 8, 12),
+    (4096, 1, 512, 12),
+    (4096, 16, 64, 12),
+    (4096, 256, 8, 8),
+    (4096, 256, 64, 2),
+)
 
 
 def large_ones(rng):

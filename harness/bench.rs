@@ -33,9 +33,9 @@ extern "C" {
 fn proved(mem: &Buffers) -> u8 {
     let (mut rows, mut counts) = ([0; ROWS], [0; ROWS]);
     unpack(&mem.words, &mem.partials, &mut rows);
-    let (words, cells) = (&mem.words[..], &mem.cells[..]);
+    let (words, cells, lent) = (&mem.words[..], &mem.cells[..], mem.partials.len());
     let found = unsafe {
-        pm_check(words.as_ptr(), words.len(), cells.as_ptr(), cells.len(), rows.as_ptr(), ROWS, mem.partials.len(), counts.as_mut_ptr(), ROWS)
+        pm_check(words.as_ptr(), words.len(), cells.as_ptr(), cells.len(), rows.as_ptr(), ROWS, lent, counts.as_mut_ptr(), ROWS)
     };
     black_box(&counts);
     found
@@ -93,13 +93,13 @@ fn times<const K: usize>(mut jobs: [&mut dyn FnMut(); K]) -> [f64; K] {
 /// A line of the table.
 fn compare(n: usize, b: usize, partials: usize) {
     let mem = buffers(n, b, partials);
-    let (mut counts, mut ranks) = ([[0; 3]; 512], [0; 4096]);
-    assert!(proved(&mem) == 0 && by_hand(&mem, &mut counts) && parts_alone(&mem, &mut ranks));
+    let (mut counts, mut others, mut ranks) = ([[0; 3]; 512], [[0; 3]; 512], [0; 4096]);
+    assert!(proved(&mem) == 0 && by_hand(&mem, &mut counts) && parts_alone(&mem, &mut ranks, &mut others));
     let [test, hand, bare, parts] = times([
         &mut || { black_box(proved(black_box(&mem))); },
         &mut || { black_box(by_hand(black_box(&mem), &mut counts)); },
         &mut || { black_box(bare_pass(black_box(&mem))); },
-        &mut || { black_box(parts_alone(black_box(&mem), &mut ranks)); },
+        &mut || { black_box(parts_alone(black_box(&mem), &mut ranks, &mut others)); },
     ]);
     println!("{n:6} {b:3} {partials:8} {test:13.2} {:12.2} {:16.2} {:13.2}", test / hand, test / bare, parts / bare);
 }

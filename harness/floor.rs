@@ -29,28 +29,30 @@ fn list_alone(mem: &Buffers, s: &Shape, ranks: &mut [u16; 4096]) -> bool {
 }
 
 /// The blocks of a place, joined field by field and tested once: whether all are in range, and how many are in each state.
-fn blocks_alone(mem: &Buffers, s: &Shape, place: usize) -> (bool, [u16; 3]) {
-    let [states, num_peers, has] = [0, 1, 2].map(|f| &mem.cells[s.blocks(f, place)..][..s.b]);
-    let (mut joined, mut beyond, mut flags, mut counted) = (0, 0, 0, [0; 3]);
-    for j in 0..s.b {
-        joined |= states[j];
-        beyond |= num_peers[j].saturating_sub(1000);
-        flags |= has[j];
-        for (k, many) in counted.iter_mut().enumerate() {
-            *many += u16::from(states[j] == k as u16 + 1);
-        }
+fn blocks_alone(states: &[u16], num_peers: &[u16], has: &[u16]) -> (bool, [u16; 3]) {
+    let (mut joined, mut beyond, mut flags) = (0, 0, 0);
+    let (mut requested, mut writing, mut finished) = (0, 0, 0);
+    for ((state, num_peers), has) in states.iter().zip(num_peers).zip(has) {
+        joined |= state;
+        beyond |= num_peers.saturating_sub(1000);
+        flags |= has;
+        requested += u16::from(*state == 1);
+        writing += u16::from(*state == 2);
+        finished += u16::from(*state == 3);
     }
-    (joined < 4 && beyond == 0 && flags < 2, counted)
+    (joined < 4 && beyond == 0 && flags < 2, [requested, writing, finished])
 }
 
-/// Ranks, list and blocks of a memory that is well-formed; nothing else of it is tested.
-pub fn parts_alone(mem: &Buffers, ranks: &mut [u16; 4096]) -> bool {
+/// Ranks, list and blocks of a memory that is well-formed, with the counts of each partial; nothing else of it is tested.
+pub fn parts_alone(mem: &Buffers, ranks: &mut [u16; 4096], counts: &mut [[u16; 3]; 512]) -> bool {
     let s = Shape::of(&mem.words);
     ranks_alone(mem, &s, ranks);
     let mut good = list_alone(mem, &s, ranks);
-    for d in &mem.partials[..mem.words[7] as usize] {
-        let (ok, counted) = blocks_alone(mem, &s, d.info_idx as usize);
-        good &= ok & (counted[0] < 512);
+    for (d, counted) in mem.partials[..mem.words[7] as usize].iter().zip(counts) {
+        let [states, num_peers, has] = [0, 1, 2].map(|f| &mem.cells[s.blocks(f, d.info_idx as usize)..][..s.b]);
+        let (ok, found) = blocks_alone(states, num_peers, has);
+        *counted = found;
+        good &= ok;
     }
     good
 }

@@ -43,7 +43,15 @@ module _ (n : ℕ) (list start : List ℕ) where
 -- one that fails fails among more
 pub among-more : (n : ℕ) (list start : List ℕ) (few many : ℕ) → few ≤ many → OneFails n list start few → OneFails n list start many
 among-more n list start few many h p =
-    record { place = p .place; below = omega (arith, p .below); last = p .last; ranks = p .ranks; reached = p .reached; exit = p .exit; stepped = p .stepped }
+    record {
+      place = p .place;
+      below = omega (arith, p .below);
+      last = p .last;
+      ranks = p .ranks;
+      reached = p .reached;
+      exit = p .exit;
+      stepped = p .stepped;
+    }
 
 -- ---- four
 module _ (n : ℕ) (list : List ℕ) (k last : ℕ) (entry : List ℕ) (a : ℕ) (ra : List ℕ) (qa : Stepped n last (getD list k 0) entry a ra) where
@@ -145,7 +153,8 @@ module _ (s : Shape) (words : List ℕ) (r : HeadPassed s words) (list : List �
       let e : k + 1 ≡ suc k = omega arith in
       subst (λ (j : ℕ). Listing (s .pieces) (length start) words start ranks last j) e
       (step-next s words r (length start) start (p .ranks-before) (p .last-before) k
-      (reached-listing k (p .last-before) (p .ranks-before) (omega arith) (p .reached)) (omega arith) list el last ranks (p .stepped) (p .passed))
+      (reached-listing k (p .last-before) (p .ranks-before) (omega arith) (p .reached)) (omega arith) list el last ranks (p .stepped)
+      (p .passed))
 
   decision : (many : ℕ) → many ≡ headWord words 6 → (t : Bool) → Decided (s .pieces) list start many t → PlaceTest (s .pieces) t words start
   unfolding Decided

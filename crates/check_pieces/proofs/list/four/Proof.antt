@@ -35,7 +35,8 @@ same-length-2 : tie.Need-same-length-2
 same-length-2 c = search needs
 
 returns-2 : tie.Need-returns-2
-returns-2 c = second-fails _ _ _ _ _ _ _ (c .before .before .before .before .before .before .before .before .before .step .ensures) (c .before .before .before .before .before .before .if1 .left) _ _ (c .before .before .before .step2 .ensures) (c .if2 .taken)
+returns-2 c = second-fails _ _ _ _ _ _ _ (c .before .before .before .before .before .before .before .before .before .step .ensures)
+    (c .before .before .before .before .before .before .if1 .left) _ _ (c .before .before .before .step2 .ensures) (c .if2 .taken)
 
 add-step-2 : tie.Need-add-step-2
 add-step-2 c = search needs
@@ -53,7 +54,10 @@ same-length-3 : tie.Need-same-length-3
 same-length-3 c = search needs
 
 returns-3 : tie.Need-returns-3
-returns-3 c = third-fails _ _ _ _ _ _ _ (c .before .before .before .before .before .before .before .before .before .before .before .before .before .before .before .step .ensures) (c .before .before .before .before .before .before .before .before .before .before .before .before .if1 .left) _ _ (c .before .before .before .before .before .before .before .before .before .step2 .ensures) (c .before .before .before .before .before .before .if2 .left) _ _ (c .before .before .before .step3 .ensures) (c .if3 .taken)
+returns-3 c = third-fails _ _ _ _ _ _ _ (c .before .before .before .before .before .before .before .before .before .before .before
+    .before .before .before .before .step .ensures) (c .before .before .before .before .before .before .before .before .before .before
+    .before .before .if1 .left) _ _ (c .before .before .before .before .before .before .before .before .before .step2 .ensures)
+    (c .before .before .before .before .before .before .if2 .left) _ _ (c .before .before .before .step3 .ensures) (c .if3 .taken)
 
 add-step-3 : tie.Need-add-step-3
 add-step-3 c = search needs
@@ -71,7 +75,13 @@ same-length-4 : tie.Need-same-length-4
 same-length-4 c = search needs
 
 returns-4 : tie.Need-returns-4
-returns-4 c = fourth _ _ _ _ _ _ _ (c .before .before .before .before .before .before .before .before .before .before .before .before .before .before .before .before .before .before .before .before .step .ensures) (c .before .before .before .before .before .before .before .before .before .before .before .before .before .before .before .before .before .if1 .left) _ _ (c .before .before .before .before .before .before .before .before .before .before .before .before .before .before .step2 .ensures) (c .before .before .before .before .before .before .before .before .before .before .before .if2 .left) _ _ (c .before .before .before .before .before .before .before .before .step3 .ensures) (c .before .before .before .before .before .if3 .left) _ _ (c .before .before .step4 .ensures)
+returns-4 c = fourth _ _ _ _ _ _ _ (c .before .before .before .before .before .before .before .before .before .before .before .before
+    .before .before .before .before .before .before .before .before .step .ensures)
+    (c .before .before .before .before .before .before .before .before .before .before .before .before .before .before .before .before
+    .before .if1 .left) _ _ (c .before .before .before .before .before .before .before .before .before .before .before .before .before
+    .before .step2 .ensures) (c .before .before .before .before .before .before .before .before .before .before .before .if2 .left) _ _
+    (c .before .before .before .before .before .before .before .before .step3 .ensures)
+    (c .before .before .before .before .before .if3 .left) _ _ (c .before .before .step4 .ensures)
 
 pub four-spec : {M : Type 1} → statement M
 four-spec =

@@ -22,13 +22,24 @@ shared-slice-read-step : tie.Need-shared-slice-read-step Inv-loop μ-loop
 shared-slice-read-step c = search needs
 
 step-requires : tie.Need-step-requires Inv-loop μ-loop
-step-requires c κs = ((c .before .before .before .before .before .before .pre .0 .0, omega (arith, c .before .before .before .before .before .before .pre .0 .1, c .before .before .before .loop .inv .long)), c .before .before .before .loop .inv .low)
+step-requires c κs = (
+  (
+    c .before .before .before .before .before .before .pre .0 .0,
+    omega
+        (arith, c .before .before .before .before .before .before .pre .0 .1, c .before .before .before .loop .inv .long),
+  ),
+  c .before
+      .before .before .loop .inv .low,
+)
 
 same-length : tie.Need-same-length Inv-loop μ-loop
 same-length c = search needs
 
 returns : tie.Need-returns Inv-loop μ-loop
-returns c = walking-stop _ _ _ _ _ _ _ (c .before .before .before .before .before .before .before .loop .last) (c .before .before .before .before .before .before .before .loop .k) (c .before .before .before .before .before .before .before .loop .inv) (omega arith) _ _ (c .before .before .before .step .ensures) (c .if1 .taken)
+returns c = walking-stop _ _ _ _ _ _ _ (c .before .before .before .before .before .before .before .loop .last)
+    (c .before .before .before .before .before .before .before .loop .k)
+    (c .before .before .before .before .before .before .before .loop .inv) (omega arith) _ _ (c .before .before .before .step .ensures)
+    (c .if1 .taken)
 
 add-k : tie.Need-add-k Inv-loop μ-loop
 add-k c = search needs
@@ -37,7 +48,10 @@ loop-less : tie.Need-loop-less Inv-loop μ-loop
 loop-less c = search needs
 
 loop-again : tie.Need-loop-again Inv-loop μ-loop
-loop-again c = walking-next _ _ _ _ _ _ _ (c .before .before .before .before .before .before .before .loop .last) (c .before .before .before .before .before .before .before .loop .k) (c .before .before .before .before .before .before .before .loop .inv) (omega arith) _ _ (c .before .before .before .step .ensures) (c .if1 .left)
+loop-again c = walking-next _ _ _ _ _ _ _ (c .before .before .before .before .before .before .before .loop .last)
+    (c .before .before .before .before .before .before .before .loop .k)
+    (c .before .before .before .before .before .before .before .loop .inv) (omega arith) _ _ (c .before .before .before .step .ensures)
+    (c .if1 .left)
 
 same-length-2 : tie.Need-same-length-2 Inv-loop μ-loop
 same-length-2 c = search needs
