@@ -10,6 +10,7 @@ use lib.Dec.{eqb, ltb, leb}
 use Rattle.model.specs.Lists.{every, count, from}
 use Rattle.model.specs.State.{Piece, maxPeers, maxPriority, isOpen}
 use Rattle.model.specs.list.Order.{bucket, rankOf}
+use Rattle.check_pieces.specs.declared.rows.Joined.{Joined}
 use Rattle.memory_layout.specs.Decode.{queueFrom, yes?, rankUnit, listedPiece}
 
 -- ---- one piece
@@ -27,6 +28,15 @@ unfoldable pub cellsOk : (seeds count state priority flushed : ℕ) → Bool
 cellsOk seeds count state priority flushed =
     (leb state 6 && leb flushed 1)
     && (leb (count + seeds) maxPeers && (leb priority maxPriority && (not (yes? flushed) || isOpen (queueFrom state))))
+
+-- what is asked of the count, of the state, and of a piece that is flushed, by the state's number
+unfoldable pub wrongless : (seeds count state flushed : ℕ) → Bool
+wrongless seeds count state flushed =
+    (leb (count + seeds) maxPeers && leb state 6) && (not (eqb flushed 1) || eqb state 4)
+
+-- the cells of pieces joined by `|`: nothing is wrong, and no bit is in them that is in no good cell
+unfoldable pub joinedOk : (j : Joined) → Bool
+joinedOk j = (eqb (j .wrong) 0 && ltb (j .priorities) 8) && ltb (j .flushed) 2
 
 -- cells that have a rank
 pub record Ranked (count state priority : ℕ) : Type 0 where
