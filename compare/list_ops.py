@@ -16,7 +16,7 @@ import random
 import sys
 
 from compare.lists import Limits, Step, follow, led
-from compare.memory import encode
+from compare.one_buffer import encode
 from compare.run import Figures, Mismatch, compare
 from compare.states import a_picker, huge_geometry, small_geometry, wide_geometry
 from reference.calls import Seeded

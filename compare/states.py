@@ -107,13 +107,15 @@ def some_extents(rng, n, b):
     return tuple(rng.sample(range(many), rng.randint(0, min(many, MAX_EXTENTS))))
 
 
-def a_picker(rng, total, size):
+def a_picker(rng, total, size, at=None):
+    """Any picker of this geometry; with `at`, one with partials of just these pieces."""
     n = pieces_of(total, size)
     seeds = rng.choice([0, 0, 0, 1, 1, 2, rng.randint(0, MAX_COUNT)])
     stale = rng.random() < 0.4
     b = blocks_of(size, size)
     s = Picker(total, size, seeds, rng.randint(0, n), rng.randint(0, n), stale, (), (), some_extents(rng, n, b), ())
     share = rng.choice([0.0, 0.2, 0.5, 0.9] if n <= MAX_PARTIALS else [0.05, 0.5, 1.0])
-    made = [a_piece(rng, s, i, share if i < MAX_PARTIALS else 0) for i in range(n)]
+    shares = [share if i < MAX_PARTIALS else 0 for i in range(n)] if at is None else [int(i in at) for i in range(n)]
+    made = [a_piece(rng, s, i, x) for i, x in enumerate(shares)]
     s = s._replace(pieces=tuple(p for p, _ in made), partials=tuple(d for _, d in made if d is not None))
     return s if stale else s._replace(order=an_order(rng, s))

@@ -1,248 +1,97 @@
-//! Times the proved memory test against the same test written by hand in Rust, on the same memory, and against a bare pass that sums the
-//! same live words. `harness/bench` builds and runs it. A line for each size: microseconds, the two ratios, and what the parts that no form of
-//! the test leaves out take of a bare pass.
+//! Times the proved memory test against the same test written by hand in Rust, on the same buffers, and against a bare pass that sums the
+//! same live numbers at their widths. `harness/bench` builds and runs it. A line for each size: microseconds, the two ratios, and what the
+//! parts that no form of the test leaves out take of a bare pass.
 
+mod by_hand;
 mod floor;
+mod picker;
+mod records;
 
-use floor::{parts_alone, rank_table};
+use by_hand::by_hand;
+use floor::parts_alone;
+use picker::{buffers, Buffers, Shape};
+use records::{unpack, ROWS};
 use std::hint::black_box;
 use std::time::Instant;
 
 #[link(name = "link_memory", kind = "static")]
 extern "C" {
-    fn wf_well_formed(mem: *const u64, len: usize) -> bool;
+    fn pm_check(
+        words: *const u64,
+        words_len: usize,
+        cells: *const u16,
+        cells_len: usize,
+        rows: *const u32,
+        rows_len: usize,
+        lent: usize,
+        counts: *mut u16,
+        counts_len: usize,
+    ) -> u8;
 }
 
-const HEAD: usize = 16;
-const BLOCK: u64 = 16384;
-
-struct Shape {
-    n: usize,
-    b: usize,
-    m: usize,
+/// The proved test as a call makes it: rows and counts of its own, the live records unpacked.
+fn proved(mem: &Buffers) -> u8 {
+    let (mut rows, mut counts) = ([0; ROWS], [0; ROWS]);
+    unpack(&mem.words, &mem.partials, &mut rows);
+    let (words, cells, lent) = (&mem.words[..], &mem.cells[..], mem.partials.len());
+    let found = unsafe {
+        pm_check(words.as_ptr(), words.len(), cells.as_ptr(), cells.len(), rows.as_ptr(), ROWS, lent, counts.as_mut_ptr(), ROWS)
+    };
+    black_box(&counts);
+    found
 }
 
-impl Shape {
-    fn piece(&self, f: usize, i: usize) -> usize {
-        HEAD + f * self.n + i
-    }
-    fn partial(&self, f: usize, k: usize) -> usize {
-        HEAD + 6 * self.n + f * self.m + k
-    }
-    fn block(&self, f: usize, place: usize, j: usize) -> usize {
-        HEAD + 6 * self.n + 3 * self.m + f * self.m * self.b + place * self.b + j
-    }
-    fn need(&self) -> usize {
-        self.block(4, 0, 0)
-    }
-}
-
-fn rank(seeds: u64, count: u64, state: u64, wish: u64, had: u64) -> u64 {
-    if wish == 0 || had == 1 || count + seeds == 0 || state == 1 || state == 2 {
-        return 0;
-    }
-    let less = if state >= 5 { 1 } else if state == 4 { 2 } else { 3 };
-    (count + 1) * (8 - wish) * 3 - less + 1
-}
-
-/// A picker of n pieces of b blocks with so many partials, half of their blocks requested, and a list that is not stale.
-fn memory(n: usize, b: usize, partials: usize) -> Vec<u64> {
-    let s = Shape { n, b, m: n.min(512) };
-    let mut mem = vec![0; s.need()];
-    let step = n / partials;
-    mem[..9].copy_from_slice(&[(n * b) as u64 * BLOCK, b as u64 * BLOCK, 1, 0, n as u64, 0, n as u64, partials as u64, 0]);
-    for i in 0..n {
-        mem[s.piece(0, i)] = (i * 7 % 23) as u64;
-        mem[s.piece(1, i)] = 4;
-        mem[s.piece(2, i)] = 1 + (i % 7) as u64;
-    }
-    for k in 0..s.m {
-        mem[s.partial(2, k)] = (s.m - 1 - k) as u64;
-    }
-    for k in 0..partials {
-        let i = k * step;
-        mem[s.piece(1, i)] = 0;
-        mem[s.partial(0, k)] = i as u64;
-        for j in (0..b).step_by(2) {
-            let place = s.m - 1 - k;
-            for (f, v) in [1, 1, 1, j as u64].into_iter().enumerate() {
-                mem[s.block(f, place, j)] = v;
+/// A sum of 64 bytes at a time, so that where the loop lies in the program does not matter.
+macro_rules! sum_of {
+    ($name:ident, $number:ty, $many:expr) => {
+        #[inline(never)]
+        fn $name(numbers: &[$number]) -> u64 {
+            let mut sums = [0; $many];
+            let parts = numbers.chunks_exact($many);
+            let rest = parts.remainder().iter().fold(0, |x: $number, y| x.wrapping_add(*y));
+            for part in parts {
+                for (x, y) in sums.iter_mut().zip(part) {
+                    *x = y.wrapping_add(*x);
+                }
             }
+            sums.iter().fold(rest, |x, y| x.wrapping_add(*y)) as u64
         }
-    }
-    let key = |i: &u64| rank(1, mem[s.piece(0, *i as usize)], mem[s.piece(1, *i as usize)], mem[s.piece(2, *i as usize)], 0);
-    let mut order: Vec<u64> = (0..n as u64).collect();
-    order.sort_by_key(key);
-    for (k, i) in order.into_iter().enumerate() {
-        mem[s.piece(5, k)] = i;
-    }
-    mem
+    };
 }
+sum_of!(sum_words, u64, 8);
+sum_of!(sum_cells, u16, 32);
 
-/// The test by hand.
-fn by_hand(mem: &[u64]) -> bool {
-    if mem.len() < HEAD {
-        return false;
-    }
-    let (total, size) = (mem[0], mem[1]);
-    if total < 1 || size < 1 || size > 4194304 || total > 4096 * size {
-        return false;
-    }
-    let n = total.div_ceil(size) as usize;
-    let unit = size.min(BLOCK);
-    let b = size.div_ceil(unit) as usize;
-    let s = Shape { n, b, m: n.min(512) };
-    if mem.len() < s.need() {
-        return false;
-    }
-    head_by_hand(mem, &s) && rows_by_hand(mem, &s, total, size, unit)
-}
-
-fn head_by_hand(mem: &[u64], s: &Shape) -> bool {
-    let n = s.n as u64;
-    mem[2] <= 1000
-        && mem[3] <= n
-        && mem[4] <= n
-        && mem[5] <= 1
-        && mem[6] <= if mem[5] == 1 { 0 } else { n }
-        && mem[7] <= s.m as u64
-        && mem[8] <= 5
-}
-
-fn rows_by_hand(mem: &[u64], s: &Shape, total: u64, size: u64, unit: u64) -> bool {
-    let mut keys = [0u64; 4096];
-    let mut at_work = 0;
-    let seeds = mem[2];
-    let region = |f: usize| &mem[s.piece(f, 0)..s.piece(f, 0) + s.n];
-    let (counts, states, wishes, hads, pads) = (region(0), region(1), region(2), region(3), region(4));
-    for i in 0..s.n {
-        let length = size.min(total - i as u64 * size);
-        if counts[i].saturating_add(seeds) > 1000
-            || states[i] > 6
-            || wishes[i] > 7
-            || hads[i] > 1
-            || (hads[i] == 1 && states[i] != 4)
-            || pads[i] > length
-        {
-            return false;
-        }
-        at_work += (states[i] != 4) as u64;
-        keys[i] = rank(seeds, counts[i], states[i], wishes[i], hads[i]);
-    }
-    at_work == mem[7] && partials_by_hand(mem, s, total, size, unit) && extents_by_hand(mem, s) && list_by_hand(mem, s, &keys)
-}
-
-fn partials_by_hand(mem: &[u64], s: &Shape, total: u64, size: u64, unit: u64) -> bool {
-    let mut taken = [false; 512];
-    for k in 0..s.m {
-        let place = mem[s.partial(2, k)] as usize;
-        if place >= s.m || taken[place] {
-            return false;
-        }
-        taken[place] = true;
-    }
-    let mut low = 0;
-    for k in 0..mem[7] as usize {
-        let (piece, flags, place) = (mem[s.partial(0, k)], mem[s.partial(1, k)], mem[s.partial(2, k)] as usize);
-        if piece < low || piece >= s.n as u64 || flags > 7 {
-            return false;
-        }
-        let i = piece as usize;
-        low = piece + 1;
-        let many = size.min(total - piece * size).div_ceil(unit) as usize;
-        let region = |f: usize| &mem[s.block(f, place, 0)..s.block(f, place, 0) + many];
-        let (states, asked, has, peers) = (region(0), region(1), region(2), region(3));
-        let (mut requested, mut busy) = (0, 0);
-        for j in 0..many {
-            if states[j] > 3 || asked[j] > 1000 || has[j] > 1 || (has[j] == 0 && peers[j] != 0) {
-                return false;
-            }
-            requested += (states[j] == 1) as usize;
-            busy += (states[j] != 0) as usize;
-        }
-        let (state, wish) = (mem[s.piece(1, i)], mem[s.piece(2, i)]);
-        let plain = if state == 5 { 0 } else if state == 6 { 1 } else { state };
-        let due = if wish == 0 {
-            3
-        } else if busy < many {
-            0
-        } else if requested > 0 {
-            1
-        } else {
-            2
-        };
-        if state == 4 || (plain != due && !(wish > 0 && busy == 0)) {
-            return false;
-        }
-    }
-    true
-}
-
-fn extents_by_hand(mem: &[u64], s: &Shape) -> bool {
-    let extents = &mem[9..9 + mem[8] as usize];
-    let many = if s.b == 256 { 0 } else { s.n.div_ceil(256 / s.b) as u64 };
-    (0..extents.len()).all(|k| extents[k] < many && !extents[..k].contains(&extents[k]))
-}
-
-fn list_by_hand(mem: &[u64], s: &Shape, keys: &[u64; 4096]) -> bool {
-    if mem[5] == 1 {
-        return true;
-    }
-    let mut seen = [false; 4096];
-    let mut last = 1;
-    let list = &mem[s.piece(5, 0)..s.piece(5, 0) + mem[6] as usize];
-    for &i in list {
-        let i = i as usize;
-        if i >= s.n || seen[i] || keys[i] < last {
-            return false;
-        }
-        seen[i] = true;
-        last = keys[i];
-    }
-    list.len() == keys[..s.n].iter().filter(|k| **k > 0).count()
-}
-
-/// Words, summed eight at a time, so that where the loop lies in the program does not matter.
-#[inline(never)]
-fn sum(words: &[u64]) -> u64 {
-    let mut sums = [0u64; 8];
-    let eights = words.chunks_exact(8);
-    let rest = eights.remainder().iter().fold(0u64, |x, y| x.wrapping_add(*y));
-    for eight in eights {
-        for (x, y) in sums.iter_mut().zip(eight) {
-            *x = x.wrapping_add(*y);
-        }
-    }
-    sums.iter().fold(rest, |x, y| x.wrapping_add(*y))
-}
-
-/// The live words, summed.
-fn bare_pass(mem: &[u64]) -> u64 {
-    let n = mem[0].div_ceil(mem[1]) as usize;
-    let b = mem[1].div_ceil(mem[1].min(BLOCK)) as usize;
-    let s = Shape { n, b, m: n.min(512) };
-    let part = |a: usize, k: usize| sum(&mem[a..a + k]);
-    let mut out = part(0, 9).wrapping_add(part(s.piece(0, 0), 5 * n + mem[6] as usize)).wrapping_add(part(s.partial(2, 0), s.m));
-    for k in 0..mem[7] as usize {
-        let place = mem[s.partial(2, k)] as usize;
-        out = out.wrapping_add(mem[s.partial(0, k)]).wrapping_add(mem[s.partial(1, k)]);
-        for f in 0..4 {
-            out = out.wrapping_add(part(s.block(f, place, 0), b));
+/// The live numbers, summed: head, pads, list, the pieces' cells, the live records, and the cells of their blocks.
+fn bare_pass(mem: &Buffers) -> u64 {
+    let (words, cells, s) = (&mem.words[..], &mem.cells[..], Shape::of(&mem.words));
+    let mut out = sum_words(&words[..9]).wrapping_add(sum_words(s.pads(words))).wrapping_add(sum_words(s.list(words)));
+    out = out.wrapping_add(sum_cells(&cells[..4 * s.n]));
+    for d in &mem.partials[..words[7] as usize] {
+        out = out.wrapping_add((d.index as u64).wrapping_add(d.flags as u64));
+        for f in 0..3 {
+            out = out.wrapping_add(sum_cells(&cells[s.blocks(f, d.info_idx as usize)..][..s.b]));
         }
     }
     out
 }
 
-/// Each one's best of many, in microseconds. They take turns, so that what slows one down slows the others, too.
+/// Microseconds that so many calls take, each.
+fn time_of(job: &mut dyn FnMut(), many: u32) -> f64 {
+    let start = Instant::now();
+    for _ in 0..many {
+        job();
+    }
+    start.elapsed().as_secs_f64() * 1e6 / many as f64
+}
+
+/// Each one's best of many, in microseconds. They take turns, so that what slows one down slows the others, too; and a turn is short, so
+/// that a busy machine leaves some of them alone.
 fn times<const K: usize>(mut jobs: [&mut dyn FnMut(); K]) -> [f64; K] {
-    let mut best = [f64::MAX; K];
-    for _ in 0..300 {
-        for (job, low) in jobs.iter_mut().zip(&mut best) {
-            let start = Instant::now();
-            for _ in 0..10 {
-                job();
-            }
-            *low = low.min(start.elapsed().as_secs_f64() * 1e5);
+    let mut best = jobs.each_mut().map(|job| time_of(*job, 10));
+    let many = best.map(|time| (20.0 / time).clamp(1.0, 20.0) as u32);
+    for _ in 0..1000 {
+        for ((job, low), many) in jobs.iter_mut().zip(&mut best).zip(many) {
+            *low = low.min(time_of(*job, many));
         }
     }
     best
@@ -250,16 +99,16 @@ fn times<const K: usize>(mut jobs: [&mut dyn FnMut(); K]) -> [f64; K] {
 
 /// A line of the table.
 fn compare(n: usize, b: usize, partials: usize) {
-    let (mem, s) = (memory(n, b, partials), Shape { n, b, m: n.min(512) });
-    let (table, mut keys) = (rank_table(), [0; 4096]);
-    assert!(by_hand(&mem) && unsafe { wf_well_formed(mem.as_ptr(), mem.len()) } && parts_alone(&mem, &s, &table, &mut keys));
-    let [proved, hand, bare, parts] = times([
-        &mut || { black_box(unsafe { wf_well_formed(black_box(mem.as_ptr()), mem.len()) }); },
-        &mut || { black_box(by_hand(black_box(&mem))); },
+    let mem = buffers(n, b, partials);
+    let (mut counts, mut others, mut ranks) = ([[0; 3]; 512], [[0; 3]; 512], [0; 4096]);
+    assert!(proved(&mem) == 0 && by_hand(&mem, &mut counts) && parts_alone(&mem, &mut ranks, &mut others));
+    let [test, hand, bare, parts] = times([
+        &mut || { black_box(proved(black_box(&mem))); },
+        &mut || { black_box(by_hand(black_box(&mem), &mut counts)); },
         &mut || { black_box(bare_pass(black_box(&mem))); },
-        &mut || { black_box(parts_alone(black_box(&mem), &s, &table, &mut keys)); },
+        &mut || { black_box(parts_alone(black_box(&mem), &mut ranks, &mut others)); },
     ]);
-    println!("{n:6} {b:3} {partials:8} {proved:13.2} {:12.2} {:16.2} {:13.2}", proved / hand, proved / bare, parts / bare);
+    println!("{n:6} {b:3} {partials:8} {test:13.2} {:12.2} {:16.2} {:13.2}", test / hand, test / bare, parts / bare);
 }
 
 fn main() {

@@ -1,65 +1,58 @@
 //! How near to a bare pass the memory test can come: what no form of it leaves out, by hand and in the fastest form known.
 
-use super::Shape;
+use crate::picker::{Buffers, Shape};
 
-/// By had, wish and state: the factor of a piece's rank, and what is taken off.
-pub fn rank_table() -> [u32; 128] {
-    std::array::from_fn(|i| {
-        let (had, wish, state) = (i >> 6, i >> 3 & 7, i & 7);
-        let listed = had == 0 && wish > 0 && state != 1 && state != 2;
-        let off = if state >= 5 { 0 } else if state == 4 { 1 } else { 2 };
-        if listed { (8 - wish as u32) * 3 | off << 8 } else { 0 }
-    })
-}
-
-/// The ranks of pieces whose words are in range, by that table.
-fn ranks_alone(mem: &[u64], s: &Shape, table: &[u32; 128], keys: &mut [u16; 4096]) {
-    let seeds = mem[2];
-    let region = |f: usize| &mem[s.piece(f, 0)..s.piece(f, 0) + s.n];
-    let (counts, states, wishes, hads) = (region(0), region(1), region(2), region(3));
-    for (i, key) in keys[..s.n].iter_mut().enumerate() {
-        let entry = table[(hads[i] << 6 | wishes[i] << 3 | states[i]) as usize & 127];
-        let rank = (counts[i] as u32 + 1) * (entry & 255) - (entry >> 8);
-        *key = if counts[i] | seeds == 0 { 0 } else { rank as u16 };
+/// The ranks of pieces whose cells are in range, by product.
+fn ranks_alone(mem: &Buffers, s: &Shape, ranks: &mut [u16; 4096]) {
+    let seeds = mem.words[2] as u16;
+    let [counts, states, priorities, flushed] = [0, 1, 2, 3].map(|f| s.pieces(&mem.cells, f));
+    for (i, rank) in ranks[..s.n].iter_mut().enumerate() {
+        let (count, state, priority) = (counts[i], states[i], priorities[i]);
+        let unlisted = (priority == 0) | (flushed[i] == 1) | (count | seeds == 0) | (state == 1) | (state == 2);
+        let full = (count + 1).wrapping_mul(24 - 3 * priority).wrapping_sub(5u16.saturating_sub(state).min(2));
+        *rank = if unlisted { 0 } else { full };
     }
 }
 
-/// The list, each piece's key taken as it is met: none twice, none without a rank, ranks never falling, none left.
-fn list_alone(mem: &[u64], s: &Shape, keys: &mut [u16; 4096]) -> bool {
+/// The list, each piece's rank taken as it is met: none twice, none without a rank, ranks never falling, none left.
+fn list_alone(mem: &Buffers, s: &Shape, ranks: &mut [u16; 4096]) -> bool {
     let mut last = 1;
-    for &i in &mem[s.piece(5, 0)..s.piece(5, 0) + mem[6] as usize] {
-        let i = i as usize;
-        if i >= s.n || keys[i & 4095] < last {
+    for word in s.list(&mem.words) {
+        let (rank, i) = (word >> 16, (word & 65535) as usize);
+        if rank < last || i >= s.n || ranks[i & 4095] as u64 != rank {
             return false;
         }
-        last = std::mem::take(&mut keys[i & 4095]);
+        ranks[i & 4095] = 0;
+        last = rank;
     }
-    keys[..s.n].iter().fold(0, |any, key| any | key) == 0
+    ranks[..s.n].iter().fold(0, |any, rank| any | rank) == 0
 }
 
-/// The blocks of a place, joined field by field and tested once: whether all are in range, how many are requested, how many not free.
-fn blocks_alone(mem: &[u64], s: &Shape, place: usize) -> (bool, u64, u64) {
-    let region = |f: usize| &mem[s.block(f, place, 0)..s.block(f, place, 0) + s.b];
-    let (states, asked, has, peers) = (region(0), region(1), region(2), region(3));
-    let (mut joined, mut requested, mut busy) = ([0u64; 4], 0, 0);
-    for j in 0..s.b {
-        joined[0] |= states[j];
-        joined[1] |= asked[j] | asked[j].wrapping_add(23);
-        joined[2] |= has[j];
-        joined[3] |= peers[j] & has[j].wrapping_sub(1);
-        requested += u64::from(states[j] == 1);
-        busy += u64::from(states[j] != 0);
+/// The blocks of a place, joined field by field and tested once: whether all are in range, and how many are in each state.
+fn blocks_alone(states: &[u16], num_peers: &[u16], has: &[u16]) -> (bool, [u16; 3]) {
+    let (mut joined, mut beyond, mut flags) = (0, 0, 0);
+    let (mut requested, mut writing, mut finished) = (0, 0, 0);
+    for ((state, num_peers), has) in states.iter().zip(num_peers).zip(has) {
+        joined |= state;
+        beyond |= num_peers.saturating_sub(1000);
+        flags |= has;
+        requested += u16::from(*state == 1);
+        writing += u16::from(*state == 2);
+        finished += u16::from(*state == 3);
     }
-    (joined[0] < 4 && joined[1] < 1024 && joined[2] < 2 && joined[3] == 0, requested, busy)
+    (joined < 4 && beyond == 0 && flags < 2, [requested, writing, finished])
 }
 
-/// Ranks, list and blocks of a memory that is well-formed; nothing else of it is tested.
-pub fn parts_alone(mem: &[u64], s: &Shape, table: &[u32; 128], keys: &mut [u16; 4096]) -> bool {
-    ranks_alone(mem, s, table, keys);
-    let mut good = list_alone(mem, s, keys);
-    for k in 0..mem[7] as usize {
-        let (ok, requested, busy) = blocks_alone(mem, s, mem[s.partial(2, k)] as usize);
-        good &= ok & (requested <= busy);
+/// Ranks, list and blocks of a memory that is well-formed, with the counts of each partial; nothing else of it is tested.
+pub fn parts_alone(mem: &Buffers, ranks: &mut [u16; 4096], counts: &mut [[u16; 3]; 512]) -> bool {
+    let s = Shape::of(&mem.words);
+    ranks_alone(mem, &s, ranks);
+    let mut good = list_alone(mem, &s, ranks);
+    for (d, counted) in mem.partials[..mem.words[7] as usize].iter().zip(counts) {
+        let [states, num_peers, has] = [0, 1, 2].map(|f| &mem.cells[s.blocks(f, d.info_idx as usize)..][..s.b]);
+        let (ok, found) = blocks_alone(states, num_peers, has);
+        *counted = found;
+        good &= ok;
     }
     good
 }

@@ -6,19 +6,15 @@
 //! well-formed picker stands, at `start`; later a piece, a count or a wish out of range, or a change of another piece's rank.
 
 mod list_operations;
+mod one_buffer;
 
+use one_buffer::well_formed;
 use std::io::BufRead;
 use std::process::exit;
 
 #[link(name = "link_lists", kind = "static")]
 extern "C" {
     fn ls_queue_place(mem: *const u64, len: usize, q: usize, j: usize) -> usize;
-}
-
-#[link(name = "link_memory", kind = "static")]
-extern "C" {
-    /// Asks nothing of its caller.
-    fn wf_well_formed(mem: *const u64, len: usize) -> bool;
 }
 
 /// The most that a piece's count, state, wish and had may be, in this order.
@@ -59,7 +55,7 @@ impl Memory {
     /// The memory, whose four queues are compared.
     fn start(line: usize, w: &[&str]) -> Memory {
         let words = numbers(line, w[0]);
-        if !unsafe { wf_well_formed(words.as_ptr(), words.len()) } {
+        if !well_formed(&words) {
             bad(line, "no well-formed picker stands in the memory");
         }
         for (q, due) in w[1..].iter().enumerate() {

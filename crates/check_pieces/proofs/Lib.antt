@@ -7,3 +7,4 @@ pub mod Passes
 pub mod PadLaws
 pub mod PieceTests
 pub mod ListTests
+pub mod WalkLaws

@@ -1,18 +1,15 @@
--- A pass over rows that joins what is wrong with each and notes its rank: one turn of it. Tests on each number of a range. Assumes nothing.
+-- A pass over rows that joins their tests and notes the rank of each: one turn of it. Tests on each number of a range. Assumes nothing.
 use mathlib.Core.Path.{_≡_, refl, sym, ap, ap₂, _∙_}
 use mathlib.Core.Bool.{Bool, true, false, _&&_, and-true, and-false, and-assoc}
 use mathlib.Core.List.{List, [], _∷_}
 use Prim.Native.Nat.{ℕ, zero, suc, _+_, _-_, _≤_, _<_}
 use native.Mathlib.Decide.{ℕ-discrete}
 use native.Mathlib.Omega.{arith}
-use lib.Bits.{bitOr}
-use lib.Dec.{eqb}
 use lib.ListN.{length, getD, set, length-set}
 use lib.Seq.{getD-set-same, getD-set-other}
 use Rattle.model.specs.Lists.{every, from}
 use Rattle.model.proofs.base.Truths.{both-true}
 use Rattle.check_pieces.specs.Rows.{Passed}
-use Rattle.check_pieces.proofs.Joins.{or-zero}
 
 -- ---- tests on each number of a range
 -- those that pass, one by one
@@ -75,27 +72,27 @@ pub every-start : (f : ℕ → Bool) (n : ℕ) → every f (from 0 (n - 0)) ≡ 
 every-start f n = let e : n - 0 ≡ n = omega arith in ap (λ (k : ℕ). every f (from 0 k)) e
 
 -- ---- the pass
--- what is joined so far and what is left decide, and a row so far that passes has its rank; of w ranks
-pub record Passing (test : ℕ → Bool) (rank : ℕ → ℕ) (n w : ℕ) (ranks : List ℕ) (wrong i : ℕ) : Type 0 where
+-- whether all so far passed and what is left decide, and a row so far that passes has its rank; of w ranks
+pub record Passing (test : ℕ → Bool) (rank : ℕ → ℕ) (n w : ℕ) (ranks : List ℕ) (ok : Bool) (i : ℕ) : Type 0 where
   pub within : i ≤ n
-  pub left : (eqb wrong 0 && every test (from i (n - i))) ≡ every test (from 0 n)
+  pub left : (ok && every test (from i (n - i))) ≡ every test (from 0 n)
   pub each : (j : ℕ) → j < i → test j ≡ true → getD ranks j 0 ≡ rank j
   pub long : n ≤ w
   pub wide : length ranks ≡ w
 
 module _ (test : ℕ → Bool) (rank : ℕ → ℕ) (n : ℕ) where
-  pub passing-start : (ranks : List ℕ) → n ≤ length ranks → Passing test rank n (length ranks) ranks 0 0
-  passing-start ranks l =
-      record { within = omega arith; left = every-start test n; each = λ j h. absurd (omega arith); long = l; wide = refl }
+  pub passing-start : (ranks : List ℕ) → n ≤ length ranks → (ok : Bool) → ok ≡ true → Passing test rank n (length ranks) ranks ok 0
+  passing-start ranks l ok e =
+      record { within = omega arith; left = rw e (every-start test n); each = λ j h. absurd (omega arith); long = l; wide = refl }
 
-  module _ (w : ℕ) (ranks : List ℕ) (wrong i : ℕ) (p : Passing test rank n w ranks wrong i) where
-    pub row-passed : i < n → (x r : ℕ) → eqb x 0 ≡ test i → (test i ≡ true → r ≡ rank i)
-        → Passing test rank n w (set ranks i r) (bitOr wrong x) (i + 1)
-    row-passed h x r ex er = record {
+  module _ (w : ℕ) (ranks : List ℕ) (ok : Bool) (i : ℕ) (p : Passing test rank n w ranks ok i) where
+    pub row-passed : i < n → (next : Bool) (r : ℕ) → next ≡ (ok && test i) → (test i ≡ true → r ≡ rank i)
+        → Passing test rank n w (set ranks i r) next (i + 1)
+    row-passed h next r ex er = record {
       within = omega arith;
       left =
-          rw (or-zero wrong x, ex) (and-assoc (eqb wrong 0) (test i) (every test (from (i + 1) (n - (i + 1)))))
-          ∙ ap (λ (t : Bool). eqb wrong 0 && t) (sym (every-next test i n h)) ∙ p .left;
+          rw ex (and-assoc ok (test i) (every test (from (i + 1) (n - (i + 1)))))
+          ∙ ap (λ (t : Bool). ok && t) (sym (every-next test i n h)) ∙ p .left;
       each = λ j l t. elim (ℕ-discrete j i) [
         | yes q ↦ rw q (getD-set-same ranks i r 0 (omega (arith, p .long, p .wide)) ∙ er (rw q at t))
         | no q ↦ getD-set-other ranks i j r 0 q ∙ p .each j (omega arith) t
@@ -104,9 +101,10 @@ module _ (test : ℕ → Bool) (rank : ℕ → ℕ) (n : ℕ) where
       wide = length-set ranks i r ∙ p .wide;
     }
 
-    pub rows-end : n ≤ i → Passed test rank n (eqb wrong 0) ranks
-    rows-end h =
-        let e : eqb wrong 0 ≡ every test (from 0 n) = sym (and-true (eqb wrong 0)) ∙ ap (λ (t : Bool). eqb wrong 0 && t) (sym (every-end test i n h)) ∙ p .left in
+    pub rows-end : n ≤ i → (t : Bool) → t ≡ ok → Passed test rank n t ranks
+    rows-end h t et =
+        let e : t ≡ every test (from 0 n)
+        = et ∙ sym (and-true ok) ∙ ap (λ (x : Bool). ok && x) (sym (every-end test i n h)) ∙ p .left in
         record {
           is = e;
           each = λ q j l. p .each j (omega arith) (every-from test 0 n (sym e ∙ q) j (omega arith) (omega arith));

@@ -8,7 +8,7 @@ use native.Mathlib.Decide.{ℕ-discrete, decLe}
 use native.Mathlib.Omega.{arith}
 use lib.Bits.{bitOr}
 use lib.Dec.{eqb, ltb, leb}
-use borrow.Author.Tests.{eq-eqb, ne-eqb, le-leb, lt-leb, leb-true}
+use borrow.Author.Tests.{eq-eqb, ne-eqb, le-leb, lt-leb, leb-true, lt-ltb, le-ltb}
 use Rattle.model.specs.State.{sameQueue, isOpen}
 use Rattle.model.specs.list.Order.{unlisted, bucketNumber, bucket, rankOf}
 use Rattle.model.proofs.base.Truths.{both-true}
@@ -16,8 +16,9 @@ use Rattle.memory_layout.specs.Decode.{queueFrom, yes?}
 use Rattle.memory_layout.proofs.Numbers.{queue-number}
 use Rattle.list_rank.specs.Ranks.{Numbers, adjustmentOf, unlistedBy}
 use Rattle.list_rank.proofs.Ranking.{tests, product, taken-off, rank-none, rank-some}
-use Rattle.check_pieces.specs.Rows.{pieceFrom, rankFrom, cellsOk, Ranked}
-use Rattle.check_pieces.proofs.Joins.{or-zero, over-zero}
+use Rattle.check_pieces.specs.declared.rows.Joined.{Joined}
+use Rattle.check_pieces.specs.Rows.{pieceFrom, rankFrom, cellsOk, wrongless, joinedOk, Ranked}
+use Rattle.check_pieces.proofs.Joins.{or-zero, or-below, over-zero}
 
 -- ---- the state that a cell means
 open-test : (w : ℕ) → w ≤ 6 → isOpen (queueFrom w) ≡ eqb w 4
@@ -41,14 +42,13 @@ module _ (state flushed : ℕ) where
   not-flushed n = rw (ne-eqb flushed 1 n)
 
 -- five tests in another order
-in-order : (c s p f w : Bool) → ((((c && s) && p) && f) && w) ≡ ((s && f) && (c && (p && w)))
-in-order true true true f w = refl
-in-order true true false true w = refl
-in-order true true false false w = refl
-in-order true false p f w = refl
-in-order false true p true w = refl
-in-order false true p false w = refl
-in-order false false p f w = refl
+in-order : (c s w p f : Bool) → ((((c && s) && w) && p) && f) ≡ ((s && f) && (c && (p && w)))
+in-order true true true true f = sym (and-true f)
+in-order true true true false f = sym (and-false f)
+in-order true true false p f = sym (ap (λ (t : Bool). f && t) (and-false p) ∙ and-false f)
+in-order true false w p f = refl
+in-order false true w p f = sym (and-false f)
+in-order false false w p f = refl
 
 count-over : (seeds count : ℕ) → seeds ≤ 1000 → eqb (count - (1000 - seeds)) 0 ≡ leb (count + seeds) 1000
 count-over seeds count h = elim (decLe (count + seeds) 1000) [
@@ -66,14 +66,38 @@ by-number seeds count state priority flushed = elim (decLe state 6) [
   | no l ↦ rw (lt-leb state 6 (omega arith))
 ]
 
-pub wrong-is : (seeds count state priority flushed a b d e w : ℕ) → seeds ≤ 1000 → a ≡ count - (1000 - seeds) → b ≡ state - 6 → d ≡ priority - 7
-    → e ≡ flushed - 1 → eqb w 0 ≡ (not (eqb flushed 1) || eqb state 4)
-    → eqb (bitOr (bitOr (bitOr (bitOr a b) d) e) w) 0 ≡ cellsOk seeds count state priority flushed
-wrong-is seeds count state priority flushed a b d e w h ea eb ed ee ew =
-    or-zero (bitOr (bitOr (bitOr a b) d) e) w
-    ∙ rw (or-zero (bitOr (bitOr a b) d) e, or-zero (bitOr a b) d, or-zero a b, ea, eb, ed, ee, count-over seeds count h, over-zero state 6, over-zero priority 7, over-zero flushed 1, ew)
-    (in-order (leb (count + seeds) 1000) (leb state 6) (leb priority 7) (leb flushed 1) (not (eqb flushed 1) || eqb state 4)
-    ∙ by-number seeds count state priority flushed)
+pub wrong-is : (seeds count state flushed a b w : ℕ) → seeds ≤ 1000 → a ≡ count - (1000 - seeds) → b ≡ state - 6
+    → eqb w 0 ≡ (not (eqb flushed 1) || eqb state 4) → eqb (bitOr (bitOr a b) w) 0 ≡ wrongless seeds count state flushed
+unfolding wrongless
+wrong-is seeds count state flushed a b w h ea eb ew =
+    or-zero (bitOr a b) w ∙ rw (or-zero a b, ea, eb, count-over seeds count h, over-zero state 6, ew)
+
+-- at most so many, as the code asks it
+most-test : (x m k : ℕ) → k ≡ m + 1 → ltb x k ≡ leb x m
+most-test x m k e = elim (decLe x m) [
+  | yes l ↦ lt-ltb x k (omega arith) ∙ sym (le-leb x m l)
+  | no l ↦ le-ltb x k (omega arith) ∙ sym (lt-leb x m (omega arith))
+]
+
+-- a piece's cells, joined to those before it
+cross : (a b c d : Bool) → ((a && b) && (c && d)) ≡ ((a && c) && (b && d))
+cross true true c d = refl
+cross true false c d = sym (and-false c)
+cross false b c d = refl
+
+pub join-row : (j : Joined) (seeds count state priority flushed x : ℕ) → eqb x 0 ≡ wrongless seeds count state flushed
+    → joinedOk (record { wrong = bitOr (j .wrong) x; priorities = bitOr (j .priorities) priority; flushed = bitOr (j .flushed) flushed })
+    ≡ (joinedOk j && cellsOk seeds count state priority flushed)
+unfolding joinedOk wrongless
+join-row j seeds count state priority flushed x e =
+    let rest = ltb (j .flushed) 2 && ltb flushed 2 in
+    ap₂ _&&_ (ap₂ _&&_ (or-zero (j .wrong) x) (or-below 3 (j .priorities) priority)) (or-below 1 (j .flushed) flushed)
+    ∙ ap (λ (t : Bool). t && rest) (cross (eqb (j .wrong) 0) (eqb x 0) (ltb (j .priorities) 8) (ltb priority 8))
+    ∙ cross (eqb (j .wrong) 0 && ltb (j .priorities) 8) (eqb x 0 && ltb priority 8) (ltb (j .flushed) 2) (ltb flushed 2)
+    ∙ ap (λ (t : Bool). ((eqb (j .wrong) 0 && ltb (j .priorities) 8) && ltb (j .flushed) 2) && t)
+    (rw (e, most-test priority 7 8 refl, most-test flushed 1 2 refl)
+    (in-order (leb (count + seeds) 1000) (leb state 6) (not (eqb flushed 1) || eqb state 4) (leb priority 7) (leb flushed 1)
+    ∙ by-number seeds count state priority flushed))
 
 -- cells that pass have a rank
 pub ok-ranked : (seeds count state priority flushed : ℕ) → cellsOk seeds count state priority flushed ≡ true → Ranked count state priority

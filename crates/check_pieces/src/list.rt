@@ -7,10 +7,10 @@ use types::u16_to_u64;
 use types::u16_to_usize;
 use types::u64_to_usize;
 ghost use mathlib.Core.Path.{_≡_};
-ghost use Prim.Native.Nat.{_≤_};
+ghost use Prim.Native.Nat.{_+_, _≤_};
 ghost use lib.ListN.{length};
 ghost use Rattle.memory_layout.specs.Decode.{headWord};
-ghost use Rattle.check_pieces.specs.Rows.{rankedIn, Stepped};
+ghost use Rattle.check_pieces.specs.Rows.{rankedIn, Stepped, FourPassed, RestPassed};
 ghost use Rattle.check_pieces.specs.Parts.{HeadPassed, PlaceTest, ListTest};
 
 // How many of the first n ranks are not 0. The count has as many bits as a rank, so that many are counted at once.
@@ -50,7 +50,48 @@ fn step(ranks: &mut [u16], n: usize, last: u64, word: u64) -> u64
     rank
 }
 
-// The places one after another.
+// Four places from k on: the rank of the last one, or 0 if one fails.
+fn four(list: &[u64], n: usize, k: usize, last: u64, ranks: &mut [u16]) -> u64
+    requires { ⌜ (n ≤ 4096) × (n ≤ length (now ranks)) ⌝ }
+    requires { ⌜ (k + 4 ≤ length (now list)) × (length (now list) ≤ 4096) ⌝ }
+    requires { ⌜ 1 ≤ last ⌝ }
+    ensures { λ r. ⌜ FourPassed n (now (list .entry)) k last (now (ranks .entry)) r (now (ranks .exit)) ⌝ }
+{
+    let first = step(ranks, n, last, list[k]);
+    if first == 0 {
+        return 0;
+    }
+    let second = step(ranks, n, first, list[k + 1]);
+    if second == 0 {
+        return 0;
+    }
+    let third = step(ranks, n, second, list[k + 2]);
+    if third == 0 {
+        return 0;
+    }
+    step(ranks, n, third, list[k + 3])
+}
+
+// The places from `start` on one after another; the one before them has rank `least`.
+fn rest_ok(list: &[u64], n: usize, start: usize, many: usize, least: u64, ranks: &mut [u16]) -> bool
+    requires { ⌜ (n ≤ 4096) × (n ≤ length (now ranks)) ⌝ }
+    requires { ⌜ (start ≤ many) × (many ≤ length (now list)) × (length (now list) ≤ 4096) ⌝ }
+    requires { ⌜ 1 ≤ least ⌝ }
+    ensures { λ r. ⌜ RestPassed n (now (list .entry)) start many least (now (ranks .entry)) r ⌝ }
+{
+    let mut last = least;
+    let mut k = start;
+    while k < many {
+        last = step(ranks, n, last, list[k]);
+        if last == 0 {
+            return false;
+        }
+        k += 1;
+    }
+    true
+}
+
+// The places, four a turn as far as that goes.
 fn places_ok(words: &[u64], s: Shape, many: usize, ranks: &mut [u16]) -> bool
     requires { ⌜ (HeadPassed s (now words)) × (many ≡ headWord (now words) 6) ⌝ }
     requires { ⌜ s .pieces ≤ length (now ranks) ⌝ }
@@ -60,14 +101,14 @@ fn places_ok(words: &[u64], s: Shape, many: usize, ranks: &mut [u16]) -> bool
     let n = s.pieces;
     let mut last: u64 = 1;
     let mut k = 0;
-    while k < many {
-        last = step(ranks, n, last, list[k]);
+    while k + 4 <= many {
+        last = four(list, n, k, last, ranks);
         if last == 0 {
             return false;
         }
-        k += 1;
+        k += 4;
     }
-    true
+    rest_ok(list, n, k, many, last, ranks)
 }
 
 // The ranks do not last: what was passed is 0.

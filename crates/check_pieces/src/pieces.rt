@@ -1,7 +1,9 @@
 // The test of all pieces in one pass, which also fills in their ranks.
 use crate::pads::pads_ok;
+use crate::rows::Joined;
+use crate::rows::join;
+use crate::rows::joined_ok;
 use crate::rows::rank_in;
-use crate::rows::wrong_in;
 use geometry::piece_length;
 use memory_layout::Shape;
 use memory_layout::head_word;
@@ -30,18 +32,22 @@ fn rows_pass(
     ensures { λ r. ⌜ Passed (rowIn seeds (now (counts .entry)) (now (states .entry)) (now (priorities .entry)) (now (flushed .entry))) (rankIn seeds (now (counts .entry)) (now (states .entry)) (now (priorities .entry)) (now (flushed .entry))) (length (now (counts .entry))) r (now (ranks .exit)) ⌝ }
 {
     let n = counts.len();
-    let mut wrong: u16 = 0;
+    let mut sum = Joined {
+        wrong: 0,
+        priorities: 0,
+        flushed: 0,
+    };
     let mut i = 0;
     while i < n {
         let count = counts[i];
         let state = states[i];
         let priority = priorities[i];
         let flush = flushed[i];
-        wrong = wrong | wrong_in(seeds, count, state, priority, flush);
+        sum = join(sum, seeds, count, state, priority, flush);
         ranks[i] = rank_in(seeds, count, state, priority, flush);
         i += 1;
     }
-    wrong == 0
+    joined_ok(sum)
 }
 
 // Where it passes, the first ranks are those of the pieces; nothing is said of the others. Only the last piece may be shorter than the

@@ -1,9 +1,9 @@
 -- `check_pieces::rows_pass` meets its contract. The loop's invariant: what is joined and what is left decide, and rows that pass have ranks.
-use mathlib.Core.Path.{sym, _∙_}
+use mathlib.Core.Path.{refl}
 use Prim.Native.Nat.{_-_}
 use native.Mathlib.Omega.{arith}
 use lib.ListN.{length}
-use Rattle.check_pieces.specs.Rows.{rowIn, rankIn}
+use Rattle.check_pieces.specs.Rows.{rowIn, rankIn, joinedOk}
 use Rattle.check_pieces.proofs.RowLaws.{ok-ranked}
 use Rattle.check_pieces.proofs.Passes.{Passing, passing-start, row-passed, rows-end}
 use borrow.Author.Needs.{needs}
@@ -11,13 +11,16 @@ use Rattle.check_pieces.proofs.pieces.rows_pass.Statement.{statement}
 use Rattle.check_pieces.proofs.pieces.rows_pass.Tie as tie
 
 abbrev Inv-loop : tie.InvT-loop
-Inv-loop counts states priorities flushed seeds ranks₀ n wrong₀ i₀ ranks wrong i = Passing (rowIn seeds counts states priorities flushed) (rankIn seeds counts states priorities flushed) (length counts) (length ranks₀) ranks wrong i
+Inv-loop counts states priorities flushed seeds ranks₀ n sum₀ i₀ ranks sum i =
+    Passing (rowIn seeds counts states priorities flushed) (rankIn seeds counts states priorities flushed) (length counts) (length ranks₀)
+    ranks (joinedOk sum) i
 
 abbrev μ-loop : tie.MeasureT-loop
-μ-loop counts states priorities flushed seeds ranks₀ n wrong₀ i₀ ranks wrong i = n - i
+μ-loop counts states priorities flushed seeds ranks₀ n sum₀ i₀ ranks sum i = n - i
 
 loop-holds : tie.Need-loop-holds Inv-loop μ-loop
-loop-holds c = passing-start _ _ _ _ (c .before .before .before .before .before .pre .1 .1)
+unfolding joinedOk
+loop-holds c = passing-start _ _ _ _ (c .before .before .before .before .before .pre .1 .1) _ refl
 
 mul-count : tie.Need-mul-count Inv-loop μ-loop
 mul-count c = search needs
@@ -43,8 +46,8 @@ mul-flush c = search needs
 shared-slice-read-flush : tie.Need-shared-slice-read-flush Inv-loop μ-loop
 shared-slice-read-flush c = search needs
 
-wrong-in-requires : tie.Need-wrong-in-requires Inv-loop μ-loop
-wrong-in-requires c κs = c .before .before .before .before .before .before .before .before .before .before .before .pre .1 .0
+join-requires : tie.Need-join-requires Inv-loop μ-loop
+join-requires c κs = c .before .before .before .before .before .before .before .before .before .before .before .pre .1 .0
 
 rank-in-requires : tie.Need-rank-in-requires Inv-loop μ-loop
 rank-in-requires c κs = search needs
@@ -64,14 +67,20 @@ loop-less c = search needs
 loop-again : tie.Need-loop-again Inv-loop μ-loop
 unfolding rowIn rankIn
 loop-again c =
-    row-passed _ _ _ _ _ (c .before .before .before .before .before .before .before .loop .wrong) (c .before .before .before .before .before .before .before .loop .i) (c .before .before .before .before .before .before .before .loop .inv) (omega arith) (c .before .wrong-in .result) (c .rank-in .result) (c .before .wrong-in .ensures)
-    (λ t. c .rank-in .ensures (ok-ranked _ _ _ _ _ t))
+    row-passed _ _ _ _ _ (joinedOk (c .before .before .before .before .before .before .before .loop .sum)) (c .before .before .before .before .before .before .before .loop .i)
+    (c .before .before .before .before .before .before .before .loop .inv) (omega arith) (joinedOk (c .before .join .result)) (c .rank-in .result)
+    (c .before .join .ensures) (λ t. c .rank-in .ensures (ok-ranked _ _ _ _ _ t))
+
+joined-ok-requires : tie.Need-joined-ok-requires Inv-loop μ-loop
+joined-ok-requires c κs = search needs
 
 same-length : tie.Need-same-length Inv-loop μ-loop
 same-length c = search needs
 
 returns : tie.Need-returns Inv-loop μ-loop
-returns c = rows-end _ _ _ _ _ (c .before .loop .wrong) (c .before .loop .i) (c .before .loop .inv) (omega arith)
+returns c =
+    rows-end _ _ _ _ _ (joinedOk (c .before .before .loop .sum)) (c .before .before .loop .i) (c .before .before .loop .inv) (omega arith) _
+    (c .joined-ok .ensures)
 
 pub rows-pass-spec : {M : Type 1} → statement M
 rows-pass-spec =
@@ -88,12 +97,13 @@ rows-pass-spec =
     shared-slice-read-priority
     mul-flush
     shared-slice-read-flush
-    wrong-in-requires
+    join-requires
     rank-in-requires
     mul-ranks
     slice-write-ranks
     add-i
     loop-less
     loop-again
+    joined-ok-requires
     same-length
     returns)

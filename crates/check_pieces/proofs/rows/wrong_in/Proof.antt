@@ -1,4 +1,4 @@
--- `check_pieces::wrong_in` meets its contract: what is joined is 0 exactly where each part is.
+-- `check_pieces::wrong_in` meets its contract: what is joined is 0 exactly where each part is. Assumes nothing.
 use Rattle.check_pieces.proofs.RowLaws.{wrong-is}
 use borrow.Author.Needs.{needs}
 use Rattle.check_pieces.proofs.rows.wrong_in.Statement.{statement}
@@ -13,28 +13,13 @@ over-requires c κs = search needs
 over-requires-2 : tie.Need-over-requires-2
 over-requires-2 c κs = search needs
 
-over-requires-3 : tie.Need-over-requires-3
-over-requires-3 c κs = search needs
-
-over-requires-4 : tie.Need-over-requires-4
-over-requires-4 c κs = search needs
-
 flushed-at-work-requires : tie.Need-flushed-at-work-requires
 flushed-at-work-requires c κs = search needs
 
 returns : tie.Need-returns
 returns c =
-    wrong-is _ _ _ _ _ _ _ _ _ _ (c .before .before .before .before .before .pre) (c .before .before .before .before .over .ensures) (c .before .before .before .over2 .ensures) (c .before .before .over3 .ensures)
-    (c .before .over4 .ensures) (c .flushed-at-work .ensures)
+    wrong-is _ _ _ _ _ _ _ (c .before .before .before .pre) (c .before .before .over .ensures) (c .before .over2 .ensures) (c .flushed-at-work .ensures)
 
 pub wrong-in-spec : {M : Type 1} → statement M
 wrong-in-spec =
-    tie.close
-    (tie.spec
-    sub-limit
-    over-requires
-    over-requires-2
-    over-requires-3
-    over-requires-4
-    flushed-at-work-requires
-    returns)
+    tie.close (tie.spec sub-limit over-requires over-requires-2 flushed-at-work-requires returns)

@@ -1,1 +1,0 @@
--- The fields of a piece have no definitions of their own.

@@ -1,4 +1,0 @@
-pub mod SlotLaws
-pub mod ShiftLaws
-pub mod FreshLaws
-pub mod ModelLaws

@@ -1,9 +1,0 @@
-pub mod HeadLaws
-pub mod RowLaws
-pub mod PieceTests
-pub mod WeightLaws
-pub mod Passes
-pub mod Tails
-pub mod ExtentTests
-pub mod OrderTests
-pub mod Bounds
