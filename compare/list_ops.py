@@ -1,24 +1,26 @@
 """`python3 -m compare.list_ops COUNT SEED`: pickers led through list operations, for a program that runs the proved code beside.
 
 Oracle and reference go through the same calls and are compared after each. Each call changes the list once: a peer more or less, another
-wish of an Open piece, the rebuild of a stale list by a pick; or it makes the list stale: a whole-copy peer more or less. A line for
+wish of an Open piece, the rebuild of a dirty list by a pick; or it makes the list dirty: a whole-copy peer more or less. A line for
 each, words parted by spaces, lists by commas (`-` for none):
 
-    start WORDS QUEUE QUEUE QUEUE QUEUE
+    start WORDS CELLS PARTIALS QUEUE QUEUE QUEUE QUEUE
     update PIECE USED SEEDS PIECES DRAWS AFTER
-    stale
+    dirty
     rebuild USED SEEDS PIECES DRAWS AFTER
 
-WORDS are a memory in which the picker stands, a QUEUE the places of its partials among all partials; PIECES all pieces after the call, each as count.state.wish.had; DRAWS the words lent, USED
-how many were used; AFTER is the list."""
+In WORDS, CELLS and PARTIALS, three numbers to a record, the picker stands; a QUEUE is the places of its partials among all partials.
+PIECES are all pieces after the call, each as count.state.wish.had; DRAWS the words lent, USED how many were used; AFTER is the list, a
+word of rank and piece each."""
 import argparse
 import random
 import sys
 
+from compare.buffers import RANK_UNIT, laid_out
 from compare.lists import Limits, Step, follow, led
-from compare.one_buffer import encode
 from compare.run import Figures, Mismatch, compare
 from compare.states import a_picker, huge_geometry, small_geometry, wide_geometry
+from reference.bucket import bucket_at
 from reference.calls import Seeded
 from reference.image import image
 from reference.partials import NUM_QUEUES, in_queue
@@ -34,7 +36,7 @@ def a_geometry(rng):
 
 
 def a_call(rng, s):
-    """A call that changes the list once, makes it anew or makes it stale, and the piece it is about."""
+    """A call that changes the list once, makes it anew or makes it dirty, and the piece it is about."""
     n, kind = len(s.pieces), rng.random()
     if s.stale and kind < 0.7:
         return f"pick_pieces 1 1 0 1000 - {n} {bytes(-(-n // 8)).hex()} -", None
@@ -59,22 +61,26 @@ def pieces(s):
     return f"{s.seeds} " + shown(f"{p.count}.{p.state}.{p.wish}.{int(p.had)}" for p in s.pieces)
 
 
+def list_words(s):
+    return shown((bucket_at(s, i) + 1) * RANK_UNIT + i for i in s.order)
+
+
 def operation(before, after, i, used, draws):
-    """The line of a call that led from one state to the other, or None where it left the list as it was, or stale."""
+    """The line of a call that led from one state to the other, or None where it left the list as it was, or dirty."""
     if after.stale:
-        return None if before.stale else "stale"
+        return None if before.stale else "dirty"
     if i is None and not before.stale:
         return None
     words = shown(draws[k] for k in range(used if before.stale else SHOWN_DRAWS))
     what = "rebuild" if before.stale else f"update {i}"
-    return f"{what} {used} {pieces(after)} {words} {shown(after.order)}"
+    return f"{what} {used} {pieces(after)} {words} {list_words(after)}"
 
 
 def lead(rng):
     """A picker led through calls: the steps, and the lines of its list operations."""
     s = a_picker(rng, *a_geometry(rng))
     steps = follow(["zero", f"read {image(s).hex()}"])
-    lines = [" ".join(["start", shown(encode(rng, s)), *(shown(places(s, q)) for q in range(NUM_QUEUES))])]
+    lines = [" ".join(["start", *map(shown, laid_out(rng, s)), *(shown(places(s, q)) for q in range(NUM_QUEUES))])]
     for _ in range(LENGTH):
         call, i = a_call(rng, s)
         seed = rng.getrandbits(32)

@@ -1,10 +1,11 @@
-//! Times the proved list operations against the Rust's: the rebuild of a stale list, a piece added, its rank changed, a piece removed.
-//! `harness/bench` builds and runs it. A line for each size and spread of counts: microseconds here, and the ratio to the Rust.
+//! Times the proved list operations on a picker in lent buffers against the Rust's: the rebuild of a dirty list, a piece added, its rank
+//! changed, a piece removed. `harness/bench` builds and runs it. A line for each size and spread of counts: microseconds here, and the
+//! ratio to the Rust.
 
 mod list_operations;
 
 use bitdaemon_common::{Bitfield, DownloadPriority, PieceIndex};
-use list_operations::{rank, update_pieces, update};
+use list_operations::{geometry, rank, update, update_pieces, Geometry};
 use picker_rs::{NullPickerStats, PickerOptions, PiecePicker};
 use std::hint::black_box;
 use std::time::Instant;
@@ -12,46 +13,12 @@ use std::time::Instant;
 const ROUNDS: usize = 400;
 
 /// The counts of n pieces, spread from 1 to `most`.
-fn counts(n: usize, most: usize) -> Vec<u64> {
-    (0..n).map(|i| 1 + (i * 547 % most) as u64).collect()
-}
-
-fn best(mut f: impl FnMut() -> f64) -> f64 {
-    (0..ROUNDS).map(|_| f()).fold(f64::MAX, f64::min)
+fn counts(n: usize, most: usize) -> Vec<u16> {
+    (0..n).map(|i| 1 + (i * 547 % most) as u16).collect()
 }
 
 fn since(start: Instant) -> f64 {
     start.elapsed().as_secs_f64() * 1e6
-}
-
-/// A pick that finds nothing: with a stale list it rebuilds it first.
-fn empty_pick(p: &mut PiecePicker, none: &Bitfield) -> f64 {
-    let start = Instant::now();
-    let mut out = Vec::new();
-    p.pick_pieces(none, &mut out, 1, 0, None, PickerOptions::RAREST_FIRST, &[], 1000, &mut NullPickerStats);
-    black_box(&out);
-    since(start)
-}
-
-fn rust_picker(counts: &[u64]) -> PiecePicker {
-    let mut p = PiecePicker::new(counts.len() as i64 * 16384, 16384);
-    for (i, c) in counts.iter().enumerate() {
-        for _ in 0..*c {
-            p.inc_refcount(PieceIndex(i as i32));
-        }
-    }
-    p
-}
-
-fn rust_rebuild(counts: &[u64]) -> f64 {
-    let mut p = rust_picker(counts);
-    let none = Bitfield::with_size(counts.len());
-    let stale = best(|| {
-        p.inc_refcount_all();
-        p.dec_refcount_all();
-        empty_pick(&mut p, &none)
-    });
-    stale - best(|| empty_pick(&mut p, &none))
 }
 
 /// A piece added, its count changed by one, a piece removed: so many microseconds each, on average over the pieces of a round.
@@ -70,78 +37,115 @@ fn each(pieces: &[usize], mut f: impl FnMut(usize)) -> f64 {
     since(start) / pieces.len() as f64
 }
 
-fn best_moves(mut round: impl FnMut() -> Moves) -> Moves {
-    (0..ROUNDS).fold([f64::MAX; 3], |low, _| {
-        let now = round();
-        std::array::from_fn(|k| low[k].min(now[k]))
-    })
+fn least<const N: usize>(a: [f64; N], b: [f64; N]) -> [f64; N] {
+    std::array::from_fn(|k| a[k].min(b[k]))
 }
 
-fn rust_moves(counts: &[u64]) -> Moves {
-    let mut p = rust_picker(counts);
-    empty_pick(&mut p, &Bitfield::with_size(counts.len()));
-    let pieces = spread(counts.len());
-    let piece = |i: usize| PieceIndex(i as i32);
-    best_moves(|| {
-        let up = each(&pieces, |i| p.inc_refcount(piece(i)));
-        let down = each(&pieces, |i| p.dec_refcount(piece(i)));
-        let remove = each(&pieces, |i| { black_box(p.set_piece_priority(piece(i), DownloadPriority::DONT_DOWNLOAD)); });
-        let add = each(&pieces, |i| { black_box(p.set_piece_priority(piece(i), DownloadPriority::DEFAULT)); });
-        [add, (up + down) / 2.0, remove]
-    })
-}
-
-/// A picker of one block a piece in lent memory, its list stale: 16 words of head, then count, state, wish, had, pad and list of each piece.
-fn memory(counts: &[u64]) -> Vec<u64> {
-    let (n, places) = (counts.len(), counts.len().min(512));
-    let mut mem = vec![0; 16 + 6 * n + 7 * places];
-    mem[..6].copy_from_slice(&[n as u64 * 16384, 16384, 0, 0, n as u64, 1]);
-    mem[16..16 + n].copy_from_slice(counts);
-    mem[16 + n..16 + 3 * n].fill(4);
-    for k in 0..places {
-        mem[16 + 6 * n + 2 * places + k] = k as u64;
+// ---- the Rust
+fn rust_picker(counts: &[u16]) -> PiecePicker {
+    let mut p = PiecePicker::new(counts.len() as i64 * 16384, 16384);
+    for (i, c) in counts.iter().enumerate() {
+        for _ in 0..*c {
+            p.inc_refcount(PieceIndex(i as i32));
+        }
     }
-    mem
+    p
 }
 
-fn our_rebuild(counts: &[u64], draws: &[u32]) -> f64 {
-    let mut mem = memory(counts);
-    best(|| {
-        mem[5..7].copy_from_slice(&[1, 0]);
+/// A pick that finds nothing: of a dirty list it rebuilds it first.
+fn empty_pick(p: &mut PiecePicker, none: &Bitfield) -> f64 {
+    let start = Instant::now();
+    let mut out = Vec::new();
+    p.pick_pieces(none, &mut out, 1, 0, None, PickerOptions::RAREST_FIRST, &[], 1000, &mut NullPickerStats);
+    black_box(&out);
+    since(start)
+}
+
+/// A pick with a dirty list, and one without.
+fn rust_picks(p: &mut PiecePicker, none: &Bitfield) -> [f64; 2] {
+    p.inc_refcount_all();
+    p.dec_refcount_all();
+    [empty_pick(p, none), empty_pick(p, none)]
+}
+
+fn rust_moves(p: &mut PiecePicker, pieces: &[usize]) -> Moves {
+    let piece = |i: usize| PieceIndex(i as i32);
+    let up = each(pieces, |i| p.inc_refcount(piece(i)));
+    let down = each(pieces, |i| p.dec_refcount(piece(i)));
+    let remove = each(pieces, |i| { black_box(p.set_piece_priority(piece(i), DownloadPriority::DONT_DOWNLOAD)); });
+    let add = each(pieces, |i| { black_box(p.set_piece_priority(piece(i), DownloadPriority::DEFAULT)); });
+    [add, (up + down) / 2.0, remove]
+}
+
+// ---- the proved code
+/// A picker of one block a piece in lent buffers, its list dirty, and draws, the next of which has a number. Words: 16 of the head, pad
+/// bytes, list and peers; cells: count, state, priority and flushed of each piece, then its blocks.
+struct Memory {
+    words: Vec<u64>,
+    cells: Vec<u16>,
+    geometry: Geometry,
+    draws: Vec<u32>,
+    next: usize,
+}
+
+impl Memory {
+    fn new(counts: &[u16]) -> Memory {
+        let (n, places) = (counts.len(), counts.len().min(512));
+        let (mut words, mut cells) = (vec![0; 16 + 2 * n + places], vec![0; 4 * n + 3 * places]);
+        words[..6].copy_from_slice(&[n as u64 * 16384, 16384, 0, 0, n as u64, 1]);
+        cells[..n].copy_from_slice(counts);
+        cells[n..3 * n].fill(4);
+        let draws = (0..4352u32).map(|i| i.wrapping_mul(2654435761)).collect();
+        Memory { geometry: geometry(&words), words, cells, draws, next: 0 }
+    }
+
+    fn rebuild(&mut self) -> [f64; 1] {
+        self.words[5..7].copy_from_slice(&[1, 0]);
         let start = Instant::now();
-        black_box(update_pieces(&mut mem, draws));
-        since(start)
-    })
+        black_box(update_pieces(&mut self.words, &self.cells, self.geometry, &self.draws));
+        [since(start)]
+    }
+
+    /// A cell of piece i changed, and the list mended.
+    fn set(&mut self, field: usize, i: usize, to: u16) {
+        let g = self.geometry;
+        let old = rank(&self.words, &self.cells, g, i);
+        self.cells[field * g.pieces + i] = to;
+        let used = update(&mut self.words, &self.cells, g, i, old, &self.draws[self.next..]);
+        self.next = if self.next + used < self.draws.len() { self.next + used } else { 0 };
+    }
+
+    fn moves(&mut self, counts: &[u16], pieces: &[usize]) -> Moves {
+        let up = each(pieces, |i| self.set(0, i, counts[i] + 1));
+        let down = each(pieces, |i| self.set(0, i, counts[i]));
+        let remove = each(pieces, |i| self.set(2, i, 0));
+        let add = each(pieces, |i| self.set(2, i, 4));
+        [add, (up + down) / 2.0, remove]
+    }
 }
 
-fn our_moves(counts: &[u64], draws: &[u32]) -> Moves {
-    let mut mem = memory(counts);
-    update_pieces(&mut mem, draws);
-    let pieces = spread(counts.len());
-    let mut set = |field: usize, i: usize, to: u64| {
-        let old = rank(&mem, i);
-        mem[16 + field * counts.len() + i] = to;
-        update(&mut mem, i, old, draws);
-    };
-    best_moves(|| {
-        let up = each(&pieces, |i| set(0, i, counts[i] + 1));
-        let down = each(&pieces, |i| set(0, i, counts[i]));
-        let remove = each(&pieces, |i| set(2, i, 0));
-        let add = each(&pieces, |i| set(2, i, 4));
-        [add, (up + down) / 2.0, remove]
-    })
+/// The least of all rounds, the two in turns.
+fn row(n: usize, most: usize) {
+    let (counts, pieces, none) = (counts(n, most), spread(n), Bitfield::with_size(n));
+    let (mut p, mut memory) = (rust_picker(&counts), Memory::new(&counts));
+    let (mut picks, mut rebuild) = ([f64::MAX; 2], [f64::MAX; 1]);
+    let (mut theirs, mut ours) = ([f64::MAX; 3], [f64::MAX; 3]);
+    for _ in 0..ROUNDS {
+        picks = least(picks, rust_picks(&mut p, &none));
+        rebuild = least(rebuild, memory.rebuild());
+        theirs = least(theirs, rust_moves(&mut p, &pieces));
+        ours = least(ours, memory.moves(&counts, &pieces));
+    }
+    print!("{n:6} {most:11} {:13.2} {:12.2}", rebuild[0], rebuild[0] / (picks[0] - picks[1]));
+    for k in 0..3 {
+        print!(" {:8.3} {:6.2}", ours[k], ours[k] / theirs[k]);
+    }
+    println!();
 }
 
 fn main() {
-    let draws: Vec<u32> = (0..4352u32).map(|i| i.wrapping_mul(2654435761)).collect();
     println!("pieces   counts to    rebuild µs, to the Rust        add           update         remove");
     for (n, most) in [(64, 23), (1024, 23), (4096, 23), (64, 900), (1024, 900), (4096, 900)] {
-        let counts = counts(n, most);
-        let rebuild = our_rebuild(&counts, &draws);
-        print!("{n:6} {most:11} {rebuild:13.2} {:12.2}", rebuild / rust_rebuild(&counts));
-        for (ours, theirs) in our_moves(&counts, &draws).into_iter().zip(rust_moves(&counts)) {
-            print!(" {ours:8.2} {:6.2}", ours / theirs);
-        }
-        println!();
+        row(n, most);
     }
 }
