@@ -1,13 +1,14 @@
 """`python3 -m compare.memory COUNT SEED`: memories, whole and damaged, and whether a well-formed picker stands in them.
 
-The words are laid out as docs/MEMORY.md has them; which slot has which place, and unused words, are random. Whether a picker stands there is judged by writing
-the words as an image and reading that. A line for each: 1 or 0, then the words, parted by spaces; `end` is the last line."""
+The words are laid out as crates/layout/specs/Layout.antt has them; which slot has which place, and unused words, are random. Whether a
+picker stands there is judged by writing the words as an image and reading that. A line for each: 1 or 0, then the words, parted by
+spaces; `end` is the last line."""
 import argparse
 import random
 import sys
 
 from compare.states import a_picker, small_geometry, wide_geometry
-from reference.geometry import HEAD_WORDS, blocks_of, length_of_piece, pieces_of, valid_geometry, words_needed
+from reference.geometry import HEAD_WORDS, blocks_of, length_of_piece, pieces_of, valid_geometry
 from reference.image import BLOCK, EXTENT, HEAD, PARTIAL, PIECE, PLACE, Fault, read, record
 from reference.state import MAX_EXTENTS, MAX_PARTIALS
 
@@ -21,7 +22,7 @@ class Shape:
     def __init__(self, total, size):
         self.n, self.b = pieces_of(total, size), blocks_of(size, size)
         self.m = min(self.n, MAX_PARTIALS)
-        self.need = words_needed(self.n, self.b)
+        self.need = HEAD_WORDS + 6 * self.n + self.m * (3 + 4 * self.b)
 
     def piece(self, f, i):
         return HEAD_WORDS + f * self.n + i

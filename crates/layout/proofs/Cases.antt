@@ -10,7 +10,7 @@ use Rattle.types.specs.declared.block.BlockState.the-variants.{Requested}
 use Rattle.model.specs.Lists.{least, nth}
 use Rattle.model.specs.Bep3.{partsOf, partLength, numPieces, pieceLength, blockLength, blockCount, wholePieceBlocks, pieceBlocks, bitOf}
 use Rattle.model.specs.State.{Picker, fresh, validGeometry}
-use Rattle.model.specs.Calls.{wordsNeeded}
+use Rattle.layout.specs.Needs.{wordsNeeded}
 use Rattle.layout.specs.declared.spots.Shape.{Shape}
 use Rattle.layout.specs.Tables.{tab}
 use Rattle.layout.specs.Layout.{cell, placesFor, pieceSpot, partialSpot, blockSpot, headWord, pieceWord, partialWord, blockWord}

@@ -7,7 +7,7 @@ use native.Mathlib.Omega.{arith}
 use lib.ListN.{getD, set}
 use lib.Seq.{getD-set-same, getD-set-other}
 use lib.ListN.{length}
-use Rattle.model.specs.Calls.{wordsNeeded}
+use Rattle.layout.specs.Needs.{wordsNeeded}
 use Rattle.layout.specs.Layout.{placesFor, pieceSpot, partialSpot, blockSpot, headWord, pieceWord, partialWord, blockWord}
 use Rattle.layout.specs.Frames.{SameHead, SamePieces, SamePartials, SameBlocks, SameBeyond}
 use Rattle.layout.proofs.SpotLaws.{piece-from, piece-below, partial-from, partial-below, block-from}

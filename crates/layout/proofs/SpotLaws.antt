@@ -8,7 +8,7 @@ use lib.Arith.{digits-lt, digits-div, digits-mod}
 use borrow.Author.Tests.{le-leb, lt-leb}
 use Rattle.model.specs.Lists.{least}
 use Rattle.model.specs.State.{maxPartials}
-use Rattle.model.specs.Calls.{wordsNeeded}
+use Rattle.layout.specs.Needs.{wordsNeeded}
 use lib.ListN.{length}
 use mathlib.Core.List.{List}
 use Rattle.layout.specs.declared.spots.Shape.{Shape}

@@ -6,7 +6,7 @@ use mathlib.Core.List.{List}
 use Prim.Native.Nat.{ℕ, _≤_, _<_}
 use lib.ListN.{length, getD}
 use Rattle.model.specs.State.{Block}
-use Rattle.model.specs.Calls.{wordsNeeded}
+use Rattle.layout.specs.Needs.{wordsNeeded}
 use Rattle.layout.specs.declared.spots.Shape.{Shape}
 use Rattle.layout.specs.Layout.{placesFor, headWord, pieceWord, partialWord, blockWord, blockHeld}
 

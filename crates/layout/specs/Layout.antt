@@ -19,7 +19,7 @@ use Rattle.model.specs.Lists.{least, nth, setNth}
 use Rattle.model.specs.Bep3.{numPieces, wholePieceBlocks, pieceBlocks, bitOf}
 use Rattle.model.specs.State.{Piece, Block, DownloadingPiece, Listing, dirty, fresh, Picker, maxPartials, validGeometry, withBlocks}
 use Rattle.model.specs.State.{withPartials}
-use Rattle.model.specs.Calls.{wordsNeeded}
+use Rattle.layout.specs.Needs.{wordsNeeded}
 use Rattle.layout.specs.declared.spots.Shape.{Shape}
 use Rattle.layout.specs.Tables.{tab, choose}
 

@@ -1,3 +1,4 @@
+pub mod Needs
 pub mod Tables
 pub mod Layout
 pub mod Frames

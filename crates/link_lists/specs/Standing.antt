@@ -7,7 +7,7 @@ use lib.ListN.{length, getD}
 use Rattle.model.specs.State.{validGeometry}
 use Rattle.layout.specs.declared.spots.Shape.{Shape}
 use Rattle.model.specs.list.Order.{Drawing}
-use Rattle.model.specs.Calls.{wordsNeeded}
+use Rattle.layout.specs.Needs.{wordsNeeded}
 use Rattle.layout.specs.Layout.{headWord, piecesOn, blocksOn, decode, ShapeOf, Room}
 use Rattle.listing.specs.Listings.{Ranges}
 

@@ -11,7 +11,7 @@ use Rattle.model.specs.Bep3.{pieceBlocks}
 use Rattle.model.specs.State.{validGeometry}
 use Rattle.model.specs.list.Order.{rank}
 use Rattle.model.specs.image.WellFormed.{headOk, piecesOk, partialsOk, extentsOk, listingOk}
-use Rattle.model.specs.Calls.{wordsNeeded}
+use Rattle.layout.specs.Needs.{wordsNeeded}
 use Rattle.layout.specs.Tables.{tab}
 use Rattle.layout.specs.Layout.{headWord, pieceWord, partialWord, blockWord, placesFor, piecesOn, blocksOn, decode}
 

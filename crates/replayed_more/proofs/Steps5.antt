@@ -1,334 +1,510 @@
--- Recorded calls 1205 to 4904, those that are replayed, computed. Written by compare/steps.py: not to be edited.
+-- Recorded calls 1172 to 4605, those that are replayed, computed. Written by compare/steps.py: not to be edited.
 use mathlib.Core.Path.{_≡_, refl}
 use mathlib.Core.Bool.{true, false}
 use Prim.Native.Nat.{ℕ}
 use mathlib.Core.List.{List, [], _∷_}
 use mathlib.Core.Option.{none, some}
 use Rattle.model.specs.Calls.{abort-download, dec-refcount, dec-refcount-all, done, inc-refcount, inc-refcount-all, lock-piece, mark-as-canceled, mark-as-downloading, mark-as-finished, mark-as-writing, pick-pieces, picked, piece-passed, question, refused, replied, said, set-piece-priority}
-use Rattle.model.specs.ask.Questions.{block-num-peers, block-size, block-state, blocks-for-piece, distributed-copies, get-availability, get-availability-vec, get-download-queue, get-download-queue-sizes, get-downloader, get-downloaders, hashing?, is-downloaded, is-finished-block, is-requested, list-place, listOfPicker, listOfPiece, locked?, nothing, num-peers-block, numbers, ofBlock, ofPicker, ofPiece, pad-bytes-in-piece, partial-at, passed-hash-check, payload-blocks-in-piece, peer-count, piece-info, piece-priorities, piece-priority, piece-size, recent-extent, reverse-cursor?, staleList, total-size, want}
+use Rattle.model.specs.ask.Questions.{block-num-peers, block-peer, blocks-for-piece, blocks-in-piece, blocks-per-piece, download-state, get-availability, get-download-queue, get-downloader, get-downloaders, hashing?, have-piece, is-downloaded, is-downloading, is-piece-finished, is-piece-flushed, is-requested, list-place, listOfPicker, listOfPiece, locked?, nothing, num-peers-block, numbers, ofBlock, ofPicker, ofPiece, partial-at, passed-hash-check, payload-blocks-in-piece, peer-count, piece-info, piece-priorities, piece-size, piece-stats, recent-extent, staleList, total-size}
 use Rattle.model.specs.pick.Blocks.{pieceBlock}
 use Rattle.replayed.proofs.Replaying.{replaying}
-use Rattle.replayed.specs.Replay.{answered, asking, bytesTaken, call-line, image-line, new-line, notDone, outcome, outcomes, read-line, stands, words}
-use Rattle.types.specs.declared.refusal.Refusal.the-variants.{FewDraws, Geometry, HavePiece, NoPeerToTake, NotWriting, OutOfRange, PickArguments, ShortMemory, ShortOutput, TooManyPeers}
+use Rattle.replayed.specs.Replay.{answered, asking, bytesTaken, call-line, image-line, lending, new-line, notDone, outcome, outcomes, plenty, read-line, stands, words}
+use Rattle.types.specs.declared.refusal.Refusal.the-variants.{FewDraws, Geometry, HavePiece, NoPeerToTake, NotWriting, OutOfRange, PickArguments, ShortMemory, ShortOutput}
 
-abbrev image-1205 : List ℕ
-image-1205 =
-    1 ∷ 0 ∷ 0 ∷ 0 ∷ 0 ∷ 0 ∷ 0 ∷ 214 ∷ 238 ∷ 0 ∷ 0 ∷ 128 ∷ 0 ∷ 0 ∷ 0 ∷ 0 ∷ 0 ∷ 0 ∷ 0 ∷ 0 ∷ 0 ∷ 0 ∷ 2 ∷ 1 ∷
-    2 ∷ 0 ∷ 0 ∷ 4 ∷ 4 ∷ 0 ∷ 0 ∷ 0 ∷ 0 ∷ 0 ∷
-    2 ∷ 0 ∷ 0 ∷ 4 ∷ 4 ∷ 0 ∷ 0 ∷ 0 ∷ 0 ∷ 0 ∷ []
+abbrev image-1172 : List ℕ
+image-1172 =
+    1 ∷ 0 ∷ 0 ∷ 0 ∷ 0 ∷ 0 ∷ 0 ∷ 64 ∷ 0 ∷ 0 ∷ 0 ∷ 64 ∷ 0 ∷ 0 ∷ 0 ∷ 0 ∷ 0 ∷ 0 ∷ 0 ∷ 0 ∷ 0 ∷ 0 ∷ 0 ∷ 1 ∷
+    2 ∷ 0 ∷ 0 ∷ 4 ∷ 7 ∷ 0 ∷ 0 ∷ 0 ∷ 64 ∷ 0 ∷ []
 
-abbrev image-1206 : List ℕ
-image-1206 =
-    1 ∷ 0 ∷ 0 ∷ 0 ∷ 0 ∷ 0 ∷ 0 ∷ 214 ∷ 238 ∷ 0 ∷ 0 ∷ 128 ∷ 0 ∷ 0 ∷ 0 ∷ 0 ∷ 0 ∷ 0 ∷ 0 ∷ 0 ∷ 0 ∷ 0 ∷ 2 ∷ 1 ∷
-    2 ∷ 0 ∷ 0 ∷ 0 ∷ 4 ∷ 0 ∷ 0 ∷ 0 ∷ 0 ∷ 0 ∷
-    2 ∷ 0 ∷ 0 ∷ 4 ∷ 4 ∷ 0 ∷ 0 ∷ 0 ∷ 0 ∷ 0 ∷
+abbrev image-1175 : List ℕ
+image-1175 =
+    1 ∷ 0 ∷ 0 ∷ 0 ∷ 0 ∷ 0 ∷ 0 ∷ 64 ∷ 0 ∷ 0 ∷ 0 ∷ 64 ∷ 0 ∷ 0 ∷ 0 ∷ 0 ∷ 0 ∷ 0 ∷ 0 ∷ 0 ∷ 0 ∷ 0 ∷ 0 ∷ 1 ∷
+    2 ∷ 0 ∷ 0 ∷ 2 ∷ 7 ∷ 0 ∷ 0 ∷ 0 ∷ 64 ∷ 0 ∷
     3 ∷ 0 ∷ 0 ∷ 0 ∷ 0 ∷ 0 ∷
-    4 ∷ 0 ∷ 0 ∷ 0 ∷ 0 ∷ 0 ∷ 0 ∷ 0 ∷ 0 ∷ 0 ∷ 0 ∷ 0 ∷ 0 ∷
-    4 ∷ 3 ∷ 0 ∷ 0 ∷ 1 ∷ 0 ∷ 0 ∷ 0 ∷ 0 ∷ 0 ∷ 0 ∷ 0 ∷ 3 ∷ []
+    4 ∷ 3 ∷ 0 ∷ 0 ∷ 0 ∷ 0 ∷ 0 ∷ 0 ∷ 0 ∷ 0 ∷ 0 ∷ 0 ∷ 0 ∷ []
 
-abbrev image-1210 : List ℕ
-image-1210 =
-    1 ∷ 0 ∷ 0 ∷ 0 ∷ 0 ∷ 0 ∷ 0 ∷ 214 ∷ 238 ∷ 0 ∷ 0 ∷ 128 ∷ 0 ∷ 0 ∷ 0 ∷ 0 ∷ 0 ∷ 0 ∷ 0 ∷ 0 ∷ 0 ∷ 0 ∷ 2 ∷ 1 ∷
-    2 ∷ 0 ∷ 0 ∷ 0 ∷ 4 ∷ 0 ∷ 0 ∷ 0 ∷ 0 ∷ 0 ∷
-    2 ∷ 0 ∷ 0 ∷ 5 ∷ 4 ∷ 0 ∷ 0 ∷ 0 ∷ 0 ∷ 0 ∷
-    3 ∷ 0 ∷ 0 ∷ 0 ∷ 0 ∷ 0 ∷
-    4 ∷ 0 ∷ 0 ∷ 0 ∷ 0 ∷ 0 ∷ 0 ∷ 0 ∷ 0 ∷ 0 ∷ 0 ∷ 0 ∷ 0 ∷
-    4 ∷ 3 ∷ 0 ∷ 0 ∷ 1 ∷ 0 ∷ 0 ∷ 0 ∷ 0 ∷ 0 ∷ 0 ∷ 0 ∷ 3 ∷
-    3 ∷ 0 ∷ 0 ∷ 0 ∷ 1 ∷ 0 ∷
-    4 ∷ 1 ∷ 0 ∷ 1 ∷ 1 ∷ 0 ∷ 0 ∷ 0 ∷ 0 ∷ 0 ∷ 0 ∷ 0 ∷ 0 ∷
-    4 ∷ 0 ∷ 0 ∷ 0 ∷ 0 ∷ 0 ∷ 0 ∷ 0 ∷ 0 ∷ 0 ∷ 0 ∷ 0 ∷ 0 ∷ []
+abbrev image-1176 : List ℕ
+image-1176 =
+    1 ∷ 0 ∷ 0 ∷ 0 ∷ 0 ∷ 0 ∷ 0 ∷ 64 ∷ 0 ∷ 0 ∷ 0 ∷ 64 ∷ 0 ∷ 0 ∷ 0 ∷ 0 ∷ 0 ∷ 0 ∷ 0 ∷ 0 ∷ 0 ∷ 0 ∷ 0 ∷ 1 ∷
+    2 ∷ 0 ∷ 0 ∷ 2 ∷ 7 ∷ 0 ∷ 0 ∷ 0 ∷ 64 ∷ 0 ∷
+    3 ∷ 0 ∷ 0 ∷ 0 ∷ 0 ∷ 2 ∷
+    4 ∷ 3 ∷ 0 ∷ 0 ∷ 0 ∷ 0 ∷ 0 ∷ 0 ∷ 0 ∷ 0 ∷ 0 ∷ 0 ∷ 0 ∷ []
 
-abbrev image-1213 : List ℕ
-image-1213 =
-    1 ∷ 0 ∷ 0 ∷ 0 ∷ 0 ∷ 0 ∷ 0 ∷ 214 ∷ 238 ∷ 0 ∷ 0 ∷ 128 ∷ 0 ∷ 0 ∷ 0 ∷ 0 ∷ 0 ∷ 0 ∷ 0 ∷ 0 ∷ 0 ∷ 0 ∷ 2 ∷ 1 ∷
-    2 ∷ 0 ∷ 0 ∷ 0 ∷ 4 ∷ 0 ∷ 0 ∷ 0 ∷ 0 ∷ 0 ∷
-    2 ∷ 0 ∷ 0 ∷ 6 ∷ 4 ∷ 0 ∷ 0 ∷ 0 ∷ 0 ∷ 0 ∷
-    3 ∷ 0 ∷ 0 ∷ 0 ∷ 0 ∷ 0 ∷
-    4 ∷ 0 ∷ 0 ∷ 0 ∷ 0 ∷ 0 ∷ 0 ∷ 0 ∷ 0 ∷ 0 ∷ 0 ∷ 0 ∷ 0 ∷
-    4 ∷ 3 ∷ 0 ∷ 0 ∷ 1 ∷ 0 ∷ 0 ∷ 0 ∷ 0 ∷ 0 ∷ 0 ∷ 0 ∷ 3 ∷
-    3 ∷ 0 ∷ 0 ∷ 0 ∷ 1 ∷ 0 ∷
-    4 ∷ 1 ∷ 0 ∷ 1 ∷ 1 ∷ 0 ∷ 0 ∷ 0 ∷ 0 ∷ 0 ∷ 0 ∷ 0 ∷ 0 ∷
-    4 ∷ 1 ∷ 0 ∷ 1 ∷ 1 ∷ 0 ∷ 0 ∷ 0 ∷ 0 ∷ 0 ∷ 0 ∷ 0 ∷ 0 ∷ []
-
-abbrev image-1215 : List ℕ
-image-1215 =
-    1 ∷ 0 ∷ 0 ∷ 0 ∷ 0 ∷ 0 ∷ 0 ∷ 214 ∷ 238 ∷ 0 ∷ 0 ∷ 128 ∷ 0 ∷ 0 ∷ 0 ∷ 0 ∷ 0 ∷ 0 ∷ 0 ∷ 0 ∷ 0 ∷ 0 ∷ 2 ∷ 1 ∷
-    2 ∷ 0 ∷ 0 ∷ 0 ∷ 7 ∷ 0 ∷ 0 ∷ 0 ∷ 0 ∷ 0 ∷
-    2 ∷ 0 ∷ 0 ∷ 6 ∷ 4 ∷ 0 ∷ 0 ∷ 0 ∷ 0 ∷ 0 ∷
-    3 ∷ 0 ∷ 0 ∷ 0 ∷ 0 ∷ 0 ∷
-    4 ∷ 0 ∷ 0 ∷ 0 ∷ 0 ∷ 0 ∷ 0 ∷ 0 ∷ 0 ∷ 0 ∷ 0 ∷ 0 ∷ 0 ∷
-    4 ∷ 3 ∷ 0 ∷ 0 ∷ 1 ∷ 0 ∷ 0 ∷ 0 ∷ 0 ∷ 0 ∷ 0 ∷ 0 ∷ 3 ∷
-    3 ∷ 0 ∷ 0 ∷ 0 ∷ 1 ∷ 0 ∷
-    4 ∷ 1 ∷ 0 ∷ 1 ∷ 1 ∷ 0 ∷ 0 ∷ 0 ∷ 0 ∷ 0 ∷ 0 ∷ 0 ∷ 0 ∷
-    4 ∷ 1 ∷ 0 ∷ 1 ∷ 1 ∷ 0 ∷ 0 ∷ 0 ∷ 0 ∷ 0 ∷ 0 ∷ 0 ∷ 0 ∷ []
-
-abbrev image-1217 : List ℕ
-image-1217 =
-    1 ∷ 0 ∷ 0 ∷ 0 ∷ 0 ∷ 0 ∷ 0 ∷ 214 ∷ 238 ∷ 0 ∷ 0 ∷ 128 ∷ 0 ∷ 0 ∷ 0 ∷ 0 ∷ 0 ∷ 0 ∷ 0 ∷ 0 ∷ 0 ∷ 0 ∷ 2 ∷ 1 ∷
-    2 ∷ 0 ∷ 0 ∷ 0 ∷ 6 ∷ 0 ∷ 0 ∷ 0 ∷ 0 ∷ 0 ∷
-    2 ∷ 0 ∷ 0 ∷ 6 ∷ 4 ∷ 0 ∷ 0 ∷ 0 ∷ 0 ∷ 0 ∷
-    3 ∷ 0 ∷ 0 ∷ 0 ∷ 0 ∷ 0 ∷
-    4 ∷ 0 ∷ 0 ∷ 0 ∷ 0 ∷ 0 ∷ 0 ∷ 0 ∷ 0 ∷ 0 ∷ 0 ∷ 0 ∷ 0 ∷
-    4 ∷ 3 ∷ 0 ∷ 0 ∷ 1 ∷ 0 ∷ 0 ∷ 0 ∷ 0 ∷ 0 ∷ 0 ∷ 0 ∷ 3 ∷
-    3 ∷ 0 ∷ 0 ∷ 0 ∷ 1 ∷ 0 ∷
-    4 ∷ 1 ∷ 0 ∷ 1 ∷ 1 ∷ 0 ∷ 0 ∷ 0 ∷ 0 ∷ 0 ∷ 0 ∷ 0 ∷ 0 ∷
-    4 ∷ 1 ∷ 0 ∷ 1 ∷ 1 ∷ 0 ∷ 0 ∷ 0 ∷ 0 ∷ 0 ∷ 0 ∷ 0 ∷ 0 ∷ []
-
-abbrev image-1220 : List ℕ
-image-1220 =
-    1 ∷ 0 ∷ 0 ∷ 0 ∷ 0 ∷ 0 ∷ 0 ∷ 214 ∷ 238 ∷ 0 ∷ 0 ∷ 128 ∷ 0 ∷ 0 ∷ 1 ∷ 0 ∷ 0 ∷ 0 ∷ 0 ∷ 0 ∷ 0 ∷ 0 ∷ 2 ∷ 1 ∷
-    2 ∷ 0 ∷ 0 ∷ 0 ∷ 6 ∷ 0 ∷ 0 ∷ 0 ∷ 0 ∷ 0 ∷
-    2 ∷ 0 ∷ 0 ∷ 6 ∷ 4 ∷ 0 ∷ 0 ∷ 0 ∷ 0 ∷ 0 ∷
-    3 ∷ 0 ∷ 0 ∷ 0 ∷ 0 ∷ 0 ∷
-    4 ∷ 0 ∷ 0 ∷ 0 ∷ 0 ∷ 0 ∷ 0 ∷ 0 ∷ 0 ∷ 0 ∷ 0 ∷ 0 ∷ 0 ∷
-    4 ∷ 3 ∷ 0 ∷ 0 ∷ 1 ∷ 0 ∷ 0 ∷ 0 ∷ 0 ∷ 0 ∷ 0 ∷ 0 ∷ 3 ∷
-    3 ∷ 0 ∷ 0 ∷ 0 ∷ 1 ∷ 0 ∷
-    4 ∷ 1 ∷ 0 ∷ 1 ∷ 1 ∷ 0 ∷ 0 ∷ 0 ∷ 0 ∷ 0 ∷ 0 ∷ 0 ∷ 0 ∷
-    4 ∷ 1 ∷ 0 ∷ 1 ∷ 1 ∷ 0 ∷ 0 ∷ 0 ∷ 0 ∷ 0 ∷ 0 ∷ 0 ∷ 0 ∷ []
-
-abbrev image-1221 : List ℕ
-image-1221 =
-    1 ∷ 0 ∷ 0 ∷ 0 ∷ 0 ∷ 0 ∷ 0 ∷ 214 ∷ 238 ∷ 0 ∷ 0 ∷ 128 ∷ 0 ∷ 0 ∷ 1 ∷ 0 ∷ 0 ∷ 0 ∷ 0 ∷ 0 ∷ 0 ∷ 0 ∷ 2 ∷ 1 ∷
-    2 ∷ 0 ∷ 0 ∷ 0 ∷ 6 ∷ 0 ∷ 0 ∷ 0 ∷ 0 ∷ 0 ∷
-    2 ∷ 0 ∷ 0 ∷ 6 ∷ 4 ∷ 0 ∷ 0 ∷ 0 ∷ 0 ∷ 0 ∷
-    3 ∷ 0 ∷ 0 ∷ 0 ∷ 0 ∷ 0 ∷
-    4 ∷ 0 ∷ 0 ∷ 0 ∷ 0 ∷ 0 ∷ 0 ∷ 0 ∷ 0 ∷ 0 ∷ 0 ∷ 0 ∷ 0 ∷
-    4 ∷ 3 ∷ 0 ∷ 0 ∷ 1 ∷ 0 ∷ 0 ∷ 0 ∷ 0 ∷ 0 ∷ 0 ∷ 0 ∷ 3 ∷
-    3 ∷ 0 ∷ 0 ∷ 0 ∷ 1 ∷ 0 ∷
-    4 ∷ 2 ∷ 0 ∷ 0 ∷ 1 ∷ 0 ∷ 0 ∷ 0 ∷ 0 ∷ 0 ∷ 0 ∷ 0 ∷ 3 ∷
-    4 ∷ 1 ∷ 0 ∷ 1 ∷ 1 ∷ 0 ∷ 0 ∷ 0 ∷ 0 ∷ 0 ∷ 0 ∷ 0 ∷ 0 ∷ []
-
-abbrev image-1222 : List ℕ
-image-1222 =
-    1 ∷ 0 ∷ 0 ∷ 0 ∷ 0 ∷ 0 ∷ 0 ∷ 214 ∷ 238 ∷ 0 ∷ 0 ∷ 128 ∷ 0 ∷ 0 ∷ 1 ∷ 0 ∷ 0 ∷ 0 ∷ 0 ∷ 0 ∷ 0 ∷ 0 ∷ 2 ∷ 1 ∷
-    2 ∷ 0 ∷ 0 ∷ 0 ∷ 6 ∷ 0 ∷ 0 ∷ 0 ∷ 0 ∷ 0 ∷
-    2 ∷ 0 ∷ 0 ∷ 6 ∷ 4 ∷ 0 ∷ 0 ∷ 0 ∷ 0 ∷ 0 ∷
-    3 ∷ 0 ∷ 0 ∷ 0 ∷ 0 ∷ 0 ∷
-    4 ∷ 0 ∷ 0 ∷ 0 ∷ 1 ∷ 0 ∷ 0 ∷ 0 ∷ 0 ∷ 0 ∷ 0 ∷ 0 ∷ 1 ∷
-    4 ∷ 3 ∷ 0 ∷ 0 ∷ 1 ∷ 0 ∷ 0 ∷ 0 ∷ 0 ∷ 0 ∷ 0 ∷ 0 ∷ 3 ∷
-    3 ∷ 0 ∷ 0 ∷ 0 ∷ 1 ∷ 0 ∷
-    4 ∷ 2 ∷ 0 ∷ 0 ∷ 1 ∷ 0 ∷ 0 ∷ 0 ∷ 0 ∷ 0 ∷ 0 ∷ 0 ∷ 3 ∷
-    4 ∷ 1 ∷ 0 ∷ 1 ∷ 1 ∷ 0 ∷ 0 ∷ 0 ∷ 0 ∷ 0 ∷ 0 ∷ 0 ∷ 0 ∷ []
-
-abbrev image-1224 : List ℕ
-image-1224 =
-    1 ∷ 0 ∷ 0 ∷ 0 ∷ 0 ∷ 0 ∷ 0 ∷ 214 ∷ 238 ∷ 0 ∷ 0 ∷ 128 ∷ 0 ∷ 0 ∷ 1 ∷ 0 ∷ 0 ∷ 0 ∷ 0 ∷ 0 ∷ 0 ∷ 0 ∷ 2 ∷ 1 ∷
-    2 ∷ 0 ∷ 0 ∷ 0 ∷ 6 ∷ 0 ∷ 0 ∷ 0 ∷ 0 ∷ 0 ∷
-    2 ∷ 0 ∷ 0 ∷ 6 ∷ 4 ∷ 0 ∷ 0 ∷ 0 ∷ 0 ∷ 0 ∷
-    3 ∷ 0 ∷ 0 ∷ 0 ∷ 0 ∷ 0 ∷
-    4 ∷ 0 ∷ 0 ∷ 0 ∷ 1 ∷ 0 ∷ 0 ∷ 0 ∷ 0 ∷ 0 ∷ 0 ∷ 0 ∷ 1 ∷
-    4 ∷ 3 ∷ 0 ∷ 0 ∷ 1 ∷ 0 ∷ 0 ∷ 0 ∷ 0 ∷ 0 ∷ 0 ∷ 0 ∷ 3 ∷
-    3 ∷ 0 ∷ 0 ∷ 0 ∷ 1 ∷ 0 ∷
-    4 ∷ 2 ∷ 0 ∷ 0 ∷ 1 ∷ 0 ∷ 0 ∷ 0 ∷ 0 ∷ 0 ∷ 0 ∷ 0 ∷ 3 ∷
-    4 ∷ 1 ∷ 0 ∷ 1 ∷ 0 ∷ 0 ∷ 0 ∷ 0 ∷ 0 ∷ 0 ∷ 0 ∷ 0 ∷ 0 ∷ []
-
--- calls 1205 to 1225
-calls-1205 :
+-- calls 1172 to 1176
+calls-1172 :
     outcomes none
-    (new-line 1000000 55022 32768
-    ∷ call-line 1000000 (mark-as-finished 0 1 (some 3) (words 4352 []))
-    ∷ call-line 1000000 (set-piece-priority 0 4 (words 5000 []))
-    ∷ call-line 1000000 (pick-pieces (asking 198 300 4 2 (some 2) 2 (255 ∷ []) (0 ∷ 2147483647 ∷ 1 ∷ 0 ∷ 1 ∷ [])) 4351 (words 5000 (3254735028 ∷ [])))
-    ∷ call-line 1000000 (question (listOfPicker get-availability-vec 1000000))
-    ∷ call-line 1000000 (mark-as-downloading 1 0 (some 0) 2 (words 4352 []))
-    ∷ call-line 1000000 (question (ofPicker want))
-    ∷ call-line 1000000 (abort-download 0 0 (some 2) (words 4352 []))
-    ∷ call-line 1000000 (mark-as-downloading 1 1 (some 0) 7011 (words 4352 []))
-    ∷ call-line 1000000 (mark-as-canceled 0 1 (some 0) (words 4352 []))
-    ∷ call-line 1000000 (set-piece-priority 0 7 (words 4352 []))
-    ∷ call-line 1000000 (pick-pieces (asking 4 3 2048 1 (some 18446744073709551615) 2 (184 ∷ []) (0 ∷ 0 ∷ 1 ∷ [])) 4351 (words 4352 (0 ∷ [])))
-    ∷ call-line 1000000 (set-piece-priority 0 6 (words 4352 []))
-    ∷ call-line 1000000 (question (ofBlock block-num-peers 1 0))
-    ∷ call-line 1000000 (pick-pieces (asking 44 8 4 2 (some 2) 1 (255 ∷ []) (0 ∷ 0 ∷ 1 ∷ [])) 4351 (words 5000 []))
-    ∷ call-line 1000000 inc-refcount-all
-    ∷ call-line 1000000 (mark-as-writing 1 0 (some 3) (words 4352 []))
-    ∷ call-line 1000000 (mark-as-canceled 0 0 (some 1) (words 4352 []))
-    ∷ call-line 1000000 (abort-download 0 1 (some 0) (words 5000 []))
-    ∷ call-line 1000000 (mark-as-canceled 1 1 none (words 4352 []))
-    ∷ call-line 16 (dec-refcount 1 (words 4352 []))
+    (read-line plenty image-1172
+    ∷ call-line plenty (mark-as-canceled 0 0 (some 0) (words 5000 []))
+    ∷ call-line plenty (question (listOfPiece get-downloaders 0 1000000))
+    ∷ call-line plenty (mark-as-finished 0 0 (some 1) (words 4352 []))
+    ∷ call-line plenty (lock-piece 0)
     ∷ [])
-    ≡ outcome stands image-1205
-    ∷ outcome (answered (done 0)) image-1206
-    ∷ outcome (answered (said false 0)) image-1206
-    ∷ outcome (answered (picked ((pieceBlock 1 0) ∷ (pieceBlock 1 1) ∷ []) 10272 (0 ∷ 5 ∷ 0 ∷ 0 ∷ 2 ∷ 0 ∷ 0 ∷ []) 1)) image-1206
-    ∷ outcome (answered (replied (numbers ((some 0) ∷ (some 0) ∷ [])))) image-1206
-    ∷ outcome (answered (said true 0)) image-1210
-    ∷ outcome (answered (replied (numbers ((some 2) ∷ (some 0) ∷ (some 1) ∷ [])))) image-1210
-    ∷ outcome (answered (done 0)) image-1210
-    ∷ outcome (answered (said true 0)) image-1213
-    ∷ outcome (answered (done 0)) image-1213
-    ∷ outcome (answered (said false 0)) image-1215
-    ∷ outcome (answered (picked [] 10272 (0 ∷ 3 ∷ 0 ∷ 0 ∷ 2 ∷ 0 ∷ 0 ∷ []) 1)) image-1215
-    ∷ outcome (answered (said false 0)) image-1217
-    ∷ outcome (answered (replied (numbers ((some 1) ∷ [])))) image-1217
-    ∷ outcome (answered (refused PickArguments)) image-1217
-    ∷ outcome (answered (done 0)) image-1220
-    ∷ outcome (answered (said true 0)) image-1221
-    ∷ outcome (answered (done 0)) image-1222
-    ∷ outcome (answered (done 0)) image-1222
-    ∷ outcome (answered (done 0)) image-1224
-    ∷ outcome (answered (refused ShortMemory)) image-1224
+    ≡ outcome stands image-1172
+    ∷ outcome (answered (done 0)) image-1172
+    ∷ outcome (answered (replied (numbers (none ∷ [])))) image-1172
+    ∷ outcome (answered (done 0)) image-1175
+    ∷ outcome (answered (done 0)) image-1176
     ∷ []
 unfolding replaying
-calls-1205 = refl
+calls-1172 = refl
+
+abbrev image-1262 : List ℕ
+image-1262 =
+    1 ∷ 0 ∷ 0 ∷ 0 ∷ 0 ∷ 0 ∷ 0 ∷ 192 ∷ 0 ∷ 0 ∷ 0 ∷ 64 ∷ 0 ∷ 0 ∷ 0 ∷ 0 ∷ 0 ∷ 0 ∷ 0 ∷ 0 ∷ 0 ∷ 0 ∷ 0 ∷ 0 ∷
+    2 ∷ 0 ∷ 2 ∷ 6 ∷ 6 ∷ 0 ∷ 0 ∷ 0 ∷ 0 ∷ 0 ∷
+    2 ∷ 0 ∷ 9 ∷ 3 ∷ 0 ∷ 0 ∷ 0 ∷ 0 ∷ 0 ∷ 0 ∷
+    2 ∷ 0 ∷ 1 ∷ 5 ∷ 4 ∷ 0 ∷ 0 ∷ 0 ∷ 64 ∷ 0 ∷
+    3 ∷ 0 ∷ 0 ∷ 0 ∷ 0 ∷ 3 ∷
+    4 ∷ 1 ∷ 0 ∷ 1 ∷ 0 ∷ 0 ∷ 0 ∷ 0 ∷ 0 ∷ 0 ∷ 0 ∷ 0 ∷ 0 ∷
+    3 ∷ 0 ∷ 0 ∷ 0 ∷ 1 ∷ 0 ∷
+    4 ∷ 3 ∷ 0 ∷ 1 ∷ 0 ∷ 0 ∷ 0 ∷ 0 ∷ 0 ∷ 0 ∷ 0 ∷ 0 ∷ 0 ∷
+    3 ∷ 0 ∷ 0 ∷ 0 ∷ 2 ∷ 6 ∷
+    4 ∷ 0 ∷ 3 ∷ 231 ∷ 0 ∷ 0 ∷ 0 ∷ 0 ∷ 0 ∷ 0 ∷ 0 ∷ 0 ∷ 0 ∷
+    6 ∷ 0 ∷ 0 ∷ 0 ∷ 0 ∷
+    6 ∷ 0 ∷ 0 ∷ 0 ∷ 2 ∷ []
+
+-- calls 1262 to 1263
+calls-1262 :
+    outcomes none
+    (read-line plenty image-1262
+    ∷ call-line (lending 1000000 16 1000000) (question (listOfPicker piece-priorities 1000000))
+    ∷ [])
+    ≡ outcome stands image-1262
+    ∷ outcome (answered (refused ShortMemory)) image-1262
+    ∷ []
+unfolding replaying
+calls-1262 = refl
+
+abbrev image-1285 : List ℕ
+image-1285 =
+    1 ∷ 0 ∷ 0 ∷ 0 ∷ 0 ∷ 0 ∷ 0 ∷ 234 ∷ 150 ∷ 0 ∷ 0 ∷ 64 ∷ 0 ∷ 0 ∷ 1 ∷ 0 ∷ 0 ∷ 0 ∷ 0 ∷ 0 ∷ 0 ∷ 0 ∷ 3 ∷ 0 ∷
+    2 ∷ 0 ∷ 2 ∷ 4 ∷ 7 ∷ 0 ∷ 0 ∷ 0 ∷ 0 ∷ 0 ∷
+    2 ∷ 0 ∷ 1 ∷ 4 ∷ 4 ∷ 1 ∷ 0 ∷ 0 ∷ 0 ∷ 0 ∷
+    2 ∷ 3 ∷ 230 ∷ 4 ∷ 7 ∷ 1 ∷ 0 ∷ 0 ∷ 0 ∷ 0 ∷
+    2 ∷ 0 ∷ 2 ∷ 4 ∷ 4 ∷ 1 ∷ 0 ∷ 0 ∷ 0 ∷ 0 ∷
+    6 ∷ 0 ∷ 0 ∷ 0 ∷ 0 ∷ []
+
+-- calls 1285 to 1286
+calls-1285 :
+    outcomes none
+    (read-line plenty image-1285
+    ∷ call-line (lending 29 15 16) (mark-as-canceled 0 0 none (words 4352 []))
+    ∷ [])
+    ≡ outcome stands image-1285
+    ∷ outcome (answered (refused ShortMemory)) image-1285
+    ∷ []
+unfolding replaying
+calls-1285 = refl
+
+abbrev image-1294 : List ℕ
+image-1294 =
+    1 ∷ 0 ∷ 0 ∷ 0 ∷ 0 ∷ 0 ∷ 0 ∷ 0 ∷ 1 ∷ 0 ∷ 0 ∷ 0 ∷ 3 ∷ 0 ∷ 47 ∷ 0 ∷ 0 ∷ 0 ∷ 0 ∷ 0 ∷ 0 ∷ 0 ∷ 1 ∷ 0 ∷
+    2 ∷ 0 ∷ 0 ∷ 4 ∷ 1 ∷ 1 ∷ 0 ∷ 0 ∷ 0 ∷ 0 ∷ []
+
+-- calls 1294 to 1295
+calls-1294 :
+    outcomes none
+    (read-line plenty image-1294
+    ∷ call-line plenty (inc-refcount 9223372036854775807 (words 4352 []))
+    ∷ [])
+    ≡ outcome stands image-1294
+    ∷ outcome (answered (refused OutOfRange)) image-1294
+    ∷ []
+unfolding replaying
+calls-1294 = refl
 
 abbrev image-1414 : List ℕ
 image-1414 =
-    1 ∷ 0 ∷ 0 ∷ 0 ∷ 0 ∷ 0 ∷ 0 ∷ 0 ∷ 13 ∷ 0 ∷ 0 ∷ 0 ∷ 3 ∷ 0 ∷ 2 ∷ 0 ∷ 0 ∷ 0 ∷ 3 ∷ 0 ∷ 0 ∷ 0 ∷ 3 ∷ 1 ∷
-    2 ∷ 0 ∷ 0 ∷ 4 ∷ 6 ∷ 1 ∷ 0 ∷ 0 ∷ 0 ∷ 0 ∷
-    2 ∷ 0 ∷ 1 ∷ 1 ∷ 7 ∷ 0 ∷ 0 ∷ 0 ∷ 0 ∷ 3 ∷
-    2 ∷ 3 ∷ 229 ∷ 2 ∷ 6 ∷ 0 ∷ 0 ∷ 0 ∷ 0 ∷ 3 ∷
-    2 ∷ 0 ∷ 3 ∷ 4 ∷ 7 ∷ 0 ∷ 0 ∷ 0 ∷ 0 ∷ 1 ∷
-    2 ∷ 0 ∷ 0 ∷ 4 ∷ 4 ∷ 0 ∷ 0 ∷ 0 ∷ 0 ∷ 1 ∷
-    3 ∷ 0 ∷ 0 ∷ 0 ∷ 1 ∷ 0 ∷
-    4 ∷ 1 ∷ 0 ∷ 2 ∷ 0 ∷ 0 ∷ 0 ∷ 0 ∷ 0 ∷ 0 ∷ 0 ∷ 0 ∷ 0 ∷
-    3 ∷ 0 ∷ 0 ∷ 0 ∷ 2 ∷ 0 ∷
-    4 ∷ 2 ∷ 0 ∷ 2 ∷ 1 ∷ 255 ∷ 255 ∷ 255 ∷ 255 ∷ 255 ∷ 255 ∷ 255 ∷ 255 ∷
-    5 ∷ 0 ∷ 0 ∷ 0 ∷ 0 ∷ []
-
-abbrev image-1415 : List ℕ
-image-1415 =
-    1 ∷ 0 ∷ 0 ∷ 0 ∷ 0 ∷ 0 ∷ 0 ∷ 0 ∷ 13 ∷ 0 ∷ 0 ∷ 0 ∷ 3 ∷ 0 ∷ 2 ∷ 0 ∷ 0 ∷ 0 ∷ 3 ∷ 0 ∷ 0 ∷ 0 ∷ 3 ∷ 1 ∷
-    2 ∷ 0 ∷ 0 ∷ 4 ∷ 6 ∷ 1 ∷ 0 ∷ 0 ∷ 0 ∷ 0 ∷
-    2 ∷ 0 ∷ 1 ∷ 1 ∷ 7 ∷ 0 ∷ 0 ∷ 0 ∷ 0 ∷ 3 ∷
-    2 ∷ 3 ∷ 230 ∷ 2 ∷ 6 ∷ 0 ∷ 0 ∷ 0 ∷ 0 ∷ 3 ∷
-    2 ∷ 0 ∷ 3 ∷ 4 ∷ 7 ∷ 0 ∷ 0 ∷ 0 ∷ 0 ∷ 1 ∷
-    2 ∷ 0 ∷ 0 ∷ 4 ∷ 4 ∷ 0 ∷ 0 ∷ 0 ∷ 0 ∷ 1 ∷
-    3 ∷ 0 ∷ 0 ∷ 0 ∷ 1 ∷ 0 ∷
-    4 ∷ 1 ∷ 0 ∷ 2 ∷ 0 ∷ 0 ∷ 0 ∷ 0 ∷ 0 ∷ 0 ∷ 0 ∷ 0 ∷ 0 ∷
-    3 ∷ 0 ∷ 0 ∷ 0 ∷ 2 ∷ 0 ∷
-    4 ∷ 2 ∷ 0 ∷ 2 ∷ 1 ∷ 255 ∷ 255 ∷ 255 ∷ 255 ∷ 255 ∷ 255 ∷ 255 ∷ 255 ∷
-    5 ∷ 0 ∷ 0 ∷ 0 ∷ 0 ∷ []
+    1 ∷ 0 ∷ 0 ∷ 0 ∷ 0 ∷ 0 ∷ 1 ∷ 128 ∷ 0 ∷ 0 ∷ 0 ∷ 128 ∷ 0 ∷ 0 ∷ 0 ∷ 0 ∷ 0 ∷ 0 ∷ 0 ∷ 0 ∷ 0 ∷ 0 ∷ 3 ∷ 1 ∷
+    2 ∷ 0 ∷ 0 ∷ 4 ∷ 4 ∷ 0 ∷ 0 ∷ 0 ∷ 0 ∷ 0 ∷
+    2 ∷ 0 ∷ 0 ∷ 4 ∷ 4 ∷ 0 ∷ 0 ∷ 0 ∷ 0 ∷ 0 ∷
+    2 ∷ 0 ∷ 0 ∷ 4 ∷ 4 ∷ 0 ∷ 0 ∷ 0 ∷ 0 ∷ 0 ∷ []
 
 -- calls 1414 to 1416
 calls-1414 :
     outcomes none
-    (read-line 1000000 image-1414
-    ∷ call-line 1000000 (inc-refcount 2 (words 4352 []))
-    ∷ call-line 1000000 (question (ofPiece hashing? 4))
+    (new-line plenty 98304 32768
+    ∷ call-line (lending 16 0 3) (set-piece-priority 2 4 (words 4352 []))
+    ∷ call-line plenty (abort-download 1 1 (some 2) (words 4351 []))
     ∷ [])
     ≡ outcome stands image-1414
-    ∷ outcome (answered (done 0)) image-1415
-    ∷ outcome (answered (replied nothing)) image-1415
+    ∷ outcome (answered (refused ShortMemory)) image-1414
+    ∷ outcome (answered (refused FewDraws)) image-1414
     ∷ []
 unfolding replaying
 calls-1414 = refl
 
-abbrev image-1567 : List ℕ
-image-1567 =
-    1 ∷ 0 ∷ 0 ∷ 0 ∷ 0 ∷ 0 ∷ 0 ∷ 0 ∷ 1 ∷ 0 ∷ 0 ∷ 64 ∷ 0 ∷ 0 ∷ 1 ∷ 0 ∷ 0 ∷ 0 ∷ 1 ∷ 0 ∷ 0 ∷ 0 ∷ 1 ∷ 0 ∷
-    2 ∷ 0 ∷ 4 ∷ 2 ∷ 4 ∷ 0 ∷ 0 ∷ 0 ∷ 0 ∷ 0 ∷
-    3 ∷ 0 ∷ 0 ∷ 0 ∷ 0 ∷ 5 ∷
-    4 ∷ 3 ∷ 0 ∷ 0 ∷ 1 ∷ 0 ∷ 0 ∷ 0 ∷ 0 ∷ 0 ∷ 0 ∷ 0 ∷ 0 ∷
-    5 ∷ 0 ∷ 0 ∷ 0 ∷ 0 ∷ []
+abbrev image-1505 : List ℕ
+image-1505 =
+    1 ∷ 0 ∷ 0 ∷ 0 ∷ 0 ∷ 0 ∷ 2 ∷ 128 ∷ 0 ∷ 0 ∷ 0 ∷ 128 ∷ 0 ∷ 0 ∷ 2 ∷ 0 ∷ 0 ∷ 0 ∷ 4 ∷ 0 ∷ 0 ∷ 0 ∷ 3 ∷ 0 ∷
+    2 ∷ 0 ∷ 0 ∷ 4 ∷ 4 ∷ 1 ∷ 0 ∷ 0 ∷ 0 ∷ 0 ∷
+    2 ∷ 0 ∷ 2 ∷ 4 ∷ 4 ∷ 0 ∷ 0 ∷ 0 ∷ 0 ∷ 1 ∷
+    2 ∷ 0 ∷ 4 ∷ 4 ∷ 4 ∷ 1 ∷ 0 ∷ 0 ∷ 0 ∷ 0 ∷
+    2 ∷ 0 ∷ 0 ∷ 4 ∷ 7 ∷ 0 ∷ 0 ∷ 0 ∷ 0 ∷ 0 ∷
+    2 ∷ 0 ∷ 3 ∷ 4 ∷ 4 ∷ 0 ∷ 0 ∷ 0 ∷ 0 ∷ 0 ∷
+    5 ∷ 0 ∷ 0 ∷ 0 ∷ 0 ∷
+    6 ∷ 0 ∷ 0 ∷ 0 ∷ 3 ∷
+    6 ∷ 0 ∷ 0 ∷ 0 ∷ 1 ∷
+    6 ∷ 0 ∷ 0 ∷ 0 ∷ 4 ∷ []
 
--- calls 1567 to 1570
-calls-1567 :
+-- calls 1505 to 1506
+calls-1505 :
     outcomes none
-    (read-line 1000000 image-1567
-    ∷ call-line 1000000 (abort-download 0 0 (some 3) (words 4352 []))
-    ∷ call-line 1000000 (mark-as-downloading 0 0 (some 0) 130 (words 4352 []))
-    ∷ call-line 1000000 (question (ofPiece hashing? 0))
+    (read-line plenty image-1505
+    ∷ call-line plenty (question (recent-extent 0))
     ∷ [])
-    ≡ outcome stands image-1567
-    ∷ outcome (answered (done 0)) image-1567
-    ∷ outcome (answered (said false 0)) image-1567
-    ∷ outcome (answered (replied (numbers ((some 1) ∷ [])))) image-1567
+    ≡ outcome stands image-1505
+    ∷ outcome (answered (replied (numbers ((some 0) ∷ [])))) image-1505
     ∷ []
 unfolding replaying
-calls-1567 = refl
+calls-1505 = refl
 
-abbrev image-1657 : List ℕ
-image-1657 =
-    1 ∷ 0 ∷ 0 ∷ 0 ∷ 0 ∷ 0 ∷ 1 ∷ 128 ∷ 0 ∷ 0 ∷ 0 ∷ 128 ∷ 0 ∷ 0 ∷ 0 ∷ 0 ∷ 0 ∷ 0 ∷ 3 ∷ 0 ∷ 0 ∷ 0 ∷ 3 ∷ 1 ∷
-    2 ∷ 0 ∷ 0 ∷ 1 ∷ 7 ∷ 0 ∷ 0 ∷ 0 ∷ 0 ∷ 0 ∷
-    2 ∷ 0 ∷ 0 ∷ 4 ∷ 0 ∷ 0 ∷ 0 ∷ 0 ∷ 0 ∷ 0 ∷
-    2 ∷ 0 ∷ 2 ∷ 4 ∷ 7 ∷ 0 ∷ 0 ∷ 0 ∷ 0 ∷ 0 ∷
-    3 ∷ 0 ∷ 0 ∷ 0 ∷ 0 ∷ 0 ∷
-    4 ∷ 1 ∷ 3 ∷ 231 ∷ 0 ∷ 0 ∷ 0 ∷ 0 ∷ 0 ∷ 0 ∷ 0 ∷ 0 ∷ 0 ∷
-    4 ∷ 2 ∷ 0 ∷ 0 ∷ 1 ∷ 255 ∷ 255 ∷ 255 ∷ 255 ∷ 255 ∷ 255 ∷ 255 ∷ 255 ∷
-    5 ∷ 0 ∷ 0 ∷ 0 ∷ 0 ∷ []
-
-abbrev image-1659 : List ℕ
-image-1659 =
-    1 ∷ 0 ∷ 0 ∷ 0 ∷ 0 ∷ 0 ∷ 1 ∷ 128 ∷ 0 ∷ 0 ∷ 0 ∷ 128 ∷ 0 ∷ 0 ∷ 0 ∷ 0 ∷ 0 ∷ 0 ∷ 3 ∷ 0 ∷ 0 ∷ 0 ∷ 3 ∷ 1 ∷
-    2 ∷ 0 ∷ 0 ∷ 1 ∷ 7 ∷ 0 ∷ 0 ∷ 0 ∷ 0 ∷ 0 ∷
-    2 ∷ 0 ∷ 0 ∷ 4 ∷ 0 ∷ 0 ∷ 0 ∷ 0 ∷ 0 ∷ 0 ∷
-    2 ∷ 0 ∷ 2 ∷ 4 ∷ 7 ∷ 0 ∷ 0 ∷ 0 ∷ 0 ∷ 0 ∷
-    3 ∷ 0 ∷ 0 ∷ 0 ∷ 0 ∷ 0 ∷
-    4 ∷ 1 ∷ 3 ∷ 232 ∷ 1 ∷ 0 ∷ 0 ∷ 0 ∷ 0 ∷ 0 ∷ 0 ∷ 0 ∷ 3 ∷
-    4 ∷ 2 ∷ 0 ∷ 0 ∷ 1 ∷ 255 ∷ 255 ∷ 255 ∷ 255 ∷ 255 ∷ 255 ∷ 255 ∷ 255 ∷
-    5 ∷ 0 ∷ 0 ∷ 0 ∷ 0 ∷ []
-
--- calls 1657 to 1664
-calls-1657 :
+-- call 1565
+calls-1565 :
     outcomes none
-    (read-line 1000000 image-1657
-    ∷ call-line 1000000 (mark-as-downloading 0 0 (some 3) 118 (words 4352 []))
-    ∷ call-line 1000000 (mark-as-finished 0 0 (some 2) (words 4352 []))
-    ∷ call-line 1000000 (question (recent-extent 0))
-    ∷ call-line 1000000 (set-piece-priority 1 0 (words 5000 []))
-    ∷ call-line 1000000 (mark-as-downloading 0 0 (some 0) 43688 (words 4352 []))
+    (new-line plenty 4611686018427387904 4194304
     ∷ [])
-    ≡ outcome stands image-1657
-    ∷ outcome (answered (said true 0)) image-1659
-    ∷ outcome (answered (refused NotWriting)) image-1659
-    ∷ outcome (answered (replied (numbers ((some 0) ∷ [])))) image-1659
-    ∷ outcome (answered (said false 0)) image-1659
-    ∷ outcome (answered (refused TooManyPeers)) image-1659
+    ≡ outcome (notDone Geometry) []
     ∷ []
 unfolding replaying
-calls-1657 = refl
+calls-1565 = refl
 
-abbrev image-1806 : List ℕ
-image-1806 =
-    1 ∷ 0 ∷ 0 ∷ 0 ∷ 0 ∷ 0 ∷ 4 ∷ 120 ∷ 255 ∷ 0 ∷ 1 ∷ 0 ∷ 0 ∷ 0 ∷ 0 ∷ 0 ∷ 0 ∷ 0 ∷ 0 ∷ 0 ∷ 0 ∷ 0 ∷ 5 ∷ 1 ∷
-    2 ∷ 0 ∷ 0 ∷ 4 ∷ 4 ∷ 0 ∷ 0 ∷ 0 ∷ 0 ∷ 0 ∷
+abbrev image-1779 : List ℕ
+image-1779 =
+    1 ∷ 0 ∷ 0 ∷ 0 ∷ 0 ∷ 0 ∷ 0 ∷ 0 ∷ 1 ∷ 0 ∷ 0 ∷ 0 ∷ 3 ∷ 0 ∷ 0 ∷ 0 ∷ 0 ∷ 0 ∷ 0 ∷ 0 ∷ 0 ∷ 0 ∷ 1 ∷ 1 ∷
+    2 ∷ 0 ∷ 0 ∷ 4 ∷ 4 ∷ 0 ∷ 0 ∷ 0 ∷ 0 ∷ 0 ∷ []
+
+abbrev image-1781 : List ℕ
+image-1781 =
+    1 ∷ 0 ∷ 0 ∷ 0 ∷ 0 ∷ 0 ∷ 0 ∷ 0 ∷ 1 ∷ 0 ∷ 0 ∷ 0 ∷ 3 ∷ 0 ∷ 0 ∷ 0 ∷ 0 ∷ 0 ∷ 0 ∷ 0 ∷ 0 ∷ 0 ∷ 1 ∷ 1 ∷
+    2 ∷ 0 ∷ 0 ∷ 2 ∷ 4 ∷ 0 ∷ 0 ∷ 0 ∷ 0 ∷ 0 ∷
+    3 ∷ 0 ∷ 0 ∷ 0 ∷ 0 ∷ 0 ∷
+    4 ∷ 3 ∷ 0 ∷ 0 ∷ 1 ∷ 0 ∷ 0 ∷ 0 ∷ 0 ∷ 0 ∷ 0 ∷ 0 ∷ 2 ∷ []
+
+-- calls 1779 to 1782
+calls-1779 :
+    outcomes none
+    (new-line plenty 1 3
+    ∷ call-line plenty (abort-download 0 1 (some 0) (words 4352 []))
+    ∷ call-line plenty (mark-as-finished 0 0 (some 2) (words 4352 []))
+    ∷ call-line plenty (question (ofPiece piece-size 0))
+    ∷ [])
+    ≡ outcome stands image-1779
+    ∷ outcome (answered (refused OutOfRange)) image-1779
+    ∷ outcome (answered (done 0)) image-1781
+    ∷ outcome (answered (replied (numbers ((some 1) ∷ [])))) image-1781
+    ∷ []
+unfolding replaying
+calls-1779 = refl
+
+abbrev image-1786 : List ℕ
+image-1786 =
+    1 ∷ 0 ∷ 0 ∷ 0 ∷ 0 ∷ 0 ∷ 0 ∷ 0 ∷ 10 ∷ 0 ∷ 0 ∷ 0 ∷ 3 ∷ 0 ∷ 0 ∷ 0 ∷ 0 ∷ 0 ∷ 0 ∷ 0 ∷ 0 ∷ 0 ∷ 4 ∷ 1 ∷
     2 ∷ 0 ∷ 0 ∷ 4 ∷ 4 ∷ 0 ∷ 0 ∷ 0 ∷ 0 ∷ 0 ∷
     2 ∷ 0 ∷ 0 ∷ 4 ∷ 4 ∷ 0 ∷ 0 ∷ 0 ∷ 0 ∷ 0 ∷
     2 ∷ 0 ∷ 0 ∷ 4 ∷ 4 ∷ 0 ∷ 0 ∷ 0 ∷ 0 ∷ 0 ∷
     2 ∷ 0 ∷ 0 ∷ 4 ∷ 4 ∷ 0 ∷ 0 ∷ 0 ∷ 0 ∷ 0 ∷ []
 
-abbrev image-1807 : List ℕ
-image-1807 =
-    1 ∷ 0 ∷ 0 ∷ 0 ∷ 0 ∷ 0 ∷ 4 ∷ 120 ∷ 255 ∷ 0 ∷ 1 ∷ 0 ∷ 0 ∷ 0 ∷ 0 ∷ 0 ∷ 0 ∷ 0 ∷ 0 ∷ 0 ∷ 0 ∷ 0 ∷ 5 ∷ 1 ∷
+abbrev image-1789 : List ℕ
+image-1789 =
+    1 ∷ 0 ∷ 0 ∷ 0 ∷ 0 ∷ 0 ∷ 0 ∷ 0 ∷ 10 ∷ 0 ∷ 0 ∷ 0 ∷ 3 ∷ 0 ∷ 0 ∷ 0 ∷ 0 ∷ 0 ∷ 0 ∷ 0 ∷ 0 ∷ 0 ∷ 4 ∷ 1 ∷
+    2 ∷ 0 ∷ 0 ∷ 6 ∷ 4 ∷ 0 ∷ 0 ∷ 0 ∷ 0 ∷ 0 ∷
     2 ∷ 0 ∷ 0 ∷ 4 ∷ 4 ∷ 0 ∷ 0 ∷ 0 ∷ 0 ∷ 0 ∷
     2 ∷ 0 ∷ 0 ∷ 4 ∷ 4 ∷ 0 ∷ 0 ∷ 0 ∷ 0 ∷ 0 ∷
     2 ∷ 0 ∷ 0 ∷ 4 ∷ 4 ∷ 0 ∷ 0 ∷ 0 ∷ 0 ∷ 0 ∷
-    2 ∷ 0 ∷ 0 ∷ 4 ∷ 4 ∷ 0 ∷ 0 ∷ 0 ∷ 0 ∷ 0 ∷
-    2 ∷ 0 ∷ 0 ∷ 0 ∷ 4 ∷ 0 ∷ 0 ∷ 0 ∷ 0 ∷ 0 ∷
-    3 ∷ 0 ∷ 0 ∷ 0 ∷ 4 ∷ 0 ∷
-    4 ∷ 3 ∷ 0 ∷ 0 ∷ 1 ∷ 0 ∷ 0 ∷ 0 ∷ 0 ∷ 0 ∷ 0 ∷ 0 ∷ 2 ∷
-    4 ∷ 0 ∷ 0 ∷ 0 ∷ 0 ∷ 0 ∷ 0 ∷ 0 ∷ 0 ∷ 0 ∷ 0 ∷ 0 ∷ 0 ∷ []
+    3 ∷ 0 ∷ 0 ∷ 0 ∷ 0 ∷ 0 ∷
+    4 ∷ 1 ∷ 0 ∷ 1 ∷ 1 ∷ 0 ∷ 0 ∷ 0 ∷ 0 ∷ 0 ∷ 0 ∷ 0 ∷ 2 ∷
+    5 ∷ 0 ∷ 0 ∷ 0 ∷ 0 ∷ []
 
-abbrev image-1808 : List ℕ
-image-1808 =
-    1 ∷ 0 ∷ 0 ∷ 0 ∷ 0 ∷ 0 ∷ 4 ∷ 120 ∷ 255 ∷ 0 ∷ 1 ∷ 0 ∷ 0 ∷ 0 ∷ 0 ∷ 0 ∷ 0 ∷ 0 ∷ 0 ∷ 0 ∷ 0 ∷ 0 ∷ 5 ∷ 0 ∷
+abbrev image-1792 : List ℕ
+image-1792 =
+    1 ∷ 0 ∷ 0 ∷ 0 ∷ 0 ∷ 0 ∷ 0 ∷ 0 ∷ 10 ∷ 0 ∷ 0 ∷ 0 ∷ 3 ∷ 0 ∷ 0 ∷ 0 ∷ 0 ∷ 0 ∷ 0 ∷ 0 ∷ 0 ∷ 0 ∷ 4 ∷ 1 ∷
+    2 ∷ 0 ∷ 0 ∷ 6 ∷ 4 ∷ 0 ∷ 0 ∷ 0 ∷ 0 ∷ 0 ∷
     2 ∷ 0 ∷ 0 ∷ 4 ∷ 4 ∷ 0 ∷ 0 ∷ 0 ∷ 0 ∷ 0 ∷
     2 ∷ 0 ∷ 0 ∷ 4 ∷ 4 ∷ 0 ∷ 0 ∷ 0 ∷ 0 ∷ 0 ∷
     2 ∷ 0 ∷ 0 ∷ 4 ∷ 4 ∷ 0 ∷ 0 ∷ 0 ∷ 0 ∷ 0 ∷
-    2 ∷ 0 ∷ 0 ∷ 4 ∷ 4 ∷ 0 ∷ 0 ∷ 0 ∷ 0 ∷ 0 ∷
-    2 ∷ 0 ∷ 0 ∷ 0 ∷ 4 ∷ 0 ∷ 0 ∷ 0 ∷ 0 ∷ 0 ∷
-    3 ∷ 0 ∷ 0 ∷ 0 ∷ 4 ∷ 0 ∷
-    4 ∷ 3 ∷ 0 ∷ 0 ∷ 1 ∷ 0 ∷ 0 ∷ 0 ∷ 0 ∷ 0 ∷ 0 ∷ 0 ∷ 2 ∷
-    4 ∷ 0 ∷ 0 ∷ 0 ∷ 0 ∷ 0 ∷ 0 ∷ 0 ∷ 0 ∷ 0 ∷ 0 ∷ 0 ∷ 0 ∷ []
+    3 ∷ 0 ∷ 0 ∷ 0 ∷ 0 ∷ 1 ∷
+    4 ∷ 1 ∷ 0 ∷ 1 ∷ 1 ∷ 0 ∷ 0 ∷ 0 ∷ 0 ∷ 0 ∷ 0 ∷ 0 ∷ 2 ∷
+    5 ∷ 0 ∷ 0 ∷ 0 ∷ 0 ∷ []
 
--- calls 1806 to 1808
-calls-1806 :
+abbrev image-1798 : List ℕ
+image-1798 =
+    1 ∷ 0 ∷ 0 ∷ 0 ∷ 0 ∷ 0 ∷ 0 ∷ 0 ∷ 10 ∷ 0 ∷ 0 ∷ 0 ∷ 3 ∷ 0 ∷ 0 ∷ 0 ∷ 0 ∷ 0 ∷ 0 ∷ 0 ∷ 0 ∷ 0 ∷ 4 ∷ 1 ∷
+    2 ∷ 0 ∷ 1 ∷ 6 ∷ 4 ∷ 0 ∷ 0 ∷ 0 ∷ 0 ∷ 0 ∷
+    2 ∷ 0 ∷ 0 ∷ 4 ∷ 4 ∷ 0 ∷ 0 ∷ 0 ∷ 0 ∷ 0 ∷
+    2 ∷ 0 ∷ 0 ∷ 4 ∷ 4 ∷ 0 ∷ 0 ∷ 0 ∷ 0 ∷ 0 ∷
+    2 ∷ 0 ∷ 0 ∷ 4 ∷ 4 ∷ 0 ∷ 0 ∷ 0 ∷ 0 ∷ 0 ∷
+    3 ∷ 0 ∷ 0 ∷ 0 ∷ 0 ∷ 1 ∷
+    4 ∷ 1 ∷ 0 ∷ 1 ∷ 1 ∷ 0 ∷ 0 ∷ 0 ∷ 0 ∷ 0 ∷ 0 ∷ 0 ∷ 2 ∷
+    5 ∷ 0 ∷ 0 ∷ 0 ∷ 0 ∷ []
+
+abbrev image-1799 : List ℕ
+image-1799 =
+    1 ∷ 0 ∷ 0 ∷ 0 ∷ 0 ∷ 0 ∷ 0 ∷ 0 ∷ 10 ∷ 0 ∷ 0 ∷ 0 ∷ 3 ∷ 0 ∷ 0 ∷ 0 ∷ 0 ∷ 0 ∷ 0 ∷ 0 ∷ 0 ∷ 0 ∷ 4 ∷ 1 ∷
+    2 ∷ 0 ∷ 1 ∷ 6 ∷ 4 ∷ 0 ∷ 0 ∷ 0 ∷ 0 ∷ 0 ∷
+    2 ∷ 0 ∷ 0 ∷ 6 ∷ 4 ∷ 0 ∷ 0 ∷ 0 ∷ 0 ∷ 0 ∷
+    2 ∷ 0 ∷ 0 ∷ 4 ∷ 4 ∷ 0 ∷ 0 ∷ 0 ∷ 0 ∷ 0 ∷
+    2 ∷ 0 ∷ 0 ∷ 4 ∷ 4 ∷ 0 ∷ 0 ∷ 0 ∷ 0 ∷ 0 ∷
+    3 ∷ 0 ∷ 0 ∷ 0 ∷ 0 ∷ 1 ∷
+    4 ∷ 1 ∷ 0 ∷ 1 ∷ 1 ∷ 0 ∷ 0 ∷ 0 ∷ 0 ∷ 0 ∷ 0 ∷ 0 ∷ 2 ∷
+    3 ∷ 0 ∷ 0 ∷ 0 ∷ 1 ∷ 0 ∷
+    4 ∷ 1 ∷ 0 ∷ 1 ∷ 1 ∷ 0 ∷ 0 ∷ 0 ∷ 0 ∷ 0 ∷ 0 ∷ 0 ∷ 2 ∷
+    5 ∷ 0 ∷ 0 ∷ 0 ∷ 0 ∷ []
+
+abbrev image-1801 : List ℕ
+image-1801 =
+    1 ∷ 0 ∷ 0 ∷ 0 ∷ 0 ∷ 0 ∷ 0 ∷ 0 ∷ 10 ∷ 0 ∷ 0 ∷ 0 ∷ 3 ∷ 0 ∷ 0 ∷ 0 ∷ 0 ∷ 0 ∷ 0 ∷ 0 ∷ 0 ∷ 0 ∷ 4 ∷ 1 ∷
+    2 ∷ 0 ∷ 1 ∷ 6 ∷ 4 ∷ 0 ∷ 0 ∷ 0 ∷ 0 ∷ 0 ∷
+    2 ∷ 0 ∷ 0 ∷ 6 ∷ 4 ∷ 0 ∷ 0 ∷ 0 ∷ 0 ∷ 0 ∷
+    2 ∷ 0 ∷ 0 ∷ 4 ∷ 4 ∷ 0 ∷ 0 ∷ 0 ∷ 0 ∷ 0 ∷
+    2 ∷ 0 ∷ 0 ∷ 2 ∷ 4 ∷ 0 ∷ 0 ∷ 0 ∷ 0 ∷ 0 ∷
+    3 ∷ 0 ∷ 0 ∷ 0 ∷ 0 ∷ 1 ∷
+    4 ∷ 1 ∷ 0 ∷ 1 ∷ 1 ∷ 0 ∷ 0 ∷ 0 ∷ 0 ∷ 0 ∷ 0 ∷ 0 ∷ 2 ∷
+    3 ∷ 0 ∷ 0 ∷ 0 ∷ 1 ∷ 0 ∷
+    4 ∷ 1 ∷ 0 ∷ 1 ∷ 1 ∷ 0 ∷ 0 ∷ 0 ∷ 0 ∷ 0 ∷ 0 ∷ 0 ∷ 2 ∷
+    3 ∷ 0 ∷ 0 ∷ 0 ∷ 3 ∷ 0 ∷
+    4 ∷ 2 ∷ 0 ∷ 0 ∷ 1 ∷ 0 ∷ 0 ∷ 0 ∷ 0 ∷ 0 ∷ 0 ∷ 0 ∷ 2 ∷
+    5 ∷ 0 ∷ 0 ∷ 0 ∷ 0 ∷ []
+
+abbrev image-1802 : List ℕ
+image-1802 =
+    1 ∷ 0 ∷ 0 ∷ 0 ∷ 0 ∷ 0 ∷ 0 ∷ 0 ∷ 10 ∷ 0 ∷ 0 ∷ 0 ∷ 3 ∷ 0 ∷ 0 ∷ 0 ∷ 0 ∷ 0 ∷ 0 ∷ 0 ∷ 0 ∷ 0 ∷ 4 ∷ 1 ∷
+    2 ∷ 0 ∷ 2 ∷ 6 ∷ 4 ∷ 0 ∷ 0 ∷ 0 ∷ 0 ∷ 0 ∷
+    2 ∷ 0 ∷ 0 ∷ 6 ∷ 4 ∷ 0 ∷ 0 ∷ 0 ∷ 0 ∷ 0 ∷
+    2 ∷ 0 ∷ 0 ∷ 4 ∷ 4 ∷ 0 ∷ 0 ∷ 0 ∷ 0 ∷ 0 ∷
+    2 ∷ 0 ∷ 0 ∷ 2 ∷ 4 ∷ 0 ∷ 0 ∷ 0 ∷ 0 ∷ 0 ∷
+    3 ∷ 0 ∷ 0 ∷ 0 ∷ 0 ∷ 1 ∷
+    4 ∷ 1 ∷ 0 ∷ 1 ∷ 1 ∷ 0 ∷ 0 ∷ 0 ∷ 0 ∷ 0 ∷ 0 ∷ 0 ∷ 2 ∷
+    3 ∷ 0 ∷ 0 ∷ 0 ∷ 1 ∷ 0 ∷
+    4 ∷ 1 ∷ 0 ∷ 1 ∷ 1 ∷ 0 ∷ 0 ∷ 0 ∷ 0 ∷ 0 ∷ 0 ∷ 0 ∷ 2 ∷
+    3 ∷ 0 ∷ 0 ∷ 0 ∷ 3 ∷ 0 ∷
+    4 ∷ 2 ∷ 0 ∷ 0 ∷ 1 ∷ 0 ∷ 0 ∷ 0 ∷ 0 ∷ 0 ∷ 0 ∷ 0 ∷ 2 ∷
+    5 ∷ 0 ∷ 0 ∷ 0 ∷ 0 ∷ []
+
+abbrev image-1803 : List ℕ
+image-1803 =
+    1 ∷ 0 ∷ 0 ∷ 0 ∷ 0 ∷ 0 ∷ 0 ∷ 0 ∷ 10 ∷ 0 ∷ 0 ∷ 0 ∷ 3 ∷ 0 ∷ 0 ∷ 0 ∷ 0 ∷ 0 ∷ 0 ∷ 0 ∷ 0 ∷ 0 ∷ 4 ∷ 0 ∷
+    2 ∷ 0 ∷ 2 ∷ 6 ∷ 4 ∷ 0 ∷ 0 ∷ 0 ∷ 0 ∷ 0 ∷
+    2 ∷ 0 ∷ 0 ∷ 6 ∷ 4 ∷ 0 ∷ 0 ∷ 0 ∷ 0 ∷ 0 ∷
+    2 ∷ 0 ∷ 0 ∷ 4 ∷ 4 ∷ 0 ∷ 0 ∷ 0 ∷ 0 ∷ 0 ∷
+    2 ∷ 0 ∷ 0 ∷ 2 ∷ 4 ∷ 0 ∷ 0 ∷ 0 ∷ 0 ∷ 0 ∷
+    3 ∷ 0 ∷ 0 ∷ 0 ∷ 0 ∷ 1 ∷
+    4 ∷ 1 ∷ 0 ∷ 1 ∷ 1 ∷ 0 ∷ 0 ∷ 0 ∷ 0 ∷ 0 ∷ 0 ∷ 0 ∷ 2 ∷
+    3 ∷ 0 ∷ 0 ∷ 0 ∷ 1 ∷ 0 ∷
+    4 ∷ 1 ∷ 0 ∷ 1 ∷ 1 ∷ 0 ∷ 0 ∷ 0 ∷ 0 ∷ 0 ∷ 0 ∷ 0 ∷ 2 ∷
+    3 ∷ 0 ∷ 0 ∷ 0 ∷ 3 ∷ 0 ∷
+    4 ∷ 2 ∷ 0 ∷ 0 ∷ 1 ∷ 0 ∷ 0 ∷ 0 ∷ 0 ∷ 0 ∷ 0 ∷ 0 ∷ 2 ∷
+    5 ∷ 0 ∷ 0 ∷ 0 ∷ 0 ∷
+    6 ∷ 0 ∷ 0 ∷ 0 ∷ 0 ∷ []
+
+-- calls 1786 to 1804
+calls-1786 :
     outcomes none
-    (new-line 1000000 293119 65536
-    ∷ call-line 1000000 (mark-as-finished 4 0 (some 2) (words 4352 []))
-    ∷ call-line 1000000 (pick-pieces (asking 16 2048 0 0 (some 2) 5 (255 ∷ []) (4 ∷ 3 ∷ 0 ∷ 1 ∷ 2 ∷ 2 ∷ 0 ∷ 2 ∷ 3 ∷ 4 ∷ 0 ∷ 2 ∷ 0 ∷ 3 ∷ 1 ∷ 3 ∷ 4 ∷ 2 ∷ 4 ∷ 2 ∷ [])) 4351 (words 5000 []))
+    (new-line plenty 10 3
+    ∷ call-line plenty (question (ofPiece is-piece-finished 3))
+    ∷ call-line plenty (question (ofPicker blocks-per-piece))
+    ∷ call-line plenty (mark-as-downloading 0 0 (some 2) 134 (words 4352 []))
+    ∷ call-line plenty (mark-as-downloading 1 0 (some 18446744073709551615) 128 (words 0 []))
+    ∷ call-line plenty (question (list-place 0))
+    ∷ call-line plenty (piece-passed 0)
+    ∷ call-line plenty (piece-passed 3)
+    ∷ image-line plenty 1000000
+    ∷ call-line plenty (question (ofPiece piece-stats 0))
+    ∷ call-line plenty dec-refcount-all
+    ∷ call-line plenty (mark-as-canceled 1 0 (some 3) (words 4352 []))
+    ∷ call-line plenty (inc-refcount 0 (words 4352 []))
+    ∷ call-line plenty (mark-as-downloading 1 0 (some 2) 154 (words 4352 []))
+    ∷ call-line plenty (dec-refcount 9223372036854775807 (words 5000 []))
+    ∷ call-line plenty (mark-as-writing 3 0 (some 2) (words 4352 []))
+    ∷ call-line plenty (inc-refcount 0 (words 4352 []))
+    ∷ call-line plenty (pick-pieces (asking 26 8 2 1 (some 1) 4 (255 ∷ []) []) 4351 (words 4352 (1 ∷ 4294967295 ∷ [])))
+    ∷ call-line plenty (question (ofBlock is-downloaded 1 4294967296))
     ∷ [])
-    ≡ outcome stands image-1806
-    ∷ outcome (answered (done 0)) image-1807
-    ∷ outcome (answered (picked ((pieceBlock 4 1) ∷ (pieceBlock 3 0) ∷ (pieceBlock 3 1) ∷ (pieceBlock 3 2) ∷ (pieceBlock 3 3) ∷ (pieceBlock 0 0) ∷ (pieceBlock 0 1) ∷ (pieceBlock 0 2) ∷ (pieceBlock 0 3) ∷ (pieceBlock 1 0) ∷ (pieceBlock 1 1) ∷ (pieceBlock 1 2) ∷ (pieceBlock 1 3) ∷ (pieceBlock 2 0) ∷ (pieceBlock 2 1) ∷ (pieceBlock 2 2) ∷ (pieceBlock 2 3) ∷ []) 8355 (1 ∷ 20 ∷ 0 ∷ 0 ∷ 0 ∷ 0 ∷ 0 ∷ []) 0)) image-1808
+    ≡ outcome stands image-1786
+    ∷ outcome (answered (replied (numbers ((some 0) ∷ [])))) image-1786
+    ∷ outcome (answered (replied (numbers ((some 1) ∷ [])))) image-1786
+    ∷ outcome (answered (said true 0)) image-1789
+    ∷ outcome (answered (refused FewDraws)) image-1789
+    ∷ outcome (answered (replied staleList)) image-1789
+    ∷ outcome (answered (done 0)) image-1792
+    ∷ outcome (answered (done 0)) image-1792
+    ∷ outcome (bytesTaken (1 ∷ 0 ∷ 0 ∷ 0 ∷ 0 ∷ 0 ∷ 0 ∷ 0 ∷ 10 ∷ 0 ∷ 0 ∷ 0 ∷ 3 ∷ 0 ∷ 0 ∷ 0 ∷ 0 ∷ 0 ∷ 0 ∷ 0 ∷ 0 ∷ 0 ∷ 4 ∷ 1 ∷ 2 ∷ 0 ∷ 0 ∷ 6 ∷ 4 ∷ 0 ∷ 0 ∷ 0 ∷ 0 ∷ 0 ∷ 2 ∷ 0 ∷ 0 ∷ 4 ∷ 4 ∷ 0 ∷ 0 ∷ 0 ∷ 0 ∷ 0 ∷ 2 ∷ 0 ∷ 0 ∷ 4 ∷ 4 ∷ 0 ∷ 0 ∷ 0 ∷ 0 ∷ 0 ∷ 2 ∷ 0 ∷ 0 ∷ 4 ∷ 4 ∷ 0 ∷ 0 ∷ 0 ∷ 0 ∷ 0 ∷ 3 ∷ 0 ∷ 0 ∷ 0 ∷ 0 ∷ 1 ∷ 4 ∷ 1 ∷ 0 ∷ 1 ∷ 1 ∷ 0 ∷ 0 ∷ 0 ∷ 0 ∷ 0 ∷ 0 ∷ 0 ∷ 2 ∷ 5 ∷ 0 ∷ 0 ∷ 0 ∷ 0 ∷ [])) image-1792
+    ∷ outcome (answered (replied (numbers ((some 0) ∷ none ∷ (some 0) ∷ (some 1) ∷ [])))) image-1792
+    ∷ outcome (answered (refused NoPeerToTake)) image-1792
+    ∷ outcome (answered (done 0)) image-1792
+    ∷ outcome (answered (done 0)) image-1798
+    ∷ outcome (answered (said true 0)) image-1799
+    ∷ outcome (answered (refused OutOfRange)) image-1799
+    ∷ outcome (answered (said true 0)) image-1801
+    ∷ outcome (answered (done 0)) image-1802
+    ∷ outcome (answered (picked ((pieceBlock 2 0) ∷ (pieceBlock 1 0) ∷ []) 47104 (0 ∷ 0 ∷ 1 ∷ 0 ∷ 0 ∷ 0 ∷ 1 ∷ []) 2)) image-1803
+    ∷ outcome (answered (refused OutOfRange)) image-1803
     ∷ []
 unfolding replaying
-calls-1806 = refl
+calls-1786 = refl
 
-abbrev image-1926 : List ℕ
-image-1926 =
+abbrev image-1839 : List ℕ
+image-1839 =
+    1 ∷ 0 ∷ 0 ∷ 0 ∷ 0 ∷ 0 ∷ 2 ∷ 0 ∷ 1 ∷ 0 ∷ 0 ∷ 128 ∷ 0 ∷ 0 ∷ 1 ∷ 0 ∷ 0 ∷ 0 ∷ 2 ∷ 0 ∷ 0 ∷ 0 ∷ 4 ∷ 0 ∷
+    2 ∷ 3 ∷ 231 ∷ 4 ∷ 7 ∷ 0 ∷ 0 ∷ 0 ∷ 0 ∷ 0 ∷
+    2 ∷ 0 ∷ 1 ∷ 4 ∷ 6 ∷ 0 ∷ 0 ∷ 0 ∷ 0 ∷ 0 ∷
+    2 ∷ 3 ∷ 230 ∷ 2 ∷ 7 ∷ 0 ∷ 0 ∷ 0 ∷ 0 ∷ 0 ∷
+    2 ∷ 3 ∷ 231 ∷ 4 ∷ 7 ∷ 0 ∷ 0 ∷ 0 ∷ 0 ∷ 0 ∷
+    2 ∷ 0 ∷ 0 ∷ 4 ∷ 0 ∷ 0 ∷ 0 ∷ 0 ∷ 0 ∷ 0 ∷
+    3 ∷ 0 ∷ 0 ∷ 0 ∷ 2 ∷ 0 ∷
+    4 ∷ 3 ∷ 0 ∷ 3 ∷ 1 ∷ 0 ∷ 0 ∷ 0 ∷ 0 ∷ 0 ∷ 0 ∷ 0 ∷ 0 ∷
+    4 ∷ 3 ∷ 0 ∷ 0 ∷ 1 ∷ 255 ∷ 255 ∷ 255 ∷ 255 ∷ 255 ∷ 255 ∷ 255 ∷ 255 ∷
+    6 ∷ 0 ∷ 0 ∷ 0 ∷ 1 ∷
+    6 ∷ 0 ∷ 0 ∷ 0 ∷ 0 ∷
+    6 ∷ 0 ∷ 0 ∷ 0 ∷ 3 ∷ []
+
+abbrev image-1840 : List ℕ
+image-1840 =
+    1 ∷ 0 ∷ 0 ∷ 0 ∷ 0 ∷ 0 ∷ 2 ∷ 0 ∷ 1 ∷ 0 ∷ 0 ∷ 128 ∷ 0 ∷ 0 ∷ 1 ∷ 0 ∷ 0 ∷ 0 ∷ 2 ∷ 0 ∷ 0 ∷ 0 ∷ 4 ∷ 0 ∷
+    2 ∷ 3 ∷ 231 ∷ 4 ∷ 7 ∷ 0 ∷ 0 ∷ 0 ∷ 0 ∷ 0 ∷
+    2 ∷ 0 ∷ 1 ∷ 4 ∷ 6 ∷ 0 ∷ 0 ∷ 0 ∷ 0 ∷ 0 ∷
+    2 ∷ 3 ∷ 231 ∷ 2 ∷ 7 ∷ 0 ∷ 0 ∷ 0 ∷ 0 ∷ 0 ∷
+    2 ∷ 3 ∷ 231 ∷ 4 ∷ 7 ∷ 0 ∷ 0 ∷ 0 ∷ 0 ∷ 0 ∷
+    2 ∷ 0 ∷ 0 ∷ 4 ∷ 0 ∷ 0 ∷ 0 ∷ 0 ∷ 0 ∷ 0 ∷
+    3 ∷ 0 ∷ 0 ∷ 0 ∷ 2 ∷ 0 ∷
+    4 ∷ 3 ∷ 0 ∷ 3 ∷ 1 ∷ 0 ∷ 0 ∷ 0 ∷ 0 ∷ 0 ∷ 0 ∷ 0 ∷ 0 ∷
+    4 ∷ 3 ∷ 0 ∷ 0 ∷ 1 ∷ 255 ∷ 255 ∷ 255 ∷ 255 ∷ 255 ∷ 255 ∷ 255 ∷ 255 ∷
+    6 ∷ 0 ∷ 0 ∷ 0 ∷ 1 ∷
+    6 ∷ 0 ∷ 0 ∷ 0 ∷ 0 ∷
+    6 ∷ 0 ∷ 0 ∷ 0 ∷ 3 ∷ []
+
+abbrev image-1845 : List ℕ
+image-1845 =
+    1 ∷ 0 ∷ 0 ∷ 0 ∷ 0 ∷ 0 ∷ 2 ∷ 0 ∷ 1 ∷ 0 ∷ 0 ∷ 128 ∷ 0 ∷ 0 ∷ 1 ∷ 0 ∷ 0 ∷ 0 ∷ 2 ∷ 0 ∷ 0 ∷ 0 ∷ 4 ∷ 0 ∷
+    2 ∷ 3 ∷ 231 ∷ 4 ∷ 7 ∷ 0 ∷ 0 ∷ 0 ∷ 0 ∷ 0 ∷
+    2 ∷ 0 ∷ 1 ∷ 4 ∷ 6 ∷ 0 ∷ 0 ∷ 0 ∷ 0 ∷ 0 ∷
+    2 ∷ 3 ∷ 231 ∷ 2 ∷ 6 ∷ 0 ∷ 0 ∷ 0 ∷ 0 ∷ 0 ∷
+    2 ∷ 3 ∷ 231 ∷ 4 ∷ 7 ∷ 0 ∷ 0 ∷ 0 ∷ 0 ∷ 0 ∷
+    2 ∷ 0 ∷ 0 ∷ 4 ∷ 0 ∷ 0 ∷ 0 ∷ 0 ∷ 0 ∷ 0 ∷
+    3 ∷ 0 ∷ 0 ∷ 0 ∷ 2 ∷ 0 ∷
+    4 ∷ 3 ∷ 0 ∷ 3 ∷ 1 ∷ 0 ∷ 0 ∷ 0 ∷ 0 ∷ 0 ∷ 0 ∷ 0 ∷ 0 ∷
+    4 ∷ 3 ∷ 0 ∷ 0 ∷ 1 ∷ 255 ∷ 255 ∷ 255 ∷ 255 ∷ 255 ∷ 255 ∷ 255 ∷ 255 ∷
+    6 ∷ 0 ∷ 0 ∷ 0 ∷ 1 ∷
+    6 ∷ 0 ∷ 0 ∷ 0 ∷ 0 ∷
+    6 ∷ 0 ∷ 0 ∷ 0 ∷ 3 ∷ []
+
+abbrev image-1849 : List ℕ
+image-1849 =
+    1 ∷ 0 ∷ 0 ∷ 0 ∷ 0 ∷ 0 ∷ 2 ∷ 0 ∷ 1 ∷ 0 ∷ 0 ∷ 128 ∷ 0 ∷ 0 ∷ 1 ∷ 0 ∷ 0 ∷ 0 ∷ 2 ∷ 0 ∷ 0 ∷ 0 ∷ 4 ∷ 0 ∷
+    2 ∷ 3 ∷ 231 ∷ 4 ∷ 7 ∷ 0 ∷ 0 ∷ 0 ∷ 0 ∷ 0 ∷
+    2 ∷ 0 ∷ 1 ∷ 4 ∷ 6 ∷ 0 ∷ 0 ∷ 0 ∷ 0 ∷ 0 ∷
+    2 ∷ 3 ∷ 231 ∷ 2 ∷ 6 ∷ 0 ∷ 0 ∷ 0 ∷ 0 ∷ 0 ∷
+    2 ∷ 3 ∷ 231 ∷ 4 ∷ 7 ∷ 0 ∷ 0 ∷ 0 ∷ 0 ∷ 0 ∷
+    2 ∷ 0 ∷ 0 ∷ 4 ∷ 0 ∷ 0 ∷ 0 ∷ 0 ∷ 0 ∷ 0 ∷
+    3 ∷ 0 ∷ 0 ∷ 0 ∷ 2 ∷ 0 ∷
+    4 ∷ 3 ∷ 0 ∷ 3 ∷ 1 ∷ 255 ∷ 255 ∷ 255 ∷ 255 ∷ 255 ∷ 255 ∷ 255 ∷ 255 ∷
+    4 ∷ 3 ∷ 0 ∷ 0 ∷ 1 ∷ 255 ∷ 255 ∷ 255 ∷ 255 ∷ 255 ∷ 255 ∷ 255 ∷ 255 ∷
+    6 ∷ 0 ∷ 0 ∷ 0 ∷ 1 ∷
+    6 ∷ 0 ∷ 0 ∷ 0 ∷ 0 ∷
+    6 ∷ 0 ∷ 0 ∷ 0 ∷ 3 ∷ []
+
+-- calls 1839 to 1853
+calls-1839 :
+    outcomes none
+    (read-line plenty image-1839
+    ∷ call-line plenty (inc-refcount 2 (words 4352 []))
+    ∷ call-line plenty (question (partial-at 2))
+    ∷ call-line plenty (pick-pieces (asking 2 1 2 1000 (some 1) 5 (255 ∷ []) (2 ∷ 1 ∷ 2 ∷ [])) 4351 (words 4352 []))
+    ∷ call-line plenty (question (listOfPiece blocks-for-piece 2 1000000))
+    ∷ call-line plenty (set-piece-priority 2 6 (words 4352 []))
+    ∷ call-line plenty (mark-as-canceled 3 1 (some 0) (words 4352 []))
+    ∷ call-line plenty (question (listOfPiece get-downloaders 2 1000000))
+    ∷ call-line plenty (question (ofPiece download-state 3))
+    ∷ call-line plenty (mark-as-writing 2 0 (some 18446744073709551615) (words 4352 []))
+    ∷ call-line plenty (pick-pieces (asking 206 2 10 1 none 5 (255 ∷ []) []) 4351 (words 5000 (3538219124 ∷ [])))
+    ∷ call-line plenty (question (ofPiece have-piece 2))
+    ∷ [])
+    ≡ outcome stands image-1839
+    ∷ outcome (answered (done 0)) image-1840
+    ∷ outcome (answered (replied nothing)) image-1840
+    ∷ outcome (answered (picked ((pieceBlock 1 0) ∷ (pieceBlock 1 1) ∷ []) 2080 (0 ∷ 2 ∷ 0 ∷ 0 ∷ 0 ∷ 0 ∷ 0 ∷ []) 0)) image-1840
+    ∷ outcome (answered (replied (numbers ((some 3) ∷ (some 3) ∷ (some 0) ∷ (some 3) ∷ (some 0) ∷ (some 18446744073709551615) ∷ [])))) image-1840
+    ∷ outcome (answered (said false 0)) image-1845
+    ∷ outcome (answered (done 0)) image-1845
+    ∷ outcome (answered (replied (numbers ((some 0) ∷ (some 18446744073709551615) ∷ [])))) image-1845
+    ∷ outcome (answered (replied (numbers ((some 4) ∷ [])))) image-1845
+    ∷ outcome (answered (said false 0)) image-1849
+    ∷ outcome (answered (picked ((pieceBlock 0 0) ∷ (pieceBlock 0 1) ∷ (pieceBlock 1 0) ∷ (pieceBlock 1 1) ∷ []) 3072 (0 ∷ 0 ∷ 0 ∷ 0 ∷ 1 ∷ 4 ∷ 0 ∷ []) 1)) image-1849
+    ∷ outcome (answered (replied (numbers ((some 0) ∷ [])))) image-1849
+    ∷ []
+unfolding replaying
+calls-1839 = refl
+
+abbrev image-1858 : List ℕ
+image-1858 =
+    1 ∷ 0 ∷ 0 ∷ 0 ∷ 0 ∷ 0 ∷ 1 ∷ 0 ∷ 1 ∷ 0 ∷ 0 ∷ 64 ∷ 0 ∷ 0 ∷ 1 ∷ 0 ∷ 0 ∷ 0 ∷ 0 ∷ 0 ∷ 0 ∷ 0 ∷ 5 ∷ 0 ∷
+    2 ∷ 0 ∷ 0 ∷ 4 ∷ 6 ∷ 0 ∷ 0 ∷ 0 ∷ 64 ∷ 0 ∷
+    2 ∷ 0 ∷ 1 ∷ 4 ∷ 7 ∷ 0 ∷ 0 ∷ 0 ∷ 0 ∷ 0 ∷
+    2 ∷ 3 ∷ 230 ∷ 4 ∷ 4 ∷ 0 ∷ 0 ∷ 0 ∷ 0 ∷ 0 ∷
+    2 ∷ 0 ∷ 1 ∷ 4 ∷ 6 ∷ 0 ∷ 0 ∷ 0 ∷ 0 ∷ 0 ∷
+    2 ∷ 0 ∷ 2 ∷ 4 ∷ 4 ∷ 0 ∷ 0 ∷ 0 ∷ 0 ∷ 0 ∷
+    5 ∷ 0 ∷ 0 ∷ 0 ∷ 0 ∷
+    6 ∷ 0 ∷ 0 ∷ 0 ∷ 0 ∷
+    6 ∷ 0 ∷ 0 ∷ 0 ∷ 1 ∷
+    6 ∷ 0 ∷ 0 ∷ 0 ∷ 3 ∷
+    6 ∷ 0 ∷ 0 ∷ 0 ∷ 4 ∷
+    6 ∷ 0 ∷ 0 ∷ 0 ∷ 2 ∷ []
+
+-- calls 1858 to 1859
+calls-1858 :
+    outcomes none
+    (read-line plenty image-1858
+    ∷ call-line plenty (set-piece-priority 4 255 (words 5000 []))
+    ∷ [])
+    ≡ outcome stands image-1858
+    ∷ outcome (answered (refused OutOfRange)) image-1858
+    ∷ []
+unfolding replaying
+calls-1858 = refl
+
+abbrev image-1869 : List ℕ
+image-1869 =
+    1 ∷ 0 ∷ 0 ∷ 0 ∷ 0 ∷ 0 ∷ 0 ∷ 128 ∷ 0 ∷ 0 ∷ 0 ∷ 64 ∷ 0 ∷ 0 ∷ 1 ∷ 0 ∷ 0 ∷ 0 ∷ 2 ∷ 0 ∷ 0 ∷ 0 ∷ 0 ∷ 0 ∷
+    2 ∷ 0 ∷ 7 ∷ 4 ∷ 4 ∷ 0 ∷ 0 ∷ 0 ∷ 0 ∷ 0 ∷
+    2 ∷ 0 ∷ 0 ∷ 4 ∷ 4 ∷ 0 ∷ 0 ∷ 0 ∷ 0 ∷ 0 ∷
+    6 ∷ 0 ∷ 0 ∷ 0 ∷ 1 ∷
+    6 ∷ 0 ∷ 0 ∷ 0 ∷ 0 ∷ []
+
+abbrev image-1871 : List ℕ
+image-1871 =
+    1 ∷ 0 ∷ 0 ∷ 0 ∷ 0 ∷ 0 ∷ 0 ∷ 128 ∷ 0 ∷ 0 ∷ 0 ∷ 64 ∷ 0 ∷ 0 ∷ 1 ∷ 0 ∷ 0 ∷ 0 ∷ 2 ∷ 0 ∷ 0 ∷ 0 ∷ 0 ∷ 0 ∷
+    2 ∷ 0 ∷ 6 ∷ 4 ∷ 4 ∷ 0 ∷ 0 ∷ 0 ∷ 0 ∷ 0 ∷
+    2 ∷ 0 ∷ 0 ∷ 4 ∷ 4 ∷ 0 ∷ 0 ∷ 0 ∷ 0 ∷ 0 ∷
+    6 ∷ 0 ∷ 0 ∷ 0 ∷ 1 ∷
+    6 ∷ 0 ∷ 0 ∷ 0 ∷ 0 ∷ []
+
+abbrev image-1872 : List ℕ
+image-1872 =
+    1 ∷ 0 ∷ 0 ∷ 0 ∷ 0 ∷ 0 ∷ 0 ∷ 128 ∷ 0 ∷ 0 ∷ 0 ∷ 64 ∷ 0 ∷ 0 ∷ 1 ∷ 0 ∷ 0 ∷ 0 ∷ 2 ∷ 0 ∷ 0 ∷ 0 ∷ 0 ∷ 0 ∷
+    2 ∷ 0 ∷ 6 ∷ 4 ∷ 4 ∷ 0 ∷ 0 ∷ 0 ∷ 0 ∷ 0 ∷
+    2 ∷ 0 ∷ 0 ∷ 2 ∷ 4 ∷ 0 ∷ 0 ∷ 0 ∷ 0 ∷ 0 ∷
+    3 ∷ 0 ∷ 0 ∷ 0 ∷ 1 ∷ 0 ∷
+    4 ∷ 2 ∷ 0 ∷ 0 ∷ 1 ∷ 255 ∷ 255 ∷ 255 ∷ 255 ∷ 255 ∷ 255 ∷ 255 ∷ 255 ∷
+    6 ∷ 0 ∷ 0 ∷ 0 ∷ 0 ∷ []
+
+-- calls 1869 to 1873
+calls-1869 :
+    outcomes none
+    (read-line plenty image-1869
+    ∷ call-line plenty (dec-refcount 0 (words 5000 []))
+    ∷ call-line plenty (mark-as-writing 1 0 (some 18446744073709551615) (words 5000 []))
+    ∷ call-line (lending 15 1000000 1000000) (inc-refcount 1 (words 4352 []))
+    ∷ [])
+    ≡ outcome stands image-1869
+    ∷ outcome (answered (done 0)) image-1871
+    ∷ outcome (answered (said true 0)) image-1872
+    ∷ outcome (answered (refused ShortMemory)) image-1872
+    ∷ []
+unfolding replaying
+calls-1869 = refl
+
+abbrev image-1929 : List ℕ
+image-1929 =
     1 ∷ 0 ∷ 0 ∷ 0 ∷ 0 ∷ 0 ∷ 1 ∷ 0 ∷ 1 ∷ 0 ∷ 0 ∷ 64 ∷ 0 ∷ 0 ∷ 0 ∷ 0 ∷ 0 ∷ 0 ∷ 0 ∷ 0 ∷ 0 ∷ 0 ∷ 5 ∷ 1 ∷
     2 ∷ 0 ∷ 0 ∷ 4 ∷ 4 ∷ 0 ∷ 0 ∷ 0 ∷ 0 ∷ 0 ∷
     2 ∷ 0 ∷ 0 ∷ 4 ∷ 4 ∷ 0 ∷ 0 ∷ 0 ∷ 0 ∷ 0 ∷
@@ -336,1393 +512,1268 @@ image-1926 =
     2 ∷ 0 ∷ 0 ∷ 4 ∷ 4 ∷ 0 ∷ 0 ∷ 0 ∷ 0 ∷ 0 ∷
     2 ∷ 0 ∷ 0 ∷ 4 ∷ 4 ∷ 0 ∷ 0 ∷ 0 ∷ 0 ∷ 0 ∷ []
 
--- calls 1926 to 1928
-calls-1926 :
+-- calls 1929 to 1931
+calls-1929 :
     outcomes none
-    (new-line 1000000 65537 16384
-    ∷ call-line 1000000 (question (ofPiece get-availability 3))
-    ∷ call-line 1000000 (question (ofBlock get-downloader 2 0))
+    (new-line plenty 65537 16384
+    ∷ call-line plenty (question (ofPiece get-availability 3))
+    ∷ call-line plenty (question (ofBlock get-downloader 2 0))
     ∷ [])
-    ≡ outcome stands image-1926
-    ∷ outcome (answered (replied (numbers ((some 0) ∷ [])))) image-1926
-    ∷ outcome (answered (replied (numbers (none ∷ [])))) image-1926
+    ≡ outcome stands image-1929
+    ∷ outcome (answered (replied (numbers ((some 0) ∷ [])))) image-1929
+    ∷ outcome (answered (replied (numbers (none ∷ [])))) image-1929
     ∷ []
 unfolding replaying
-calls-1926 = refl
+calls-1929 = refl
 
-abbrev image-2058 : List ℕ
-image-2058 =
-    1 ∷ 0 ∷ 0 ∷ 0 ∷ 0 ∷ 0 ∷ 0 ∷ 91 ∷ 188 ∷ 0 ∷ 0 ∷ 64 ∷ 0 ∷ 0 ∷ 0 ∷ 0 ∷ 0 ∷ 0 ∷ 0 ∷ 0 ∷ 0 ∷ 0 ∷ 2 ∷ 1 ∷
+abbrev image-2019 : List ℕ
+image-2019 =
+    1 ∷ 0 ∷ 0 ∷ 0 ∷ 0 ∷ 0 ∷ 1 ∷ 0 ∷ 0 ∷ 0 ∷ 0 ∷ 128 ∷ 0 ∷ 0 ∷ 0 ∷ 0 ∷ 0 ∷ 0 ∷ 0 ∷ 0 ∷ 0 ∷ 0 ∷ 2 ∷ 1 ∷
     2 ∷ 0 ∷ 0 ∷ 4 ∷ 4 ∷ 0 ∷ 0 ∷ 0 ∷ 0 ∷ 0 ∷
     2 ∷ 0 ∷ 0 ∷ 4 ∷ 4 ∷ 0 ∷ 0 ∷ 0 ∷ 0 ∷ 0 ∷ []
 
--- calls 2058 to 2059
-calls-2058 :
+abbrev image-2021 : List ℕ
+image-2021 =
+    1 ∷ 0 ∷ 0 ∷ 0 ∷ 0 ∷ 0 ∷ 1 ∷ 0 ∷ 0 ∷ 0 ∷ 0 ∷ 128 ∷ 0 ∷ 0 ∷ 0 ∷ 0 ∷ 0 ∷ 0 ∷ 0 ∷ 0 ∷ 0 ∷ 0 ∷ 2 ∷ 1 ∷
+    2 ∷ 0 ∷ 0 ∷ 4 ∷ 4 ∷ 0 ∷ 0 ∷ 0 ∷ 0 ∷ 0 ∷
+    2 ∷ 0 ∷ 1 ∷ 4 ∷ 4 ∷ 0 ∷ 0 ∷ 0 ∷ 0 ∷ 0 ∷ []
+
+abbrev image-2022 : List ℕ
+image-2022 =
+    1 ∷ 0 ∷ 0 ∷ 0 ∷ 0 ∷ 0 ∷ 1 ∷ 0 ∷ 0 ∷ 0 ∷ 0 ∷ 128 ∷ 0 ∷ 0 ∷ 1 ∷ 0 ∷ 0 ∷ 0 ∷ 0 ∷ 0 ∷ 0 ∷ 0 ∷ 2 ∷ 1 ∷
+    2 ∷ 0 ∷ 0 ∷ 4 ∷ 4 ∷ 0 ∷ 0 ∷ 0 ∷ 0 ∷ 0 ∷
+    2 ∷ 0 ∷ 1 ∷ 4 ∷ 4 ∷ 0 ∷ 0 ∷ 0 ∷ 0 ∷ 0 ∷ []
+
+abbrev image-2028 : List ℕ
+image-2028 =
+    1 ∷ 0 ∷ 0 ∷ 0 ∷ 0 ∷ 0 ∷ 1 ∷ 0 ∷ 0 ∷ 0 ∷ 0 ∷ 128 ∷ 0 ∷ 0 ∷ 1 ∷ 0 ∷ 0 ∷ 0 ∷ 0 ∷ 0 ∷ 0 ∷ 0 ∷ 2 ∷ 0 ∷
+    2 ∷ 0 ∷ 0 ∷ 4 ∷ 4 ∷ 0 ∷ 0 ∷ 0 ∷ 0 ∷ 0 ∷
+    2 ∷ 0 ∷ 1 ∷ 4 ∷ 4 ∷ 0 ∷ 0 ∷ 0 ∷ 0 ∷ 0 ∷
+    6 ∷ 0 ∷ 0 ∷ 0 ∷ 0 ∷
+    6 ∷ 0 ∷ 0 ∷ 0 ∷ 1 ∷ []
+
+-- calls 2019 to 2028
+calls-2019 :
     outcomes none
-    (new-line 1000000 23484 16384
-    ∷ call-line 1000000 (question (ofPiece payload-blocks-in-piece 1))
+    (new-line plenty 65536 32768
+    ∷ call-line plenty (pick-pieces (asking 64904 300 0 3 none 2 (255 ∷ []) []) 4351 (words 4352 (3903304653 ∷ [])))
+    ∷ call-line plenty (inc-refcount 1 (words 4352 []))
+    ∷ call-line plenty inc-refcount-all
+    ∷ call-line plenty (mark-as-canceled 0 0 (some 1) (words 4352 []))
+    ∷ call-line plenty (question (ofPiece piece-info 9223372036854775807))
+    ∷ call-line plenty (mark-as-finished 1 1 (some 1) (words 1 []))
+    ∷ call-line plenty (set-piece-priority 1 4 (words 4352 []))
+    ∷ call-line plenty (abort-download 1 0 (some 2) (words 4352 []))
+    ∷ call-line plenty (pick-pieces (asking 212 5 2047 10 (some 2) 2 (222 ∷ []) (1 ∷ 0 ∷ 1 ∷ 0 ∷ 1 ∷ 0 ∷ 1 ∷ 1 ∷ 1 ∷ 1 ∷ 1 ∷ 1 ∷ 0 ∷ 0 ∷ 0 ∷ 0 ∷ 1 ∷ 0 ∷ 0 ∷ 1 ∷ [])) 4351 (words 5000 []))
     ∷ [])
-    ≡ outcome stands image-2058
-    ∷ outcome (answered (replied (numbers ((some 1) ∷ [])))) image-2058
+    ≡ outcome stands image-2019
+    ∷ outcome (answered (picked ((pieceBlock 1 0) ∷ (pieceBlock 1 1) ∷ (pieceBlock 0 0) ∷ (pieceBlock 0 1) ∷ []) 9216 (0 ∷ 0 ∷ 0 ∷ 0 ∷ 0 ∷ 0 ∷ 0 ∷ []) 1)) image-2019
+    ∷ outcome (answered (done 0)) image-2021
+    ∷ outcome (answered (done 0)) image-2022
+    ∷ outcome (answered (done 0)) image-2022
+    ∷ outcome (answered (refused OutOfRange)) image-2022
+    ∷ outcome (answered (refused FewDraws)) image-2022
+    ∷ outcome (answered (said false 0)) image-2022
+    ∷ outcome (answered (done 0)) image-2022
+    ∷ outcome (answered (picked ((pieceBlock 0 0) ∷ (pieceBlock 0 1) ∷ (pieceBlock 1 0) ∷ (pieceBlock 1 1) ∷ []) 10400 (0 ∷ 20 ∷ 0 ∷ 2 ∷ 0 ∷ 0 ∷ 0 ∷ []) 0)) image-2028
     ∷ []
 unfolding replaying
-calls-2058 = refl
+calls-2019 = refl
 
-abbrev image-2076 : List ℕ
-image-2076 =
-    1 ∷ 0 ∷ 0 ∷ 0 ∷ 0 ∷ 0 ∷ 0 ∷ 128 ∷ 1 ∷ 0 ∷ 0 ∷ 128 ∷ 0 ∷ 0 ∷ 1 ∷ 0 ∷ 0 ∷ 0 ∷ 0 ∷ 0 ∷ 0 ∷ 0 ∷ 0 ∷ 1 ∷
-    2 ∷ 0 ∷ 3 ∷ 5 ∷ 6 ∷ 0 ∷ 0 ∷ 0 ∷ 0 ∷ 0 ∷
-    2 ∷ 0 ∷ 8 ∷ 4 ∷ 7 ∷ 0 ∷ 0 ∷ 0 ∷ 0 ∷ 0 ∷
-    3 ∷ 0 ∷ 0 ∷ 0 ∷ 0 ∷ 0 ∷
-    4 ∷ 0 ∷ 0 ∷ 0 ∷ 1 ∷ 255 ∷ 255 ∷ 255 ∷ 255 ∷ 255 ∷ 255 ∷ 255 ∷ 255 ∷
-    4 ∷ 0 ∷ 0 ∷ 0 ∷ 1 ∷ 0 ∷ 0 ∷ 0 ∷ 0 ∷ 0 ∷ 0 ∷ 0 ∷ 1 ∷
-    5 ∷ 0 ∷ 0 ∷ 0 ∷ 0 ∷ []
-
-abbrev image-2077 : List ℕ
-image-2077 =
-    1 ∷ 0 ∷ 0 ∷ 0 ∷ 0 ∷ 0 ∷ 0 ∷ 128 ∷ 1 ∷ 0 ∷ 0 ∷ 128 ∷ 0 ∷ 0 ∷ 1 ∷ 0 ∷ 0 ∷ 0 ∷ 0 ∷ 0 ∷ 0 ∷ 0 ∷ 0 ∷ 1 ∷
-    2 ∷ 0 ∷ 3 ∷ 5 ∷ 6 ∷ 0 ∷ 0 ∷ 0 ∷ 0 ∷ 0 ∷
-    2 ∷ 0 ∷ 8 ∷ 4 ∷ 7 ∷ 0 ∷ 0 ∷ 0 ∷ 0 ∷ 0 ∷
-    3 ∷ 0 ∷ 0 ∷ 0 ∷ 0 ∷ 2 ∷
-    4 ∷ 0 ∷ 0 ∷ 0 ∷ 1 ∷ 255 ∷ 255 ∷ 255 ∷ 255 ∷ 255 ∷ 255 ∷ 255 ∷ 255 ∷
-    4 ∷ 0 ∷ 0 ∷ 0 ∷ 1 ∷ 0 ∷ 0 ∷ 0 ∷ 0 ∷ 0 ∷ 0 ∷ 0 ∷ 1 ∷
-    5 ∷ 0 ∷ 0 ∷ 0 ∷ 0 ∷ []
-
-abbrev image-2078 : List ℕ
-image-2078 =
-    1 ∷ 0 ∷ 0 ∷ 0 ∷ 0 ∷ 0 ∷ 0 ∷ 128 ∷ 1 ∷ 0 ∷ 0 ∷ 128 ∷ 0 ∷ 0 ∷ 1 ∷ 0 ∷ 0 ∷ 0 ∷ 0 ∷ 0 ∷ 0 ∷ 0 ∷ 0 ∷ 1 ∷
-    2 ∷ 0 ∷ 3 ∷ 5 ∷ 4 ∷ 0 ∷ 0 ∷ 0 ∷ 0 ∷ 0 ∷
-    2 ∷ 0 ∷ 8 ∷ 4 ∷ 7 ∷ 0 ∷ 0 ∷ 0 ∷ 0 ∷ 0 ∷
-    3 ∷ 0 ∷ 0 ∷ 0 ∷ 0 ∷ 2 ∷
-    4 ∷ 0 ∷ 0 ∷ 0 ∷ 1 ∷ 255 ∷ 255 ∷ 255 ∷ 255 ∷ 255 ∷ 255 ∷ 255 ∷ 255 ∷
-    4 ∷ 0 ∷ 0 ∷ 0 ∷ 1 ∷ 0 ∷ 0 ∷ 0 ∷ 0 ∷ 0 ∷ 0 ∷ 0 ∷ 1 ∷
-    5 ∷ 0 ∷ 0 ∷ 0 ∷ 0 ∷ []
-
-abbrev image-2079 : List ℕ
-image-2079 =
-    1 ∷ 0 ∷ 0 ∷ 0 ∷ 0 ∷ 0 ∷ 0 ∷ 128 ∷ 1 ∷ 0 ∷ 0 ∷ 128 ∷ 0 ∷ 0 ∷ 1 ∷ 0 ∷ 0 ∷ 0 ∷ 0 ∷ 0 ∷ 0 ∷ 0 ∷ 0 ∷ 1 ∷
-    2 ∷ 0 ∷ 3 ∷ 5 ∷ 4 ∷ 0 ∷ 0 ∷ 0 ∷ 0 ∷ 0 ∷
-    2 ∷ 0 ∷ 8 ∷ 1 ∷ 7 ∷ 0 ∷ 0 ∷ 0 ∷ 0 ∷ 0 ∷
-    3 ∷ 0 ∷ 0 ∷ 0 ∷ 0 ∷ 2 ∷
-    4 ∷ 0 ∷ 0 ∷ 0 ∷ 1 ∷ 255 ∷ 255 ∷ 255 ∷ 255 ∷ 255 ∷ 255 ∷ 255 ∷ 255 ∷
-    4 ∷ 0 ∷ 0 ∷ 0 ∷ 1 ∷ 0 ∷ 0 ∷ 0 ∷ 0 ∷ 0 ∷ 0 ∷ 0 ∷ 1 ∷
-    3 ∷ 0 ∷ 0 ∷ 0 ∷ 1 ∷ 0 ∷
-    4 ∷ 1 ∷ 0 ∷ 1 ∷ 1 ∷ 0 ∷ 0 ∷ 0 ∷ 0 ∷ 0 ∷ 0 ∷ 0 ∷ 2 ∷
-    5 ∷ 0 ∷ 0 ∷ 0 ∷ 0 ∷ []
-
-abbrev image-2080 : List ℕ
-image-2080 =
-    1 ∷ 0 ∷ 0 ∷ 0 ∷ 0 ∷ 0 ∷ 0 ∷ 128 ∷ 1 ∷ 0 ∷ 0 ∷ 128 ∷ 0 ∷ 0 ∷ 0 ∷ 0 ∷ 0 ∷ 0 ∷ 0 ∷ 0 ∷ 0 ∷ 0 ∷ 0 ∷ 1 ∷
-    2 ∷ 0 ∷ 3 ∷ 5 ∷ 4 ∷ 0 ∷ 0 ∷ 0 ∷ 0 ∷ 0 ∷
-    2 ∷ 0 ∷ 8 ∷ 1 ∷ 7 ∷ 0 ∷ 0 ∷ 0 ∷ 0 ∷ 0 ∷
-    3 ∷ 0 ∷ 0 ∷ 0 ∷ 0 ∷ 2 ∷
-    4 ∷ 0 ∷ 0 ∷ 0 ∷ 1 ∷ 255 ∷ 255 ∷ 255 ∷ 255 ∷ 255 ∷ 255 ∷ 255 ∷ 255 ∷
-    4 ∷ 0 ∷ 0 ∷ 0 ∷ 1 ∷ 0 ∷ 0 ∷ 0 ∷ 0 ∷ 0 ∷ 0 ∷ 0 ∷ 1 ∷
-    3 ∷ 0 ∷ 0 ∷ 0 ∷ 1 ∷ 0 ∷
-    4 ∷ 1 ∷ 0 ∷ 1 ∷ 1 ∷ 0 ∷ 0 ∷ 0 ∷ 0 ∷ 0 ∷ 0 ∷ 0 ∷ 2 ∷
-    5 ∷ 0 ∷ 0 ∷ 0 ∷ 0 ∷ []
-
-abbrev image-2082 : List ℕ
-image-2082 =
-    1 ∷ 0 ∷ 0 ∷ 0 ∷ 0 ∷ 0 ∷ 0 ∷ 128 ∷ 1 ∷ 0 ∷ 0 ∷ 128 ∷ 0 ∷ 0 ∷ 0 ∷ 0 ∷ 0 ∷ 0 ∷ 0 ∷ 0 ∷ 0 ∷ 0 ∷ 0 ∷ 1 ∷
-    2 ∷ 0 ∷ 3 ∷ 0 ∷ 4 ∷ 0 ∷ 0 ∷ 0 ∷ 0 ∷ 0 ∷
-    2 ∷ 0 ∷ 8 ∷ 1 ∷ 7 ∷ 0 ∷ 0 ∷ 0 ∷ 0 ∷ 0 ∷
-    3 ∷ 0 ∷ 0 ∷ 0 ∷ 0 ∷ 2 ∷
-    4 ∷ 1 ∷ 0 ∷ 1 ∷ 1 ∷ 0 ∷ 0 ∷ 0 ∷ 0 ∷ 0 ∷ 0 ∷ 0 ∷ 3 ∷
-    4 ∷ 0 ∷ 0 ∷ 0 ∷ 1 ∷ 0 ∷ 0 ∷ 0 ∷ 0 ∷ 0 ∷ 0 ∷ 0 ∷ 1 ∷
-    3 ∷ 0 ∷ 0 ∷ 0 ∷ 1 ∷ 0 ∷
-    4 ∷ 1 ∷ 0 ∷ 1 ∷ 1 ∷ 0 ∷ 0 ∷ 0 ∷ 0 ∷ 0 ∷ 0 ∷ 0 ∷ 2 ∷
-    5 ∷ 0 ∷ 0 ∷ 0 ∷ 0 ∷ []
-
-abbrev image-2083 : List ℕ
-image-2083 =
-    1 ∷ 0 ∷ 0 ∷ 0 ∷ 0 ∷ 0 ∷ 0 ∷ 128 ∷ 1 ∷ 0 ∷ 0 ∷ 128 ∷ 0 ∷ 0 ∷ 0 ∷ 0 ∷ 0 ∷ 0 ∷ 0 ∷ 0 ∷ 0 ∷ 0 ∷ 0 ∷ 1 ∷
-    2 ∷ 0 ∷ 3 ∷ 0 ∷ 6 ∷ 0 ∷ 0 ∷ 0 ∷ 0 ∷ 0 ∷
-    2 ∷ 0 ∷ 8 ∷ 1 ∷ 7 ∷ 0 ∷ 0 ∷ 0 ∷ 0 ∷ 0 ∷
-    3 ∷ 0 ∷ 0 ∷ 0 ∷ 0 ∷ 2 ∷
-    4 ∷ 1 ∷ 0 ∷ 1 ∷ 1 ∷ 0 ∷ 0 ∷ 0 ∷ 0 ∷ 0 ∷ 0 ∷ 0 ∷ 3 ∷
-    4 ∷ 0 ∷ 0 ∷ 0 ∷ 1 ∷ 0 ∷ 0 ∷ 0 ∷ 0 ∷ 0 ∷ 0 ∷ 0 ∷ 1 ∷
-    3 ∷ 0 ∷ 0 ∷ 0 ∷ 1 ∷ 0 ∷
-    4 ∷ 1 ∷ 0 ∷ 1 ∷ 1 ∷ 0 ∷ 0 ∷ 0 ∷ 0 ∷ 0 ∷ 0 ∷ 0 ∷ 2 ∷
-    5 ∷ 0 ∷ 0 ∷ 0 ∷ 0 ∷ []
-
-abbrev image-2084 : List ℕ
-image-2084 =
-    1 ∷ 0 ∷ 0 ∷ 0 ∷ 0 ∷ 0 ∷ 0 ∷ 128 ∷ 1 ∷ 0 ∷ 0 ∷ 128 ∷ 0 ∷ 0 ∷ 0 ∷ 0 ∷ 0 ∷ 0 ∷ 0 ∷ 0 ∷ 0 ∷ 0 ∷ 0 ∷ 1 ∷
-    2 ∷ 0 ∷ 3 ∷ 0 ∷ 4 ∷ 0 ∷ 0 ∷ 0 ∷ 0 ∷ 0 ∷
-    2 ∷ 0 ∷ 8 ∷ 1 ∷ 7 ∷ 0 ∷ 0 ∷ 0 ∷ 0 ∷ 0 ∷
-    3 ∷ 0 ∷ 0 ∷ 0 ∷ 0 ∷ 2 ∷
-    4 ∷ 1 ∷ 0 ∷ 1 ∷ 1 ∷ 0 ∷ 0 ∷ 0 ∷ 0 ∷ 0 ∷ 0 ∷ 0 ∷ 3 ∷
-    4 ∷ 0 ∷ 0 ∷ 0 ∷ 1 ∷ 0 ∷ 0 ∷ 0 ∷ 0 ∷ 0 ∷ 0 ∷ 0 ∷ 1 ∷
-    3 ∷ 0 ∷ 0 ∷ 0 ∷ 1 ∷ 0 ∷
-    4 ∷ 1 ∷ 0 ∷ 1 ∷ 1 ∷ 0 ∷ 0 ∷ 0 ∷ 0 ∷ 0 ∷ 0 ∷ 0 ∷ 2 ∷
-    5 ∷ 0 ∷ 0 ∷ 0 ∷ 0 ∷ []
-
-abbrev image-2085 : List ℕ
-image-2085 =
-    1 ∷ 0 ∷ 0 ∷ 0 ∷ 0 ∷ 0 ∷ 0 ∷ 128 ∷ 1 ∷ 0 ∷ 0 ∷ 128 ∷ 0 ∷ 0 ∷ 0 ∷ 0 ∷ 0 ∷ 0 ∷ 0 ∷ 0 ∷ 0 ∷ 0 ∷ 0 ∷ 1 ∷
-    2 ∷ 0 ∷ 3 ∷ 0 ∷ 4 ∷ 0 ∷ 0 ∷ 0 ∷ 0 ∷ 0 ∷
-    2 ∷ 0 ∷ 8 ∷ 4 ∷ 7 ∷ 0 ∷ 0 ∷ 0 ∷ 0 ∷ 0 ∷
-    3 ∷ 0 ∷ 0 ∷ 0 ∷ 0 ∷ 2 ∷
-    4 ∷ 1 ∷ 0 ∷ 1 ∷ 1 ∷ 0 ∷ 0 ∷ 0 ∷ 0 ∷ 0 ∷ 0 ∷ 0 ∷ 3 ∷
-    4 ∷ 0 ∷ 0 ∷ 0 ∷ 1 ∷ 0 ∷ 0 ∷ 0 ∷ 0 ∷ 0 ∷ 0 ∷ 0 ∷ 1 ∷
-    5 ∷ 0 ∷ 0 ∷ 0 ∷ 0 ∷ []
-
-abbrev image-2087 : List ℕ
-image-2087 =
-    1 ∷ 0 ∷ 0 ∷ 0 ∷ 0 ∷ 0 ∷ 0 ∷ 128 ∷ 1 ∷ 0 ∷ 0 ∷ 128 ∷ 0 ∷ 0 ∷ 0 ∷ 0 ∷ 0 ∷ 0 ∷ 0 ∷ 0 ∷ 0 ∷ 0 ∷ 0 ∷ 1 ∷
-    2 ∷ 0 ∷ 3 ∷ 0 ∷ 4 ∷ 0 ∷ 0 ∷ 0 ∷ 0 ∷ 0 ∷
-    2 ∷ 0 ∷ 8 ∷ 4 ∷ 7 ∷ 0 ∷ 0 ∷ 0 ∷ 0 ∷ 0 ∷
-    3 ∷ 0 ∷ 0 ∷ 0 ∷ 0 ∷ 2 ∷
-    4 ∷ 2 ∷ 0 ∷ 0 ∷ 0 ∷ 0 ∷ 0 ∷ 0 ∷ 0 ∷ 0 ∷ 0 ∷ 0 ∷ 0 ∷
-    4 ∷ 0 ∷ 0 ∷ 0 ∷ 1 ∷ 0 ∷ 0 ∷ 0 ∷ 0 ∷ 0 ∷ 0 ∷ 0 ∷ 1 ∷
-    5 ∷ 0 ∷ 0 ∷ 0 ∷ 0 ∷ []
-
-abbrev image-2090 : List ℕ
-image-2090 =
-    1 ∷ 0 ∷ 0 ∷ 0 ∷ 0 ∷ 0 ∷ 0 ∷ 128 ∷ 1 ∷ 0 ∷ 0 ∷ 128 ∷ 0 ∷ 0 ∷ 0 ∷ 0 ∷ 0 ∷ 0 ∷ 1 ∷ 0 ∷ 0 ∷ 0 ∷ 0 ∷ 1 ∷
-    2 ∷ 0 ∷ 3 ∷ 3 ∷ 0 ∷ 0 ∷ 0 ∷ 0 ∷ 0 ∷ 0 ∷
-    2 ∷ 0 ∷ 8 ∷ 4 ∷ 7 ∷ 0 ∷ 0 ∷ 0 ∷ 0 ∷ 0 ∷
-    3 ∷ 0 ∷ 0 ∷ 0 ∷ 0 ∷ 2 ∷
-    4 ∷ 2 ∷ 0 ∷ 0 ∷ 0 ∷ 0 ∷ 0 ∷ 0 ∷ 0 ∷ 0 ∷ 0 ∷ 0 ∷ 0 ∷
-    4 ∷ 0 ∷ 0 ∷ 0 ∷ 1 ∷ 0 ∷ 0 ∷ 0 ∷ 0 ∷ 0 ∷ 0 ∷ 0 ∷ 1 ∷
-    5 ∷ 0 ∷ 0 ∷ 0 ∷ 0 ∷ []
-
--- calls 2076 to 2096
-calls-2076 :
-    outcomes none
-    (read-line 1000000 image-2076
-    ∷ call-line 1000000 (lock-piece 0)
-    ∷ call-line 1000000 (set-piece-priority 0 4 (words 4352 []))
-    ∷ call-line 1000000 (mark-as-downloading 1 0 (some 2) 0 (words 4352 []))
-    ∷ call-line 1000000 dec-refcount-all
-    ∷ call-line 1000000 (question (ofPicker total-size))
-    ∷ call-line 1000000 (mark-as-downloading 0 0 (some 3) 0 (words 4352 []))
-    ∷ call-line 1000000 (set-piece-priority 0 6 (words 4352 []))
-    ∷ call-line 1000000 (set-piece-priority 0 4 (words 4352 []))
-    ∷ call-line 1000000 (abort-download 1 0 (some 3) (words 4352 []))
-    ∷ call-line 1000000 (abort-download 0 0 none (words 1 []))
-    ∷ call-line 1000000 (mark-as-writing 0 0 none (words 4352 []))
-    ∷ call-line 0 (pick-pieces (asking 139 1 0 0 (some 2) 2 (32 ∷ []) []) 4351 (words 5000 []))
-    ∷ call-line 1000000 (set-piece-priority 0 0 (words 4352 []))
-    ∷ call-line 1000000 (question (listOfPicker piece-priorities 1000000))
-    ∷ call-line 1000000 (question (ofPiece piece-priority 0))
-    ∷ call-line 1000000 (pick-pieces (asking 64580 2048 1 5 (some 3) 2 (255 ∷ []) []) 4351 (words 4352 (2678420885 ∷ [])))
-    ∷ call-line 1000000 (piece-passed 0)
-    ∷ call-line 1000000 (pick-pieces (asking 74 40 0 300 (some 0) 2 (255 ∷ []) (1 ∷ 1 ∷ [])) 296 (words 4352 (3 ∷ [])))
-    ∷ call-line 16 dec-refcount-all
-    ∷ [])
-    ≡ outcome stands image-2076
-    ∷ outcome (answered (done 0)) image-2077
-    ∷ outcome (answered (said false 0)) image-2078
-    ∷ outcome (answered (said true 0)) image-2079
-    ∷ outcome (answered (done 0)) image-2080
-    ∷ outcome (answered (replied (numbers ((some 32769) ∷ [])))) image-2080
-    ∷ outcome (answered (said true 0)) image-2082
-    ∷ outcome (answered (said false 0)) image-2083
-    ∷ outcome (answered (said false 0)) image-2084
-    ∷ outcome (answered (done 0)) image-2085
-    ∷ outcome (answered (refused FewDraws)) image-2085
-    ∷ outcome (answered (said true 0)) image-2087
-    ∷ outcome (answered (refused ShortMemory)) image-2087
-    ∷ outcome (answered (said true 0)) image-2090
-    ∷ outcome (answered (replied (numbers ((some 0) ∷ (some 7) ∷ [])))) image-2090
-    ∷ outcome (answered (replied (numbers ((some 0) ∷ [])))) image-2090
-    ∷ outcome (answered (picked ((pieceBlock 1 0) ∷ []) 11264 (0 ∷ 0 ∷ 0 ∷ 0 ∷ 1 ∷ 0 ∷ 0 ∷ []) 1)) image-2090
-    ∷ outcome (answered (done 0)) image-2090
-    ∷ outcome (answered (picked ((pieceBlock 1 0) ∷ []) 8224 (0 ∷ 2 ∷ 0 ∷ 0 ∷ 2 ∷ 0 ∷ 0 ∷ []) 1)) image-2090
-    ∷ outcome (answered (refused ShortMemory)) image-2090
-    ∷ []
-unfolding replaying
-calls-2076 = refl
-
-abbrev image-2156 : List ℕ
-image-2156 =
+abbrev image-2160 : List ℕ
+image-2160 =
     1 ∷ 0 ∷ 0 ∷ 0 ∷ 0 ∷ 0 ∷ 0 ∷ 141 ∷ 217 ∷ 0 ∷ 1 ∷ 0 ∷ 0 ∷ 0 ∷ 0 ∷ 0 ∷ 0 ∷ 0 ∷ 0 ∷ 0 ∷ 0 ∷ 0 ∷ 0 ∷ 1 ∷
     2 ∷ 0 ∷ 3 ∷ 4 ∷ 7 ∷ 1 ∷ 0 ∷ 0 ∷ 0 ∷ 0 ∷ []
 
--- calls 2156 to 2157
-calls-2156 :
+-- calls 2160 to 2161
+calls-2160 :
     outcomes none
-    (read-line 1000000 image-2156
-    ∷ call-line 1000000 (mark-as-downloading 0 0 (some 2) 130 (words 4352 []))
+    (read-line plenty image-2160
+    ∷ call-line plenty (mark-as-downloading 0 0 (some 2) 130 (words 4352 []))
     ∷ [])
-    ≡ outcome stands image-2156
-    ∷ outcome (answered (refused HavePiece)) image-2156
+    ≡ outcome stands image-2160
+    ∷ outcome (answered (refused HavePiece)) image-2160
     ∷ []
 unfolding replaying
-calls-2156 = refl
+calls-2160 = refl
 
-abbrev image-2346 : List ℕ
-image-2346 =
+abbrev image-2200 : List ℕ
+image-2200 =
+    1 ∷ 0 ∷ 0 ∷ 0 ∷ 0 ∷ 0 ∷ 0 ∷ 128 ∷ 0 ∷ 0 ∷ 0 ∷ 128 ∷ 0 ∷ 0 ∷ 1 ∷ 0 ∷ 0 ∷ 0 ∷ 0 ∷ 0 ∷ 0 ∷ 0 ∷ 1 ∷ 0 ∷
+    2 ∷ 0 ∷ 0 ∷ 4 ∷ 7 ∷ 0 ∷ 0 ∷ 0 ∷ 0 ∷ 0 ∷
+    6 ∷ 0 ∷ 0 ∷ 0 ∷ 0 ∷ []
+
+abbrev image-2203 : List ℕ
+image-2203 =
+    1 ∷ 0 ∷ 0 ∷ 0 ∷ 0 ∷ 0 ∷ 0 ∷ 128 ∷ 0 ∷ 0 ∷ 0 ∷ 128 ∷ 0 ∷ 0 ∷ 0 ∷ 0 ∷ 0 ∷ 0 ∷ 0 ∷ 0 ∷ 0 ∷ 0 ∷ 1 ∷ 1 ∷
+    2 ∷ 0 ∷ 0 ∷ 4 ∷ 7 ∷ 0 ∷ 0 ∷ 0 ∷ 0 ∷ 0 ∷ []
+
+-- calls 2200 to 2203
+calls-2200 :
+    outcomes none
+    (read-line plenty image-2200
+    ∷ call-line plenty (question (list-place 1))
+    ∷ image-line plenty 1000000
+    ∷ call-line plenty (dec-refcount 0 (words 4352 []))
+    ∷ [])
+    ≡ outcome stands image-2200
+    ∷ outcome (answered (refused OutOfRange)) image-2200
+    ∷ outcome (bytesTaken (1 ∷ 0 ∷ 0 ∷ 0 ∷ 0 ∷ 0 ∷ 0 ∷ 128 ∷ 0 ∷ 0 ∷ 0 ∷ 128 ∷ 0 ∷ 0 ∷ 1 ∷ 0 ∷ 0 ∷ 0 ∷ 0 ∷ 0 ∷ 0 ∷ 0 ∷ 1 ∷ 0 ∷ 2 ∷ 0 ∷ 0 ∷ 4 ∷ 7 ∷ 0 ∷ 0 ∷ 0 ∷ 0 ∷ 0 ∷ 6 ∷ 0 ∷ 0 ∷ 0 ∷ 0 ∷ [])) image-2200
+    ∷ outcome (answered (done 0)) image-2203
+    ∷ []
+unfolding replaying
+calls-2200 = refl
+
+abbrev image-2289 : List ℕ
+image-2289 =
+    1 ∷ 0 ∷ 0 ∷ 0 ∷ 0 ∷ 0 ∷ 0 ∷ 50 ∷ 126 ∷ 0 ∷ 0 ∷ 64 ∷ 0 ∷ 0 ∷ 0 ∷ 0 ∷ 0 ∷ 0 ∷ 1 ∷ 0 ∷ 0 ∷ 0 ∷ 1 ∷ 0 ∷
+    2 ∷ 0 ∷ 1 ∷ 3 ∷ 0 ∷ 0 ∷ 0 ∷ 0 ∷ 0 ∷ 0 ∷
+    3 ∷ 0 ∷ 0 ∷ 0 ∷ 0 ∷ 0 ∷
+    4 ∷ 1 ∷ 0 ∷ 1 ∷ 1 ∷ 255 ∷ 255 ∷ 255 ∷ 255 ∷ 255 ∷ 255 ∷ 255 ∷ 255 ∷
+    5 ∷ 0 ∷ 0 ∷ 0 ∷ 0 ∷ []
+
+-- calls 2289 to 2290
+calls-2289 :
+    outcomes none
+    (read-line plenty image-2289
+    ∷ call-line plenty (question (ofBlock block-num-peers 0 0))
+    ∷ [])
+    ≡ outcome stands image-2289
+    ∷ outcome (answered (replied (numbers ((some 1) ∷ [])))) image-2289
+    ∷ []
+unfolding replaying
+calls-2289 = refl
+
+abbrev image-2319 : List ℕ
+image-2319 =
     1 ∷ 0 ∷ 0 ∷ 0 ∷ 0 ∷ 0 ∷ 1 ∷ 15 ∷ 165 ∷ 0 ∷ 1 ∷ 0 ∷ 0 ∷ 0 ∷ 0 ∷ 0 ∷ 0 ∷ 0 ∷ 0 ∷ 0 ∷ 0 ∷ 0 ∷ 2 ∷ 1 ∷
     2 ∷ 0 ∷ 0 ∷ 4 ∷ 4 ∷ 0 ∷ 0 ∷ 0 ∷ 0 ∷ 0 ∷
     2 ∷ 0 ∷ 0 ∷ 4 ∷ 4 ∷ 0 ∷ 0 ∷ 0 ∷ 0 ∷ 0 ∷ []
 
--- calls 2346 to 2349
-calls-2346 :
+-- calls 2319 to 2322
+calls-2319 :
     outcomes none
-    (new-line 1000000 69541 65536
-    ∷ call-line 1000000 (piece-passed 0)
-    ∷ call-line 1000000 (question (listOfPiece blocks-for-piece 1 1))
-    ∷ call-line 1000000 (pick-pieces (asking 44902 2 4 1000 none 2 (36 ∷ []) (1 ∷ 1 ∷ 0 ∷ 1 ∷ 1 ∷ [])) 4351 (words 4352 (0 ∷ [])))
+    (new-line plenty 69541 65536
+    ∷ call-line plenty (piece-passed 0)
+    ∷ call-line plenty (question (listOfPiece blocks-for-piece 1 1))
+    ∷ call-line plenty (pick-pieces (asking 44902 2 4 1000 none 2 (36 ∷ []) (1 ∷ 1 ∷ 0 ∷ 1 ∷ 1 ∷ [])) 4351 (words 4352 (0 ∷ [])))
     ∷ [])
-    ≡ outcome stands image-2346
-    ∷ outcome (answered (done 0)) image-2346
-    ∷ outcome (answered (refused ShortMemory)) image-2346
-    ∷ outcome (answered (picked [] 10240 (0 ∷ 5 ∷ 0 ∷ 0 ∷ 2 ∷ 0 ∷ 0 ∷ []) 1)) image-2346
+    ≡ outcome stands image-2319
+    ∷ outcome (answered (done 0)) image-2319
+    ∷ outcome (answered (refused ShortMemory)) image-2319
+    ∷ outcome (answered (picked [] 10240 (0 ∷ 5 ∷ 0 ∷ 0 ∷ 2 ∷ 0 ∷ 0 ∷ []) 1)) image-2319
     ∷ []
 unfolding replaying
-calls-2346 = refl
+calls-2319 = refl
 
-abbrev image-2466 : List ℕ
-image-2466 =
-    1 ∷ 0 ∷ 0 ∷ 0 ∷ 0 ∷ 0 ∷ 2 ∷ 128 ∷ 0 ∷ 0 ∷ 0 ∷ 128 ∷ 0 ∷ 0 ∷ 2 ∷ 0 ∷ 0 ∷ 0 ∷ 0 ∷ 0 ∷ 0 ∷ 0 ∷ 2 ∷ 0 ∷
-    2 ∷ 0 ∷ 1 ∷ 4 ∷ 7 ∷ 1 ∷ 0 ∷ 0 ∷ 0 ∷ 0 ∷
-    2 ∷ 0 ∷ 1 ∷ 4 ∷ 4 ∷ 0 ∷ 0 ∷ 0 ∷ 0 ∷ 0 ∷
-    2 ∷ 0 ∷ 1 ∷ 4 ∷ 4 ∷ 0 ∷ 0 ∷ 0 ∷ 0 ∷ 0 ∷
-    2 ∷ 3 ∷ 229 ∷ 4 ∷ 7 ∷ 0 ∷ 0 ∷ 0 ∷ 22 ∷ 191 ∷
-    2 ∷ 0 ∷ 1 ∷ 4 ∷ 4 ∷ 0 ∷ 0 ∷ 0 ∷ 0 ∷ 0 ∷
-    6 ∷ 0 ∷ 0 ∷ 0 ∷ 2 ∷
-    6 ∷ 0 ∷ 0 ∷ 0 ∷ 1 ∷
-    6 ∷ 0 ∷ 0 ∷ 0 ∷ 4 ∷
-    6 ∷ 0 ∷ 0 ∷ 0 ∷ 3 ∷ []
-
-abbrev image-2467 : List ℕ
-image-2467 =
-    1 ∷ 0 ∷ 0 ∷ 0 ∷ 0 ∷ 0 ∷ 2 ∷ 128 ∷ 0 ∷ 0 ∷ 0 ∷ 128 ∷ 0 ∷ 0 ∷ 2 ∷ 0 ∷ 0 ∷ 0 ∷ 0 ∷ 0 ∷ 0 ∷ 0 ∷ 2 ∷ 0 ∷
-    2 ∷ 0 ∷ 1 ∷ 4 ∷ 7 ∷ 1 ∷ 0 ∷ 0 ∷ 0 ∷ 0 ∷
-    2 ∷ 0 ∷ 1 ∷ 4 ∷ 4 ∷ 0 ∷ 0 ∷ 0 ∷ 0 ∷ 0 ∷
-    2 ∷ 0 ∷ 0 ∷ 4 ∷ 4 ∷ 0 ∷ 0 ∷ 0 ∷ 0 ∷ 0 ∷
-    2 ∷ 3 ∷ 229 ∷ 4 ∷ 7 ∷ 0 ∷ 0 ∷ 0 ∷ 22 ∷ 191 ∷
-    2 ∷ 0 ∷ 1 ∷ 4 ∷ 4 ∷ 0 ∷ 0 ∷ 0 ∷ 0 ∷ 0 ∷
-    6 ∷ 0 ∷ 0 ∷ 0 ∷ 2 ∷
-    6 ∷ 0 ∷ 0 ∷ 0 ∷ 1 ∷
-    6 ∷ 0 ∷ 0 ∷ 0 ∷ 4 ∷
-    6 ∷ 0 ∷ 0 ∷ 0 ∷ 3 ∷ []
-
-abbrev image-2468 : List ℕ
-image-2468 =
-    1 ∷ 0 ∷ 0 ∷ 0 ∷ 0 ∷ 0 ∷ 2 ∷ 128 ∷ 0 ∷ 0 ∷ 0 ∷ 128 ∷ 0 ∷ 0 ∷ 2 ∷ 0 ∷ 0 ∷ 0 ∷ 0 ∷ 0 ∷ 0 ∷ 0 ∷ 2 ∷ 0 ∷
-    2 ∷ 0 ∷ 1 ∷ 4 ∷ 7 ∷ 1 ∷ 0 ∷ 0 ∷ 0 ∷ 0 ∷
-    2 ∷ 0 ∷ 1 ∷ 4 ∷ 4 ∷ 0 ∷ 0 ∷ 0 ∷ 0 ∷ 0 ∷
-    2 ∷ 0 ∷ 0 ∷ 4 ∷ 4 ∷ 0 ∷ 0 ∷ 0 ∷ 0 ∷ 0 ∷
-    2 ∷ 3 ∷ 229 ∷ 4 ∷ 7 ∷ 0 ∷ 0 ∷ 0 ∷ 22 ∷ 191 ∷
-    2 ∷ 0 ∷ 1 ∷ 0 ∷ 4 ∷ 0 ∷ 0 ∷ 0 ∷ 0 ∷ 0 ∷
-    3 ∷ 0 ∷ 0 ∷ 0 ∷ 4 ∷ 0 ∷
-    4 ∷ 0 ∷ 0 ∷ 0 ∷ 0 ∷ 0 ∷ 0 ∷ 0 ∷ 0 ∷ 0 ∷ 0 ∷ 0 ∷ 0 ∷
-    4 ∷ 3 ∷ 0 ∷ 0 ∷ 1 ∷ 0 ∷ 0 ∷ 0 ∷ 0 ∷ 0 ∷ 0 ∷ 0 ∷ 3 ∷
-    6 ∷ 0 ∷ 0 ∷ 0 ∷ 2 ∷
-    6 ∷ 0 ∷ 0 ∷ 0 ∷ 4 ∷
-    6 ∷ 0 ∷ 0 ∷ 0 ∷ 1 ∷
-    6 ∷ 0 ∷ 0 ∷ 0 ∷ 3 ∷ []
-
--- calls 2466 to 2469
-calls-2466 :
-    outcomes none
-    (read-line 1000000 image-2466
-    ∷ call-line 1000000 (dec-refcount 2 (words 4352 []))
-    ∷ call-line 1000000 (mark-as-finished 4 1 (some 3) (words 4352 []))
-    ∷ call-line 1000000 (mark-as-canceled 1 2 (some 3) (words 4352 []))
-    ∷ [])
-    ≡ outcome stands image-2466
-    ∷ outcome (answered (done 0)) image-2467
-    ∷ outcome (answered (done 0)) image-2468
-    ∷ outcome (answered (refused OutOfRange)) image-2468
-    ∷ []
-unfolding replaying
-calls-2466 = refl
-
-abbrev image-2492 : List ℕ
-image-2492 =
-    1 ∷ 0 ∷ 0 ∷ 0 ∷ 0 ∷ 0 ∷ 0 ∷ 192 ∷ 1 ∷ 0 ∷ 0 ∷ 64 ∷ 0 ∷ 0 ∷ 0 ∷ 0 ∷ 0 ∷ 0 ∷ 1 ∷ 0 ∷ 0 ∷ 0 ∷ 1 ∷ 0 ∷
-    2 ∷ 0 ∷ 1 ∷ 2 ∷ 4 ∷ 0 ∷ 0 ∷ 0 ∷ 0 ∷ 0 ∷
-    2 ∷ 0 ∷ 3 ∷ 3 ∷ 4 ∷ 0 ∷ 0 ∷ 0 ∷ 0 ∷ 0 ∷
-    2 ∷ 0 ∷ 0 ∷ 6 ∷ 4 ∷ 0 ∷ 0 ∷ 0 ∷ 64 ∷ 0 ∷
-    2 ∷ 0 ∷ 1 ∷ 1 ∷ 1 ∷ 0 ∷ 0 ∷ 0 ∷ 0 ∷ 0 ∷
-    3 ∷ 0 ∷ 0 ∷ 0 ∷ 0 ∷ 2 ∷
-    4 ∷ 3 ∷ 0 ∷ 1 ∷ 1 ∷ 0 ∷ 0 ∷ 0 ∷ 0 ∷ 0 ∷ 0 ∷ 0 ∷ 0 ∷
-    3 ∷ 0 ∷ 0 ∷ 0 ∷ 1 ∷ 0 ∷
-    4 ∷ 0 ∷ 0 ∷ 0 ∷ 1 ∷ 0 ∷ 0 ∷ 0 ∷ 0 ∷ 0 ∷ 0 ∷ 0 ∷ 3 ∷
-    3 ∷ 0 ∷ 0 ∷ 0 ∷ 2 ∷ 0 ∷
-    4 ∷ 1 ∷ 0 ∷ 1 ∷ 1 ∷ 0 ∷ 0 ∷ 0 ∷ 0 ∷ 0 ∷ 0 ∷ 0 ∷ 1 ∷
-    3 ∷ 0 ∷ 0 ∷ 0 ∷ 3 ∷ 0 ∷
-    4 ∷ 1 ∷ 0 ∷ 1 ∷ 0 ∷ 0 ∷ 0 ∷ 0 ∷ 0 ∷ 0 ∷ 0 ∷ 0 ∷ 0 ∷
-    5 ∷ 0 ∷ 0 ∷ 0 ∷ 0 ∷
-    6 ∷ 0 ∷ 0 ∷ 0 ∷ 1 ∷ []
-
--- calls 2492 to 2494
-calls-2492 :
-    outcomes none
-    (read-line 1000000 image-2492
-    ∷ call-line 1000000 (piece-passed 0)
-    ∷ call-line 0 (mark-as-finished 0 0 (some 1) (words 5000 []))
-    ∷ [])
-    ≡ outcome stands image-2492
-    ∷ outcome (answered (done 0)) image-2492
-    ∷ outcome (answered (refused ShortMemory)) image-2492
-    ∷ []
-unfolding replaying
-calls-2492 = refl
-
-abbrev image-2526 : List ℕ
-image-2526 =
-    1 ∷ 0 ∷ 0 ∷ 0 ∷ 0 ∷ 0 ∷ 2 ∷ 158 ∷ 202 ∷ 0 ∷ 1 ∷ 0 ∷ 0 ∷ 2 ∷ 227 ∷ 0 ∷ 0 ∷ 0 ∷ 1 ∷ 0 ∷ 0 ∷ 0 ∷ 0 ∷ 1 ∷
-    2 ∷ 0 ∷ 0 ∷ 2 ∷ 4 ∷ 0 ∷ 0 ∷ 0 ∷ 0 ∷ 0 ∷
-    2 ∷ 0 ∷ 0 ∷ 6 ∷ 7 ∷ 0 ∷ 0 ∷ 0 ∷ 0 ∷ 0 ∷
-    2 ∷ 0 ∷ 1 ∷ 5 ∷ 7 ∷ 0 ∷ 0 ∷ 0 ∷ 0 ∷ 0 ∷
-    3 ∷ 0 ∷ 0 ∷ 0 ∷ 0 ∷ 0 ∷
-    4 ∷ 2 ∷ 0 ∷ 2 ∷ 1 ∷ 0 ∷ 0 ∷ 0 ∷ 0 ∷ 0 ∷ 0 ∷ 0 ∷ 3 ∷
-    4 ∷ 2 ∷ 0 ∷ 2 ∷ 1 ∷ 0 ∷ 0 ∷ 0 ∷ 0 ∷ 0 ∷ 0 ∷ 0 ∷ 3 ∷
-    4 ∷ 2 ∷ 0 ∷ 2 ∷ 1 ∷ 0 ∷ 0 ∷ 0 ∷ 0 ∷ 0 ∷ 0 ∷ 0 ∷ 3 ∷
-    4 ∷ 2 ∷ 0 ∷ 2 ∷ 1 ∷ 0 ∷ 0 ∷ 0 ∷ 0 ∷ 0 ∷ 0 ∷ 0 ∷ 3 ∷
-    3 ∷ 0 ∷ 0 ∷ 0 ∷ 1 ∷ 3 ∷
-    4 ∷ 0 ∷ 0 ∷ 0 ∷ 1 ∷ 0 ∷ 0 ∷ 0 ∷ 0 ∷ 0 ∷ 0 ∷ 0 ∷ 3 ∷
-    4 ∷ 0 ∷ 0 ∷ 0 ∷ 0 ∷ 0 ∷ 0 ∷ 0 ∷ 0 ∷ 0 ∷ 0 ∷ 0 ∷ 0 ∷
-    4 ∷ 0 ∷ 0 ∷ 1 ∷ 1 ∷ 0 ∷ 0 ∷ 0 ∷ 0 ∷ 0 ∷ 0 ∷ 0 ∷ 0 ∷
-    4 ∷ 0 ∷ 0 ∷ 0 ∷ 0 ∷ 0 ∷ 0 ∷ 0 ∷ 0 ∷ 0 ∷ 0 ∷ 0 ∷ 0 ∷
-    3 ∷ 0 ∷ 0 ∷ 0 ∷ 2 ∷ 7 ∷
-    4 ∷ 2 ∷ 3 ∷ 232 ∷ 1 ∷ 0 ∷ 0 ∷ 0 ∷ 0 ∷ 0 ∷ 0 ∷ 0 ∷ 2 ∷
-    4 ∷ 0 ∷ 0 ∷ 0 ∷ 0 ∷ 0 ∷ 0 ∷ 0 ∷ 0 ∷ 0 ∷ 0 ∷ 0 ∷ 0 ∷
-    4 ∷ 1 ∷ 0 ∷ 2 ∷ 1 ∷ 255 ∷ 255 ∷ 255 ∷ 255 ∷ 255 ∷ 255 ∷ 255 ∷ 255 ∷ []
-
-abbrev image-2528 : List ℕ
-image-2528 =
-    1 ∷ 0 ∷ 0 ∷ 0 ∷ 0 ∷ 0 ∷ 2 ∷ 158 ∷ 202 ∷ 0 ∷ 1 ∷ 0 ∷ 0 ∷ 2 ∷ 227 ∷ 0 ∷ 0 ∷ 0 ∷ 1 ∷ 0 ∷ 0 ∷ 0 ∷ 0 ∷ 1 ∷
-    2 ∷ 0 ∷ 1 ∷ 2 ∷ 4 ∷ 0 ∷ 0 ∷ 0 ∷ 0 ∷ 0 ∷
-    2 ∷ 0 ∷ 0 ∷ 6 ∷ 7 ∷ 0 ∷ 0 ∷ 0 ∷ 0 ∷ 0 ∷
-    2 ∷ 0 ∷ 1 ∷ 5 ∷ 7 ∷ 0 ∷ 0 ∷ 0 ∷ 0 ∷ 0 ∷
-    3 ∷ 0 ∷ 0 ∷ 0 ∷ 0 ∷ 0 ∷
-    4 ∷ 2 ∷ 0 ∷ 2 ∷ 1 ∷ 0 ∷ 0 ∷ 0 ∷ 0 ∷ 0 ∷ 0 ∷ 0 ∷ 3 ∷
-    4 ∷ 2 ∷ 0 ∷ 2 ∷ 1 ∷ 0 ∷ 0 ∷ 0 ∷ 0 ∷ 0 ∷ 0 ∷ 0 ∷ 3 ∷
-    4 ∷ 2 ∷ 0 ∷ 2 ∷ 1 ∷ 0 ∷ 0 ∷ 0 ∷ 0 ∷ 0 ∷ 0 ∷ 0 ∷ 3 ∷
-    4 ∷ 2 ∷ 0 ∷ 2 ∷ 1 ∷ 0 ∷ 0 ∷ 0 ∷ 0 ∷ 0 ∷ 0 ∷ 0 ∷ 3 ∷
-    3 ∷ 0 ∷ 0 ∷ 0 ∷ 1 ∷ 3 ∷
-    4 ∷ 0 ∷ 0 ∷ 0 ∷ 1 ∷ 0 ∷ 0 ∷ 0 ∷ 0 ∷ 0 ∷ 0 ∷ 0 ∷ 3 ∷
-    4 ∷ 0 ∷ 0 ∷ 0 ∷ 0 ∷ 0 ∷ 0 ∷ 0 ∷ 0 ∷ 0 ∷ 0 ∷ 0 ∷ 0 ∷
-    4 ∷ 0 ∷ 0 ∷ 1 ∷ 1 ∷ 0 ∷ 0 ∷ 0 ∷ 0 ∷ 0 ∷ 0 ∷ 0 ∷ 0 ∷
-    4 ∷ 0 ∷ 0 ∷ 0 ∷ 0 ∷ 0 ∷ 0 ∷ 0 ∷ 0 ∷ 0 ∷ 0 ∷ 0 ∷ 0 ∷
-    3 ∷ 0 ∷ 0 ∷ 0 ∷ 2 ∷ 7 ∷
-    4 ∷ 2 ∷ 3 ∷ 232 ∷ 1 ∷ 0 ∷ 0 ∷ 0 ∷ 0 ∷ 0 ∷ 0 ∷ 0 ∷ 2 ∷
-    4 ∷ 0 ∷ 0 ∷ 0 ∷ 0 ∷ 0 ∷ 0 ∷ 0 ∷ 0 ∷ 0 ∷ 0 ∷ 0 ∷ 0 ∷
-    4 ∷ 1 ∷ 0 ∷ 2 ∷ 1 ∷ 255 ∷ 255 ∷ 255 ∷ 255 ∷ 255 ∷ 255 ∷ 255 ∷ 255 ∷ []
-
-abbrev image-2532 : List ℕ
-image-2532 =
-    1 ∷ 0 ∷ 0 ∷ 0 ∷ 0 ∷ 0 ∷ 2 ∷ 158 ∷ 202 ∷ 0 ∷ 1 ∷ 0 ∷ 0 ∷ 2 ∷ 227 ∷ 0 ∷ 0 ∷ 0 ∷ 1 ∷ 0 ∷ 0 ∷ 0 ∷ 0 ∷ 1 ∷
-    2 ∷ 0 ∷ 1 ∷ 2 ∷ 4 ∷ 0 ∷ 0 ∷ 0 ∷ 0 ∷ 0 ∷
-    2 ∷ 0 ∷ 0 ∷ 6 ∷ 7 ∷ 0 ∷ 0 ∷ 0 ∷ 0 ∷ 0 ∷
-    2 ∷ 0 ∷ 2 ∷ 5 ∷ 7 ∷ 0 ∷ 0 ∷ 0 ∷ 0 ∷ 0 ∷
-    3 ∷ 0 ∷ 0 ∷ 0 ∷ 0 ∷ 0 ∷
-    4 ∷ 2 ∷ 0 ∷ 2 ∷ 1 ∷ 0 ∷ 0 ∷ 0 ∷ 0 ∷ 0 ∷ 0 ∷ 0 ∷ 3 ∷
-    4 ∷ 2 ∷ 0 ∷ 2 ∷ 1 ∷ 0 ∷ 0 ∷ 0 ∷ 0 ∷ 0 ∷ 0 ∷ 0 ∷ 3 ∷
-    4 ∷ 2 ∷ 0 ∷ 2 ∷ 1 ∷ 0 ∷ 0 ∷ 0 ∷ 0 ∷ 0 ∷ 0 ∷ 0 ∷ 3 ∷
-    4 ∷ 2 ∷ 0 ∷ 2 ∷ 1 ∷ 0 ∷ 0 ∷ 0 ∷ 0 ∷ 0 ∷ 0 ∷ 0 ∷ 3 ∷
-    3 ∷ 0 ∷ 0 ∷ 0 ∷ 1 ∷ 3 ∷
-    4 ∷ 0 ∷ 0 ∷ 0 ∷ 1 ∷ 0 ∷ 0 ∷ 0 ∷ 0 ∷ 0 ∷ 0 ∷ 0 ∷ 3 ∷
-    4 ∷ 0 ∷ 0 ∷ 0 ∷ 0 ∷ 0 ∷ 0 ∷ 0 ∷ 0 ∷ 0 ∷ 0 ∷ 0 ∷ 0 ∷
-    4 ∷ 0 ∷ 0 ∷ 1 ∷ 1 ∷ 0 ∷ 0 ∷ 0 ∷ 0 ∷ 0 ∷ 0 ∷ 0 ∷ 0 ∷
-    4 ∷ 0 ∷ 0 ∷ 0 ∷ 0 ∷ 0 ∷ 0 ∷ 0 ∷ 0 ∷ 0 ∷ 0 ∷ 0 ∷ 0 ∷
-    3 ∷ 0 ∷ 0 ∷ 0 ∷ 2 ∷ 7 ∷
-    4 ∷ 2 ∷ 3 ∷ 232 ∷ 1 ∷ 0 ∷ 0 ∷ 0 ∷ 0 ∷ 0 ∷ 0 ∷ 0 ∷ 2 ∷
-    4 ∷ 0 ∷ 0 ∷ 0 ∷ 0 ∷ 0 ∷ 0 ∷ 0 ∷ 0 ∷ 0 ∷ 0 ∷ 0 ∷ 0 ∷
-    4 ∷ 1 ∷ 0 ∷ 2 ∷ 1 ∷ 255 ∷ 255 ∷ 255 ∷ 255 ∷ 255 ∷ 255 ∷ 255 ∷ 255 ∷ []
-
-abbrev image-2533 : List ℕ
-image-2533 =
-    1 ∷ 0 ∷ 0 ∷ 0 ∷ 0 ∷ 0 ∷ 2 ∷ 158 ∷ 202 ∷ 0 ∷ 1 ∷ 0 ∷ 0 ∷ 2 ∷ 227 ∷ 0 ∷ 0 ∷ 0 ∷ 1 ∷ 0 ∷ 0 ∷ 0 ∷ 0 ∷ 1 ∷
-    2 ∷ 0 ∷ 1 ∷ 0 ∷ 4 ∷ 0 ∷ 0 ∷ 0 ∷ 0 ∷ 0 ∷
-    2 ∷ 0 ∷ 0 ∷ 6 ∷ 7 ∷ 0 ∷ 0 ∷ 0 ∷ 0 ∷ 0 ∷
-    2 ∷ 0 ∷ 2 ∷ 5 ∷ 7 ∷ 0 ∷ 0 ∷ 0 ∷ 0 ∷ 0 ∷
-    3 ∷ 0 ∷ 0 ∷ 0 ∷ 0 ∷ 0 ∷
-    4 ∷ 0 ∷ 0 ∷ 2 ∷ 0 ∷ 0 ∷ 0 ∷ 0 ∷ 0 ∷ 0 ∷ 0 ∷ 0 ∷ 0 ∷
-    4 ∷ 2 ∷ 0 ∷ 2 ∷ 1 ∷ 0 ∷ 0 ∷ 0 ∷ 0 ∷ 0 ∷ 0 ∷ 0 ∷ 3 ∷
-    4 ∷ 2 ∷ 0 ∷ 2 ∷ 1 ∷ 0 ∷ 0 ∷ 0 ∷ 0 ∷ 0 ∷ 0 ∷ 0 ∷ 3 ∷
-    4 ∷ 2 ∷ 0 ∷ 2 ∷ 1 ∷ 0 ∷ 0 ∷ 0 ∷ 0 ∷ 0 ∷ 0 ∷ 0 ∷ 3 ∷
-    3 ∷ 0 ∷ 0 ∷ 0 ∷ 1 ∷ 3 ∷
-    4 ∷ 0 ∷ 0 ∷ 0 ∷ 1 ∷ 0 ∷ 0 ∷ 0 ∷ 0 ∷ 0 ∷ 0 ∷ 0 ∷ 3 ∷
-    4 ∷ 0 ∷ 0 ∷ 0 ∷ 0 ∷ 0 ∷ 0 ∷ 0 ∷ 0 ∷ 0 ∷ 0 ∷ 0 ∷ 0 ∷
-    4 ∷ 0 ∷ 0 ∷ 1 ∷ 1 ∷ 0 ∷ 0 ∷ 0 ∷ 0 ∷ 0 ∷ 0 ∷ 0 ∷ 0 ∷
-    4 ∷ 0 ∷ 0 ∷ 0 ∷ 0 ∷ 0 ∷ 0 ∷ 0 ∷ 0 ∷ 0 ∷ 0 ∷ 0 ∷ 0 ∷
-    3 ∷ 0 ∷ 0 ∷ 0 ∷ 2 ∷ 7 ∷
-    4 ∷ 2 ∷ 3 ∷ 232 ∷ 1 ∷ 0 ∷ 0 ∷ 0 ∷ 0 ∷ 0 ∷ 0 ∷ 0 ∷ 2 ∷
-    4 ∷ 0 ∷ 0 ∷ 0 ∷ 0 ∷ 0 ∷ 0 ∷ 0 ∷ 0 ∷ 0 ∷ 0 ∷ 0 ∷ 0 ∷
-    4 ∷ 1 ∷ 0 ∷ 2 ∷ 1 ∷ 255 ∷ 255 ∷ 255 ∷ 255 ∷ 255 ∷ 255 ∷ 255 ∷ 255 ∷ []
-
-abbrev image-2534 : List ℕ
-image-2534 =
-    1 ∷ 0 ∷ 0 ∷ 0 ∷ 0 ∷ 0 ∷ 2 ∷ 158 ∷ 202 ∷ 0 ∷ 1 ∷ 0 ∷ 0 ∷ 2 ∷ 227 ∷ 0 ∷ 0 ∷ 0 ∷ 1 ∷ 0 ∷ 0 ∷ 0 ∷ 0 ∷ 1 ∷
-    2 ∷ 0 ∷ 1 ∷ 0 ∷ 4 ∷ 0 ∷ 0 ∷ 0 ∷ 0 ∷ 0 ∷
-    2 ∷ 0 ∷ 0 ∷ 6 ∷ 7 ∷ 0 ∷ 0 ∷ 0 ∷ 0 ∷ 0 ∷
-    2 ∷ 0 ∷ 2 ∷ 5 ∷ 7 ∷ 0 ∷ 0 ∷ 0 ∷ 0 ∷ 0 ∷
-    3 ∷ 0 ∷ 0 ∷ 0 ∷ 0 ∷ 0 ∷
-    4 ∷ 0 ∷ 0 ∷ 2 ∷ 0 ∷ 0 ∷ 0 ∷ 0 ∷ 0 ∷ 0 ∷ 0 ∷ 0 ∷ 0 ∷
-    4 ∷ 2 ∷ 0 ∷ 2 ∷ 1 ∷ 0 ∷ 0 ∷ 0 ∷ 0 ∷ 0 ∷ 0 ∷ 0 ∷ 3 ∷
-    4 ∷ 2 ∷ 0 ∷ 2 ∷ 1 ∷ 0 ∷ 0 ∷ 0 ∷ 0 ∷ 0 ∷ 0 ∷ 0 ∷ 3 ∷
-    4 ∷ 2 ∷ 0 ∷ 2 ∷ 1 ∷ 0 ∷ 0 ∷ 0 ∷ 0 ∷ 0 ∷ 0 ∷ 0 ∷ 3 ∷
-    3 ∷ 0 ∷ 0 ∷ 0 ∷ 1 ∷ 3 ∷
-    4 ∷ 0 ∷ 0 ∷ 0 ∷ 1 ∷ 0 ∷ 0 ∷ 0 ∷ 0 ∷ 0 ∷ 0 ∷ 0 ∷ 3 ∷
-    4 ∷ 0 ∷ 0 ∷ 0 ∷ 0 ∷ 0 ∷ 0 ∷ 0 ∷ 0 ∷ 0 ∷ 0 ∷ 0 ∷ 0 ∷
-    4 ∷ 0 ∷ 0 ∷ 1 ∷ 1 ∷ 0 ∷ 0 ∷ 0 ∷ 0 ∷ 0 ∷ 0 ∷ 0 ∷ 0 ∷
-    4 ∷ 0 ∷ 0 ∷ 0 ∷ 0 ∷ 0 ∷ 0 ∷ 0 ∷ 0 ∷ 0 ∷ 0 ∷ 0 ∷ 0 ∷
-    3 ∷ 0 ∷ 0 ∷ 0 ∷ 2 ∷ 7 ∷
-    4 ∷ 2 ∷ 3 ∷ 232 ∷ 1 ∷ 0 ∷ 0 ∷ 0 ∷ 0 ∷ 0 ∷ 0 ∷ 0 ∷ 2 ∷
-    4 ∷ 0 ∷ 0 ∷ 0 ∷ 0 ∷ 0 ∷ 0 ∷ 0 ∷ 0 ∷ 0 ∷ 0 ∷ 0 ∷ 0 ∷
-    4 ∷ 1 ∷ 0 ∷ 1 ∷ 1 ∷ 255 ∷ 255 ∷ 255 ∷ 255 ∷ 255 ∷ 255 ∷ 255 ∷ 255 ∷ []
-
--- calls 2526 to 2535
-calls-2526 :
-    outcomes none
-    (read-line 1000000 image-2526
-    ∷ call-line 1000000 (pick-pieces (asking 164 300 3 5 (some 3) 3 (255 ∷ 0 ∷ []) []) 4351 (words 4352 []))
-    ∷ call-line 1000000 (inc-refcount 0 (words 5000 []))
-    ∷ call-line 1000000 (pick-pieces (asking 102 2047 20 2 (some 0) 3 (238 ∷ []) (1 ∷ 1 ∷ [])) 4351 (words 4352 (5 ∷ [])))
-    ∷ call-line 1000000 (question (ofPiece passed-hash-check 2))
-    ∷ call-line 1000000 (question (listOfPiece get-downloaders 0 1000000))
-    ∷ call-line 1000000 (inc-refcount 2 (words 4352 []))
-    ∷ call-line 1000000 (mark-as-canceled 0 0 none (words 5000 []))
-    ∷ call-line 1000000 (abort-download 2 2 (some 2) (words 4352 []))
-    ∷ call-line 1000000 (question (ofBlock is-downloaded 2 3))
-    ∷ [])
-    ≡ outcome stands image-2526
-    ∷ outcome (answered (refused PickArguments)) image-2526
-    ∷ outcome (answered (done 0)) image-2528
-    ∷ outcome (answered (picked [] 11296 (0 ∷ 2 ∷ 0 ∷ 0 ∷ 1 ∷ 0 ∷ 0 ∷ []) 1)) image-2528
-    ∷ outcome (answered (replied (numbers ((some 1) ∷ [])))) image-2528
-    ∷ outcome (answered (replied (numbers ((some 3) ∷ (some 3) ∷ (some 3) ∷ (some 3) ∷ [])))) image-2528
-    ∷ outcome (answered (done 0)) image-2532
-    ∷ outcome (answered (done 0)) image-2533
-    ∷ outcome (answered (done 0)) image-2534
-    ∷ outcome (answered (refused OutOfRange)) image-2534
-    ∷ []
-unfolding replaying
-calls-2526 = refl
-
-abbrev image-2662 : List ℕ
-image-2662 =
-    1 ∷ 0 ∷ 0 ∷ 0 ∷ 0 ∷ 0 ∷ 0 ∷ 160 ∷ 88 ∷ 0 ∷ 0 ∷ 128 ∷ 0 ∷ 0 ∷ 0 ∷ 0 ∷ 0 ∷ 0 ∷ 0 ∷ 0 ∷ 0 ∷ 0 ∷ 2 ∷ 1 ∷
+abbrev image-2619 : List ℕ
+image-2619 =
+    1 ∷ 0 ∷ 0 ∷ 0 ∷ 0 ∷ 0 ∷ 0 ∷ 0 ∷ 5 ∷ 0 ∷ 0 ∷ 0 ∷ 3 ∷ 0 ∷ 0 ∷ 0 ∷ 0 ∷ 0 ∷ 0 ∷ 0 ∷ 0 ∷ 0 ∷ 2 ∷ 1 ∷
     2 ∷ 0 ∷ 0 ∷ 4 ∷ 4 ∷ 0 ∷ 0 ∷ 0 ∷ 0 ∷ 0 ∷
     2 ∷ 0 ∷ 0 ∷ 4 ∷ 4 ∷ 0 ∷ 0 ∷ 0 ∷ 0 ∷ 0 ∷ []
 
--- calls 2662 to 2663
-calls-2662 :
+-- calls 2619 to 2623
+calls-2619 :
     outcomes none
-    (new-line 1000000 41048 32768
-    ∷ call-line 0 (mark-as-canceled 0 1 (some 2) (words 4351 []))
+    (new-line plenty 5 3
+    ∷ call-line plenty (question (ofPiece payload-blocks-in-piece 1))
+    ∷ call-line plenty (question (listOfPicker piece-priorities 1000000))
+    ∷ call-line plenty (dec-refcount 0 (words 4352 []))
+    ∷ call-line plenty (question (ofPiece locked? 1))
     ∷ [])
-    ≡ outcome stands image-2662
-    ∷ outcome (answered (refused ShortMemory)) image-2662
+    ≡ outcome stands image-2619
+    ∷ outcome (answered (replied (numbers ((some 1) ∷ [])))) image-2619
+    ∷ outcome (answered (replied (numbers ((some 4) ∷ (some 4) ∷ [])))) image-2619
+    ∷ outcome (answered (refused NoPeerToTake)) image-2619
+    ∷ outcome (answered (replied nothing)) image-2619
     ∷ []
 unfolding replaying
-calls-2662 = refl
+calls-2619 = refl
 
-abbrev image-2886 : List ℕ
-image-2886 =
+abbrev image-2758 : List ℕ
+image-2758 =
+    1 ∷ 0 ∷ 0 ∷ 0 ∷ 0 ∷ 0 ∷ 0 ∷ 0 ∷ 1 ∷ 0 ∷ 1 ∷ 0 ∷ 0 ∷ 0 ∷ 2 ∷ 0 ∷ 0 ∷ 0 ∷ 1 ∷ 0 ∷ 0 ∷ 0 ∷ 1 ∷ 0 ∷
+    2 ∷ 0 ∷ 2 ∷ 4 ∷ 7 ∷ 0 ∷ 0 ∷ 0 ∷ 0 ∷ 0 ∷
+    5 ∷ 0 ∷ 0 ∷ 0 ∷ 0 ∷
+    6 ∷ 0 ∷ 0 ∷ 0 ∷ 0 ∷ []
+
+-- calls 2758 to 2759
+calls-2758 :
+    outcomes none
+    (read-line plenty image-2758
+    ∷ call-line plenty (question (listOfPiece blocks-for-piece 0 1000000))
+    ∷ [])
+    ≡ outcome stands image-2758
+    ∷ outcome (answered (replied nothing)) image-2758
+    ∷ []
+unfolding replaying
+calls-2758 = refl
+
+abbrev image-2800 : List ℕ
+image-2800 =
+    1 ∷ 0 ∷ 0 ∷ 0 ∷ 0 ∷ 0 ∷ 1 ∷ 128 ∷ 1 ∷ 0 ∷ 0 ∷ 128 ∷ 0 ∷ 0 ∷ 0 ∷ 0 ∷ 0 ∷ 0 ∷ 0 ∷ 0 ∷ 0 ∷ 0 ∷ 4 ∷ 1 ∷
+    2 ∷ 0 ∷ 0 ∷ 4 ∷ 4 ∷ 0 ∷ 0 ∷ 0 ∷ 0 ∷ 0 ∷
+    2 ∷ 0 ∷ 0 ∷ 4 ∷ 4 ∷ 0 ∷ 0 ∷ 0 ∷ 0 ∷ 0 ∷
+    2 ∷ 0 ∷ 0 ∷ 4 ∷ 4 ∷ 0 ∷ 0 ∷ 0 ∷ 0 ∷ 0 ∷
+    2 ∷ 0 ∷ 0 ∷ 4 ∷ 4 ∷ 0 ∷ 0 ∷ 0 ∷ 0 ∷ 0 ∷ []
+
+-- calls 2800 to 2803
+calls-2800 :
+    outcomes none
+    (new-line plenty 98305 32768
+    ∷ call-line plenty (mark-as-finished 0 3 (some 0) (words 5000 []))
+    ∷ call-line plenty (pick-pieces (asking 168 2048 0 300 (some 18446744073709551615) 4 (172 ∷ []) []) 4351 (words 4352 (0 ∷ [])))
+    ∷ call-line plenty (question (ofPiece peer-count 1))
+    ∷ [])
+    ≡ outcome stands image-2800
+    ∷ outcome (answered (refused OutOfRange)) image-2800
+    ∷ outcome (answered (picked ((pieceBlock 0 0) ∷ (pieceBlock 0 1) ∷ (pieceBlock 2 0) ∷ (pieceBlock 2 1) ∷ (pieceBlock 0 0) ∷ (pieceBlock 0 1) ∷ (pieceBlock 2 0) ∷ (pieceBlock 2 1) ∷ (pieceBlock 0 0) ∷ (pieceBlock 0 1) ∷ (pieceBlock 2 0) ∷ (pieceBlock 2 1) ∷ (pieceBlock 0 0) ∷ (pieceBlock 0 1) ∷ (pieceBlock 2 0) ∷ (pieceBlock 2 1) ∷ (pieceBlock 0 0) ∷ (pieceBlock 0 1) ∷ (pieceBlock 2 0) ∷ (pieceBlock 2 1) ∷ (pieceBlock 0 0) ∷ (pieceBlock 0 1) ∷ (pieceBlock 2 0) ∷ (pieceBlock 2 1) ∷ (pieceBlock 0 0) ∷ (pieceBlock 0 1) ∷ (pieceBlock 2 0) ∷ (pieceBlock 2 1) ∷ (pieceBlock 0 0) ∷ (pieceBlock 0 1) ∷ (pieceBlock 2 0) ∷ (pieceBlock 2 1) ∷ (pieceBlock 0 0) ∷ (pieceBlock 0 1) ∷ (pieceBlock 2 0) ∷ (pieceBlock 2 1) ∷ (pieceBlock 0 0) ∷ (pieceBlock 0 1) ∷ (pieceBlock 2 0) ∷ (pieceBlock 2 1) ∷ (pieceBlock 0 0) ∷ (pieceBlock 0 1) ∷ (pieceBlock 2 0) ∷ (pieceBlock 2 1) ∷ (pieceBlock 0 0) ∷ (pieceBlock 0 1) ∷ (pieceBlock 2 0) ∷ (pieceBlock 2 1) ∷ (pieceBlock 0 0) ∷ (pieceBlock 0 1) ∷ (pieceBlock 2 0) ∷ (pieceBlock 2 1) ∷ (pieceBlock 0 0) ∷ (pieceBlock 0 1) ∷ (pieceBlock 2 0) ∷ (pieceBlock 2 1) ∷ (pieceBlock 0 0) ∷ (pieceBlock 0 1) ∷ (pieceBlock 2 0) ∷ (pieceBlock 2 1) ∷ (pieceBlock 0 0) ∷ (pieceBlock 0 1) ∷ (pieceBlock 2 0) ∷ (pieceBlock 2 1) ∷ (pieceBlock 0 0) ∷ (pieceBlock 0 1) ∷ (pieceBlock 2 0) ∷ (pieceBlock 2 1) ∷ (pieceBlock 0 0) ∷ (pieceBlock 0 1) ∷ (pieceBlock 2 0) ∷ (pieceBlock 2 1) ∷ (pieceBlock 0 0) ∷ (pieceBlock 0 1) ∷ (pieceBlock 2 0) ∷ (pieceBlock 2 1) ∷ (pieceBlock 0 0) ∷ (pieceBlock 0 1) ∷ (pieceBlock 2 0) ∷ (pieceBlock 2 1) ∷ (pieceBlock 0 0) ∷ (pieceBlock 0 1) ∷ (pieceBlock 2 0) ∷ (pieceBlock 2 1) ∷ (pieceBlock 0 0) ∷ (pieceBlock 0 1) ∷ (pieceBlock 2 0) ∷ (pieceBlock 2 1) ∷ (pieceBlock 0 0) ∷ (pieceBlock 0 1) ∷ (pieceBlock 2 0) ∷ (pieceBlock 2 1) ∷ (pieceBlock 0 0) ∷ (pieceBlock 0 1) ∷ (pieceBlock 2 0) ∷ (pieceBlock 2 1) ∷ (pieceBlock 0 0) ∷ (pieceBlock 0 1) ∷ (pieceBlock 2 0) ∷ (pieceBlock 2 1) ∷ (pieceBlock 0 0) ∷ (pieceBlock 0 1) ∷ (pieceBlock 2 0) ∷ (pieceBlock 2 1) ∷ (pieceBlock 0 0) ∷ (pieceBlock 0 1) ∷ (pieceBlock 2 0) ∷ (pieceBlock 2 1) ∷ (pieceBlock 0 0) ∷ (pieceBlock 0 1) ∷ (pieceBlock 2 0) ∷ (pieceBlock 2 1) ∷ (pieceBlock 0 0) ∷ (pieceBlock 0 1) ∷ (pieceBlock 2 0) ∷ (pieceBlock 2 1) ∷ (pieceBlock 0 0) ∷ (pieceBlock 0 1) ∷ (pieceBlock 2 0) ∷ (pieceBlock 2 1) ∷ (pieceBlock 0 0) ∷ (pieceBlock 0 1) ∷ (pieceBlock 2 0) ∷ (pieceBlock 2 1) ∷ (pieceBlock 0 0) ∷ (pieceBlock 0 1) ∷ (pieceBlock 2 0) ∷ (pieceBlock 2 1) ∷ (pieceBlock 0 0) ∷ (pieceBlock 0 1) ∷ (pieceBlock 2 0) ∷ (pieceBlock 2 1) ∷ (pieceBlock 0 0) ∷ (pieceBlock 0 1) ∷ (pieceBlock 2 0) ∷ (pieceBlock 2 1) ∷ (pieceBlock 0 0) ∷ (pieceBlock 0 1) ∷ (pieceBlock 2 0) ∷ (pieceBlock 2 1) ∷ (pieceBlock 0 0) ∷ (pieceBlock 0 1) ∷ (pieceBlock 2 0) ∷ (pieceBlock 2 1) ∷ (pieceBlock 0 0) ∷ (pieceBlock 0 1) ∷ (pieceBlock 2 0) ∷ (pieceBlock 2 1) ∷ (pieceBlock 0 0) ∷ (pieceBlock 0 1) ∷ (pieceBlock 2 0) ∷ (pieceBlock 2 1) ∷ (pieceBlock 0 0) ∷ (pieceBlock 0 1) ∷ (pieceBlock 2 0) ∷ (pieceBlock 2 1) ∷ (pieceBlock 0 0) ∷ (pieceBlock 0 1) ∷ (pieceBlock 2 0) ∷ (pieceBlock 2 1) ∷ (pieceBlock 0 0) ∷ (pieceBlock 0 1) ∷ (pieceBlock 2 0) ∷ (pieceBlock 2 1) ∷ (pieceBlock 0 0) ∷ (pieceBlock 0 1) ∷ (pieceBlock 2 0) ∷ (pieceBlock 2 1) ∷ (pieceBlock 0 0) ∷ (pieceBlock 0 1) ∷ (pieceBlock 2 0) ∷ (pieceBlock 2 1) ∷ (pieceBlock 0 0) ∷ (pieceBlock 0 1) ∷ (pieceBlock 2 0) ∷ (pieceBlock 2 1) ∷ (pieceBlock 0 0) ∷ (pieceBlock 0 1) ∷ (pieceBlock 2 0) ∷ (pieceBlock 2 1) ∷ (pieceBlock 0 0) ∷ (pieceBlock 0 1) ∷ (pieceBlock 2 0) ∷ (pieceBlock 2 1) ∷ (pieceBlock 0 0) ∷ (pieceBlock 0 1) ∷ (pieceBlock 2 0) ∷ (pieceBlock 2 1) ∷ (pieceBlock 0 0) ∷ (pieceBlock 0 1) ∷ (pieceBlock 2 0) ∷ (pieceBlock 2 1) ∷ (pieceBlock 0 0) ∷ (pieceBlock 0 1) ∷ (pieceBlock 2 0) ∷ (pieceBlock 2 1) ∷ (pieceBlock 0 0) ∷ (pieceBlock 0 1) ∷ (pieceBlock 2 0) ∷ (pieceBlock 2 1) ∷ (pieceBlock 0 0) ∷ (pieceBlock 0 1) ∷ (pieceBlock 2 0) ∷ (pieceBlock 2 1) ∷ (pieceBlock 0 0) ∷ (pieceBlock 0 1) ∷ (pieceBlock 2 0) ∷ (pieceBlock 2 1) ∷ (pieceBlock 0 0) ∷ (pieceBlock 0 1) ∷ (pieceBlock 2 0) ∷ (pieceBlock 2 1) ∷ (pieceBlock 0 0) ∷ (pieceBlock 0 1) ∷ (pieceBlock 2 0) ∷ (pieceBlock 2 1) ∷ (pieceBlock 0 0) ∷ (pieceBlock 0 1) ∷ (pieceBlock 2 0) ∷ (pieceBlock 2 1) ∷ (pieceBlock 0 0) ∷ (pieceBlock 0 1) ∷ (pieceBlock 2 0) ∷ (pieceBlock 2 1) ∷ (pieceBlock 0 0) ∷ (pieceBlock 0 1) ∷ (pieceBlock 2 0) ∷ (pieceBlock 2 1) ∷ (pieceBlock 0 0) ∷ (pieceBlock 0 1) ∷ (pieceBlock 2 0) ∷ (pieceBlock 2 1) ∷ (pieceBlock 0 0) ∷ (pieceBlock 0 1) ∷ (pieceBlock 2 0) ∷ (pieceBlock 2 1) ∷ (pieceBlock 0 0) ∷ (pieceBlock 0 1) ∷ (pieceBlock 2 0) ∷ (pieceBlock 2 1) ∷ (pieceBlock 0 0) ∷ (pieceBlock 0 1) ∷ (pieceBlock 2 0) ∷ (pieceBlock 2 1) ∷ (pieceBlock 0 0) ∷ (pieceBlock 0 1) ∷ (pieceBlock 2 0) ∷ (pieceBlock 2 1) ∷ (pieceBlock 0 0) ∷ (pieceBlock 0 1) ∷ (pieceBlock 2 0) ∷ (pieceBlock 2 1) ∷ (pieceBlock 0 0) ∷ (pieceBlock 0 1) ∷ (pieceBlock 2 0) ∷ (pieceBlock 2 1) ∷ (pieceBlock 0 0) ∷ (pieceBlock 0 1) ∷ (pieceBlock 2 0) ∷ (pieceBlock 2 1) ∷ (pieceBlock 0 0) ∷ (pieceBlock 0 1) ∷ (pieceBlock 2 0) ∷ (pieceBlock 2 1) ∷ (pieceBlock 0 0) ∷ (pieceBlock 0 1) ∷ (pieceBlock 2 0) ∷ (pieceBlock 2 1) ∷ (pieceBlock 0 0) ∷ (pieceBlock 0 1) ∷ (pieceBlock 2 0) ∷ (pieceBlock 2 1) ∷ (pieceBlock 0 0) ∷ (pieceBlock 0 1) ∷ (pieceBlock 2 0) ∷ (pieceBlock 2 1) ∷ (pieceBlock 0 0) ∷ (pieceBlock 0 1) ∷ (pieceBlock 2 0) ∷ (pieceBlock 2 1) ∷ (pieceBlock 0 0) ∷ (pieceBlock 0 1) ∷ (pieceBlock 2 0) ∷ (pieceBlock 2 1) ∷ (pieceBlock 0 0) ∷ (pieceBlock 0 1) ∷ (pieceBlock 2 0) ∷ (pieceBlock 2 1) ∷ (pieceBlock 0 0) ∷ (pieceBlock 0 1) ∷ (pieceBlock 2 0) ∷ (pieceBlock 2 1) ∷ (pieceBlock 0 0) ∷ (pieceBlock 0 1) ∷ (pieceBlock 2 0) ∷ (pieceBlock 2 1) ∷ (pieceBlock 0 0) ∷ (pieceBlock 0 1) ∷ (pieceBlock 2 0) ∷ (pieceBlock 2 1) ∷ (pieceBlock 0 0) ∷ (pieceBlock 0 1) ∷ (pieceBlock 2 0) ∷ (pieceBlock 2 1) ∷ (pieceBlock 0 0) ∷ (pieceBlock 0 1) ∷ (pieceBlock 2 0) ∷ (pieceBlock 2 1) ∷ (pieceBlock 0 0) ∷ (pieceBlock 0 1) ∷ (pieceBlock 2 0) ∷ (pieceBlock 2 1) ∷ (pieceBlock 0 0) ∷ (pieceBlock 0 1) ∷ (pieceBlock 2 0) ∷ (pieceBlock 2 1) ∷ (pieceBlock 0 0) ∷ (pieceBlock 0 1) ∷ (pieceBlock 2 0) ∷ (pieceBlock 2 1) ∷ (pieceBlock 0 0) ∷ (pieceBlock 0 1) ∷ (pieceBlock 2 0) ∷ (pieceBlock 2 1) ∷ (pieceBlock 0 0) ∷ (pieceBlock 0 1) ∷ (pieceBlock 2 0) ∷ (pieceBlock 2 1) ∷ (pieceBlock 0 0) ∷ (pieceBlock 0 1) ∷ (pieceBlock 2 0) ∷ (pieceBlock 2 1) ∷ (pieceBlock 0 0) ∷ (pieceBlock 0 1) ∷ (pieceBlock 2 0) ∷ (pieceBlock 2 1) ∷ (pieceBlock 0 0) ∷ (pieceBlock 0 1) ∷ (pieceBlock 2 0) ∷ (pieceBlock 2 1) ∷ (pieceBlock 0 0) ∷ (pieceBlock 0 1) ∷ (pieceBlock 2 0) ∷ (pieceBlock 2 1) ∷ (pieceBlock 0 0) ∷ (pieceBlock 0 1) ∷ (pieceBlock 2 0) ∷ (pieceBlock 2 1) ∷ (pieceBlock 0 0) ∷ (pieceBlock 0 1) ∷ (pieceBlock 2 0) ∷ (pieceBlock 2 1) ∷ (pieceBlock 0 0) ∷ (pieceBlock 0 1) ∷ (pieceBlock 2 0) ∷ (pieceBlock 2 1) ∷ (pieceBlock 0 0) ∷ (pieceBlock 0 1) ∷ (pieceBlock 2 0) ∷ (pieceBlock 2 1) ∷ (pieceBlock 0 0) ∷ (pieceBlock 0 1) ∷ (pieceBlock 2 0) ∷ (pieceBlock 2 1) ∷ (pieceBlock 0 0) ∷ (pieceBlock 0 1) ∷ (pieceBlock 2 0) ∷ (pieceBlock 2 1) ∷ (pieceBlock 0 0) ∷ (pieceBlock 0 1) ∷ (pieceBlock 2 0) ∷ (pieceBlock 2 1) ∷ (pieceBlock 0 0) ∷ (pieceBlock 0 1) ∷ (pieceBlock 2 0) ∷ (pieceBlock 2 1) ∷ (pieceBlock 0 0) ∷ (pieceBlock 0 1) ∷ (pieceBlock 2 0) ∷ (pieceBlock 2 1) ∷ (pieceBlock 0 0) ∷ (pieceBlock 0 1) ∷ (pieceBlock 2 0) ∷ (pieceBlock 2 1) ∷ (pieceBlock 0 0) ∷ (pieceBlock 0 1) ∷ (pieceBlock 2 0) ∷ (pieceBlock 2 1) ∷ (pieceBlock 0 0) ∷ (pieceBlock 0 1) ∷ (pieceBlock 2 0) ∷ (pieceBlock 2 1) ∷ (pieceBlock 0 0) ∷ (pieceBlock 0 1) ∷ (pieceBlock 2 0) ∷ (pieceBlock 2 1) ∷ (pieceBlock 0 0) ∷ (pieceBlock 0 1) ∷ (pieceBlock 2 0) ∷ (pieceBlock 2 1) ∷ (pieceBlock 0 0) ∷ (pieceBlock 0 1) ∷ (pieceBlock 2 0) ∷ (pieceBlock 2 1) ∷ (pieceBlock 0 0) ∷ (pieceBlock 0 1) ∷ (pieceBlock 2 0) ∷ (pieceBlock 2 1) ∷ (pieceBlock 0 0) ∷ (pieceBlock 0 1) ∷ (pieceBlock 2 0) ∷ (pieceBlock 2 1) ∷ (pieceBlock 0 0) ∷ (pieceBlock 0 1) ∷ (pieceBlock 2 0) ∷ (pieceBlock 2 1) ∷ (pieceBlock 0 0) ∷ (pieceBlock 0 1) ∷ (pieceBlock 2 0) ∷ (pieceBlock 2 1) ∷ (pieceBlock 0 0) ∷ (pieceBlock 0 1) ∷ (pieceBlock 2 0) ∷ (pieceBlock 2 1) ∷ (pieceBlock 0 0) ∷ (pieceBlock 0 1) ∷ (pieceBlock 2 0) ∷ (pieceBlock 2 1) ∷ (pieceBlock 0 0) ∷ (pieceBlock 0 1) ∷ (pieceBlock 2 0) ∷ (pieceBlock 2 1) ∷ (pieceBlock 0 0) ∷ (pieceBlock 0 1) ∷ (pieceBlock 2 0) ∷ (pieceBlock 2 1) ∷ (pieceBlock 0 0) ∷ (pieceBlock 0 1) ∷ (pieceBlock 2 0) ∷ (pieceBlock 2 1) ∷ (pieceBlock 0 0) ∷ (pieceBlock 0 1) ∷ (pieceBlock 2 0) ∷ (pieceBlock 2 1) ∷ (pieceBlock 0 0) ∷ (pieceBlock 0 1) ∷ (pieceBlock 2 0) ∷ (pieceBlock 2 1) ∷ (pieceBlock 0 0) ∷ (pieceBlock 0 1) ∷ (pieceBlock 2 0) ∷ (pieceBlock 2 1) ∷ (pieceBlock 0 0) ∷ (pieceBlock 0 1) ∷ (pieceBlock 2 0) ∷ (pieceBlock 2 1) ∷ (pieceBlock 0 0) ∷ (pieceBlock 0 1) ∷ (pieceBlock 2 0) ∷ (pieceBlock 2 1) ∷ (pieceBlock 0 0) ∷ (pieceBlock 0 1) ∷ (pieceBlock 2 0) ∷ (pieceBlock 2 1) ∷ (pieceBlock 0 0) ∷ (pieceBlock 0 1) ∷ (pieceBlock 2 0) ∷ (pieceBlock 2 1) ∷ (pieceBlock 0 0) ∷ (pieceBlock 0 1) ∷ (pieceBlock 2 0) ∷ (pieceBlock 2 1) ∷ (pieceBlock 0 0) ∷ (pieceBlock 0 1) ∷ (pieceBlock 2 0) ∷ (pieceBlock 2 1) ∷ (pieceBlock 0 0) ∷ (pieceBlock 0 1) ∷ (pieceBlock 2 0) ∷ (pieceBlock 2 1) ∷ (pieceBlock 0 0) ∷ (pieceBlock 0 1) ∷ (pieceBlock 2 0) ∷ (pieceBlock 2 1) ∷ (pieceBlock 0 0) ∷ (pieceBlock 0 1) ∷ (pieceBlock 2 0) ∷ (pieceBlock 2 1) ∷ (pieceBlock 0 0) ∷ (pieceBlock 0 1) ∷ (pieceBlock 2 0) ∷ (pieceBlock 2 1) ∷ (pieceBlock 0 0) ∷ (pieceBlock 0 1) ∷ (pieceBlock 2 0) ∷ (pieceBlock 2 1) ∷ (pieceBlock 0 0) ∷ (pieceBlock 0 1) ∷ (pieceBlock 2 0) ∷ (pieceBlock 2 1) ∷ (pieceBlock 0 0) ∷ (pieceBlock 0 1) ∷ (pieceBlock 2 0) ∷ (pieceBlock 2 1) ∷ (pieceBlock 0 0) ∷ (pieceBlock 0 1) ∷ (pieceBlock 2 0) ∷ (pieceBlock 2 1) ∷ (pieceBlock 0 0) ∷ (pieceBlock 0 1) ∷ (pieceBlock 2 0) ∷ (pieceBlock 2 1) ∷ (pieceBlock 0 0) ∷ (pieceBlock 0 1) ∷ (pieceBlock 2 0) ∷ (pieceBlock 2 1) ∷ (pieceBlock 0 0) ∷ (pieceBlock 0 1) ∷ (pieceBlock 2 0) ∷ (pieceBlock 2 1) ∷ (pieceBlock 0 0) ∷ (pieceBlock 0 1) ∷ (pieceBlock 2 0) ∷ (pieceBlock 2 1) ∷ (pieceBlock 0 0) ∷ (pieceBlock 0 1) ∷ (pieceBlock 2 0) ∷ (pieceBlock 2 1) ∷ (pieceBlock 0 0) ∷ (pieceBlock 0 1) ∷ (pieceBlock 2 0) ∷ (pieceBlock 2 1) ∷ (pieceBlock 0 0) ∷ (pieceBlock 0 1) ∷ (pieceBlock 2 0) ∷ (pieceBlock 2 1) ∷ (pieceBlock 0 0) ∷ (pieceBlock 0 1) ∷ (pieceBlock 2 0) ∷ (pieceBlock 2 1) ∷ (pieceBlock 0 0) ∷ (pieceBlock 0 1) ∷ (pieceBlock 2 0) ∷ (pieceBlock 2 1) ∷ (pieceBlock 0 0) ∷ (pieceBlock 0 1) ∷ (pieceBlock 2 0) ∷ (pieceBlock 2 1) ∷ (pieceBlock 0 0) ∷ (pieceBlock 0 1) ∷ (pieceBlock 2 0) ∷ (pieceBlock 2 1) ∷ (pieceBlock 0 0) ∷ (pieceBlock 0 1) ∷ (pieceBlock 2 0) ∷ (pieceBlock 2 1) ∷ (pieceBlock 0 0) ∷ (pieceBlock 0 1) ∷ (pieceBlock 2 0) ∷ (pieceBlock 2 1) ∷ (pieceBlock 0 0) ∷ (pieceBlock 0 1) ∷ (pieceBlock 2 0) ∷ (pieceBlock 2 1) ∷ (pieceBlock 0 0) ∷ (pieceBlock 0 1) ∷ (pieceBlock 2 0) ∷ (pieceBlock 2 1) ∷ (pieceBlock 0 0) ∷ (pieceBlock 0 1) ∷ (pieceBlock 2 0) ∷ (pieceBlock 2 1) ∷ (pieceBlock 0 0) ∷ (pieceBlock 0 1) ∷ (pieceBlock 2 0) ∷ (pieceBlock 2 1) ∷ (pieceBlock 0 0) ∷ (pieceBlock 0 1) ∷ (pieceBlock 2 0) ∷ (pieceBlock 2 1) ∷ (pieceBlock 0 0) ∷ (pieceBlock 0 1) ∷ (pieceBlock 2 0) ∷ (pieceBlock 2 1) ∷ (pieceBlock 0 0) ∷ (pieceBlock 0 1) ∷ (pieceBlock 2 0) ∷ (pieceBlock 2 1) ∷ (pieceBlock 0 0) ∷ (pieceBlock 0 1) ∷ (pieceBlock 2 0) ∷ (pieceBlock 2 1) ∷ (pieceBlock 0 0) ∷ (pieceBlock 0 1) ∷ (pieceBlock 2 0) ∷ (pieceBlock 2 1) ∷ (pieceBlock 0 0) ∷ (pieceBlock 0 1) ∷ (pieceBlock 2 0) ∷ (pieceBlock 2 1) ∷ (pieceBlock 0 0) ∷ (pieceBlock 0 1) ∷ (pieceBlock 2 0) ∷ (pieceBlock 2 1) ∷ (pieceBlock 0 0) ∷ (pieceBlock 0 1) ∷ (pieceBlock 2 0) ∷ (pieceBlock 2 1) ∷ (pieceBlock 0 0) ∷ (pieceBlock 0 1) ∷ (pieceBlock 2 0) ∷ (pieceBlock 2 1) ∷ (pieceBlock 0 0) ∷ (pieceBlock 0 1) ∷ (pieceBlock 2 0) ∷ (pieceBlock 2 1) ∷ (pieceBlock 0 0) ∷ (pieceBlock 0 1) ∷ (pieceBlock 2 0) ∷ (pieceBlock 2 1) ∷ (pieceBlock 0 0) ∷ (pieceBlock 0 1) ∷ (pieceBlock 2 0) ∷ (pieceBlock 2 1) ∷ (pieceBlock 0 0) ∷ (pieceBlock 0 1) ∷ (pieceBlock 2 0) ∷ (pieceBlock 2 1) ∷ (pieceBlock 0 0) ∷ (pieceBlock 0 1) ∷ (pieceBlock 2 0) ∷ (pieceBlock 2 1) ∷ (pieceBlock 0 0) ∷ (pieceBlock 0 1) ∷ (pieceBlock 2 0) ∷ (pieceBlock 2 1) ∷ (pieceBlock 0 0) ∷ (pieceBlock 0 1) ∷ (pieceBlock 2 0) ∷ (pieceBlock 2 1) ∷ (pieceBlock 0 0) ∷ (pieceBlock 0 1) ∷ (pieceBlock 2 0) ∷ (pieceBlock 2 1) ∷ (pieceBlock 0 0) ∷ (pieceBlock 0 1) ∷ (pieceBlock 2 0) ∷ (pieceBlock 2 1) ∷ (pieceBlock 0 0) ∷ (pieceBlock 0 1) ∷ (pieceBlock 2 0) ∷ (pieceBlock 2 1) ∷ (pieceBlock 0 0) ∷ (pieceBlock 0 1) ∷ (pieceBlock 2 0) ∷ (pieceBlock 2 1) ∷ (pieceBlock 0 0) ∷ (pieceBlock 0 1) ∷ (pieceBlock 2 0) ∷ (pieceBlock 2 1) ∷ (pieceBlock 0 0) ∷ (pieceBlock 0 1) ∷ (pieceBlock 2 0) ∷ (pieceBlock 2 1) ∷ (pieceBlock 0 0) ∷ (pieceBlock 0 1) ∷ (pieceBlock 2 0) ∷ (pieceBlock 2 1) ∷ (pieceBlock 0 0) ∷ (pieceBlock 0 1) ∷ (pieceBlock 2 0) ∷ (pieceBlock 2 1) ∷ (pieceBlock 0 0) ∷ (pieceBlock 0 1) ∷ (pieceBlock 2 0) ∷ (pieceBlock 2 1) ∷ (pieceBlock 0 0) ∷ (pieceBlock 0 1) ∷ (pieceBlock 2 0) ∷ (pieceBlock 2 1) ∷ (pieceBlock 0 0) ∷ (pieceBlock 0 1) ∷ (pieceBlock 2 0) ∷ (pieceBlock 2 1) ∷ (pieceBlock 0 0) ∷ (pieceBlock 0 1) ∷ (pieceBlock 2 0) ∷ (pieceBlock 2 1) ∷ (pieceBlock 0 0) ∷ (pieceBlock 0 1) ∷ (pieceBlock 2 0) ∷ (pieceBlock 2 1) ∷ (pieceBlock 0 0) ∷ (pieceBlock 0 1) ∷ (pieceBlock 2 0) ∷ (pieceBlock 2 1) ∷ (pieceBlock 0 0) ∷ (pieceBlock 0 1) ∷ (pieceBlock 2 0) ∷ (pieceBlock 2 1) ∷ (pieceBlock 0 0) ∷ (pieceBlock 0 1) ∷ (pieceBlock 2 0) ∷ (pieceBlock 2 1) ∷ (pieceBlock 0 0) ∷ (pieceBlock 0 1) ∷ (pieceBlock 2 0) ∷ (pieceBlock 2 1) ∷ (pieceBlock 0 0) ∷ (pieceBlock 0 1) ∷ (pieceBlock 2 0) ∷ (pieceBlock 2 1) ∷ (pieceBlock 0 0) ∷ (pieceBlock 0 1) ∷ (pieceBlock 2 0) ∷ (pieceBlock 2 1) ∷ (pieceBlock 0 0) ∷ (pieceBlock 0 1) ∷ (pieceBlock 2 0) ∷ (pieceBlock 2 1) ∷ (pieceBlock 0 0) ∷ (pieceBlock 0 1) ∷ (pieceBlock 2 0) ∷ (pieceBlock 2 1) ∷ (pieceBlock 0 0) ∷ (pieceBlock 0 1) ∷ (pieceBlock 2 0) ∷ (pieceBlock 2 1) ∷ (pieceBlock 0 0) ∷ (pieceBlock 0 1) ∷ (pieceBlock 2 0) ∷ (pieceBlock 2 1) ∷ (pieceBlock 0 0) ∷ (pieceBlock 0 1) ∷ (pieceBlock 2 0) ∷ (pieceBlock 2 1) ∷ (pieceBlock 0 0) ∷ (pieceBlock 0 1) ∷ (pieceBlock 2 0) ∷ (pieceBlock 2 1) ∷ (pieceBlock 0 0) ∷ (pieceBlock 0 1) ∷ (pieceBlock 2 0) ∷ (pieceBlock 2 1) ∷ (pieceBlock 0 0) ∷ (pieceBlock 0 1) ∷ (pieceBlock 2 0) ∷ (pieceBlock 2 1) ∷ (pieceBlock 0 0) ∷ (pieceBlock 0 1) ∷ (pieceBlock 2 0) ∷ (pieceBlock 2 1) ∷ (pieceBlock 0 0) ∷ (pieceBlock 0 1) ∷ (pieceBlock 2 0) ∷ (pieceBlock 2 1) ∷ (pieceBlock 0 0) ∷ (pieceBlock 0 1) ∷ (pieceBlock 2 0) ∷ (pieceBlock 2 1) ∷ (pieceBlock 0 0) ∷ (pieceBlock 0 1) ∷ (pieceBlock 2 0) ∷ (pieceBlock 2 1) ∷ (pieceBlock 0 0) ∷ (pieceBlock 0 1) ∷ (pieceBlock 2 0) ∷ (pieceBlock 2 1) ∷ (pieceBlock 0 0) ∷ (pieceBlock 0 1) ∷ (pieceBlock 2 0) ∷ (pieceBlock 2 1) ∷ (pieceBlock 0 0) ∷ (pieceBlock 0 1) ∷ (pieceBlock 2 0) ∷ (pieceBlock 2 1) ∷ (pieceBlock 0 0) ∷ (pieceBlock 0 1) ∷ (pieceBlock 2 0) ∷ (pieceBlock 2 1) ∷ (pieceBlock 0 0) ∷ (pieceBlock 0 1) ∷ (pieceBlock 2 0) ∷ (pieceBlock 2 1) ∷ (pieceBlock 0 0) ∷ (pieceBlock 0 1) ∷ (pieceBlock 2 0) ∷ (pieceBlock 2 1) ∷ (pieceBlock 0 0) ∷ (pieceBlock 0 1) ∷ (pieceBlock 2 0) ∷ (pieceBlock 2 1) ∷ (pieceBlock 0 0) ∷ (pieceBlock 0 1) ∷ (pieceBlock 2 0) ∷ (pieceBlock 2 1) ∷ (pieceBlock 0 0) ∷ (pieceBlock 0 1) ∷ (pieceBlock 2 0) ∷ (pieceBlock 2 1) ∷ (pieceBlock 0 0) ∷ (pieceBlock 0 1) ∷ (pieceBlock 2 0) ∷ (pieceBlock 2 1) ∷ (pieceBlock 0 0) ∷ (pieceBlock 0 1) ∷ (pieceBlock 2 0) ∷ (pieceBlock 2 1) ∷ (pieceBlock 0 0) ∷ (pieceBlock 0 1) ∷ (pieceBlock 2 0) ∷ (pieceBlock 2 1) ∷ (pieceBlock 0 0) ∷ (pieceBlock 0 1) ∷ (pieceBlock 2 0) ∷ (pieceBlock 2 1) ∷ (pieceBlock 0 0) ∷ (pieceBlock 0 1) ∷ (pieceBlock 2 0) ∷ (pieceBlock 2 1) ∷ (pieceBlock 0 0) ∷ (pieceBlock 0 1) ∷ (pieceBlock 2 0) ∷ (pieceBlock 2 1) ∷ (pieceBlock 0 0) ∷ (pieceBlock 0 1) ∷ (pieceBlock 2 0) ∷ (pieceBlock 2 1) ∷ (pieceBlock 0 0) ∷ (pieceBlock 0 1) ∷ (pieceBlock 2 0) ∷ (pieceBlock 2 1) ∷ (pieceBlock 0 0) ∷ (pieceBlock 0 1) ∷ (pieceBlock 2 0) ∷ (pieceBlock 2 1) ∷ (pieceBlock 0 0) ∷ (pieceBlock 0 1) ∷ (pieceBlock 2 0) ∷ (pieceBlock 2 1) ∷ (pieceBlock 0 0) ∷ (pieceBlock 0 1) ∷ (pieceBlock 2 0) ∷ (pieceBlock 2 1) ∷ (pieceBlock 0 0) ∷ (pieceBlock 0 1) ∷ (pieceBlock 2 0) ∷ (pieceBlock 2 1) ∷ (pieceBlock 0 0) ∷ (pieceBlock 0 1) ∷ (pieceBlock 2 0) ∷ (pieceBlock 2 1) ∷ (pieceBlock 0 0) ∷ (pieceBlock 0 1) ∷ (pieceBlock 2 0) ∷ (pieceBlock 2 1) ∷ (pieceBlock 0 0) ∷ (pieceBlock 0 1) ∷ (pieceBlock 2 0) ∷ (pieceBlock 2 1) ∷ (pieceBlock 0 0) ∷ (pieceBlock 0 1) ∷ (pieceBlock 2 0) ∷ (pieceBlock 2 1) ∷ (pieceBlock 0 0) ∷ (pieceBlock 0 1) ∷ (pieceBlock 2 0) ∷ (pieceBlock 2 1) ∷ (pieceBlock 0 0) ∷ (pieceBlock 0 1) ∷ (pieceBlock 2 0) ∷ (pieceBlock 2 1) ∷ (pieceBlock 0 0) ∷ (pieceBlock 0 1) ∷ (pieceBlock 2 0) ∷ (pieceBlock 2 1) ∷ (pieceBlock 0 0) ∷ (pieceBlock 0 1) ∷ (pieceBlock 2 0) ∷ (pieceBlock 2 1) ∷ (pieceBlock 0 0) ∷ (pieceBlock 0 1) ∷ (pieceBlock 2 0) ∷ (pieceBlock 2 1) ∷ (pieceBlock 0 0) ∷ (pieceBlock 0 1) ∷ (pieceBlock 2 0) ∷ (pieceBlock 2 1) ∷ (pieceBlock 0 0) ∷ (pieceBlock 0 1) ∷ (pieceBlock 2 0) ∷ (pieceBlock 2 1) ∷ (pieceBlock 0 0) ∷ (pieceBlock 0 1) ∷ (pieceBlock 2 0) ∷ (pieceBlock 2 1) ∷ (pieceBlock 0 0) ∷ (pieceBlock 0 1) ∷ (pieceBlock 2 0) ∷ (pieceBlock 2 1) ∷ (pieceBlock 0 0) ∷ (pieceBlock 0 1) ∷ (pieceBlock 2 0) ∷ (pieceBlock 2 1) ∷ (pieceBlock 0 0) ∷ (pieceBlock 0 1) ∷ (pieceBlock 2 0) ∷ (pieceBlock 2 1) ∷ (pieceBlock 0 0) ∷ (pieceBlock 0 1) ∷ (pieceBlock 2 0) ∷ (pieceBlock 2 1) ∷ (pieceBlock 0 0) ∷ (pieceBlock 0 1) ∷ (pieceBlock 2 0) ∷ (pieceBlock 2 1) ∷ (pieceBlock 0 0) ∷ (pieceBlock 0 1) ∷ (pieceBlock 2 0) ∷ (pieceBlock 2 1) ∷ (pieceBlock 0 0) ∷ (pieceBlock 0 1) ∷ (pieceBlock 2 0) ∷ (pieceBlock 2 1) ∷ (pieceBlock 0 0) ∷ (pieceBlock 0 1) ∷ (pieceBlock 2 0) ∷ (pieceBlock 2 1) ∷ (pieceBlock 0 0) ∷ (pieceBlock 0 1) ∷ (pieceBlock 2 0) ∷ (pieceBlock 2 1) ∷ (pieceBlock 0 0) ∷ (pieceBlock 0 1) ∷ (pieceBlock 2 0) ∷ (pieceBlock 2 1) ∷ (pieceBlock 0 0) ∷ (pieceBlock 0 1) ∷ (pieceBlock 2 0) ∷ (pieceBlock 2 1) ∷ (pieceBlock 0 0) ∷ (pieceBlock 0 1) ∷ (pieceBlock 2 0) ∷ (pieceBlock 2 1) ∷ (pieceBlock 0 0) ∷ (pieceBlock 0 1) ∷ (pieceBlock 2 0) ∷ (pieceBlock 2 1) ∷ (pieceBlock 0 0) ∷ (pieceBlock 0 1) ∷ (pieceBlock 2 0) ∷ (pieceBlock 2 1) ∷ (pieceBlock 0 0) ∷ (pieceBlock 0 1) ∷ (pieceBlock 2 0) ∷ (pieceBlock 2 1) ∷ (pieceBlock 0 0) ∷ (pieceBlock 0 1) ∷ (pieceBlock 2 0) ∷ (pieceBlock 2 1) ∷ (pieceBlock 0 0) ∷ (pieceBlock 0 1) ∷ (pieceBlock 2 0) ∷ (pieceBlock 2 1) ∷ (pieceBlock 0 0) ∷ (pieceBlock 0 1) ∷ (pieceBlock 2 0) ∷ (pieceBlock 2 1) ∷ (pieceBlock 0 0) ∷ (pieceBlock 0 1) ∷ (pieceBlock 2 0) ∷ (pieceBlock 2 1) ∷ (pieceBlock 0 0) ∷ (pieceBlock 0 1) ∷ (pieceBlock 2 0) ∷ (pieceBlock 2 1) ∷ (pieceBlock 0 0) ∷ (pieceBlock 0 1) ∷ (pieceBlock 2 0) ∷ (pieceBlock 2 1) ∷ (pieceBlock 0 0) ∷ (pieceBlock 0 1) ∷ (pieceBlock 2 0) ∷ (pieceBlock 2 1) ∷ (pieceBlock 0 0) ∷ (pieceBlock 0 1) ∷ (pieceBlock 2 0) ∷ (pieceBlock 2 1) ∷ (pieceBlock 0 0) ∷ (pieceBlock 0 1) ∷ (pieceBlock 2 0) ∷ (pieceBlock 2 1) ∷ (pieceBlock 0 0) ∷ (pieceBlock 0 1) ∷ (pieceBlock 2 0) ∷ (pieceBlock 2 1) ∷ (pieceBlock 0 0) ∷ (pieceBlock 0 1) ∷ (pieceBlock 2 0) ∷ (pieceBlock 2 1) ∷ (pieceBlock 0 0) ∷ (pieceBlock 0 1) ∷ (pieceBlock 2 0) ∷ (pieceBlock 2 1) ∷ (pieceBlock 0 0) ∷ (pieceBlock 0 1) ∷ (pieceBlock 2 0) ∷ (pieceBlock 2 1) ∷ (pieceBlock 0 0) ∷ (pieceBlock 0 1) ∷ (pieceBlock 2 0) ∷ (pieceBlock 2 1) ∷ (pieceBlock 0 0) ∷ (pieceBlock 0 1) ∷ (pieceBlock 2 0) ∷ (pieceBlock 2 1) ∷ (pieceBlock 0 0) ∷ (pieceBlock 0 1) ∷ (pieceBlock 2 0) ∷ (pieceBlock 2 1) ∷ (pieceBlock 0 0) ∷ (pieceBlock 0 1) ∷ (pieceBlock 2 0) ∷ (pieceBlock 2 1) ∷ (pieceBlock 0 0) ∷ (pieceBlock 0 1) ∷ (pieceBlock 2 0) ∷ (pieceBlock 2 1) ∷ (pieceBlock 0 0) ∷ (pieceBlock 0 1) ∷ (pieceBlock 2 0) ∷ (pieceBlock 2 1) ∷ (pieceBlock 0 0) ∷ (pieceBlock 0 1) ∷ (pieceBlock 2 0) ∷ (pieceBlock 2 1) ∷ (pieceBlock 0 0) ∷ (pieceBlock 0 1) ∷ (pieceBlock 2 0) ∷ (pieceBlock 2 1) ∷ (pieceBlock 0 0) ∷ (pieceBlock 0 1) ∷ (pieceBlock 2 0) ∷ (pieceBlock 2 1) ∷ (pieceBlock 0 0) ∷ (pieceBlock 0 1) ∷ (pieceBlock 2 0) ∷ (pieceBlock 2 1) ∷ (pieceBlock 0 0) ∷ (pieceBlock 0 1) ∷ (pieceBlock 2 0) ∷ (pieceBlock 2 1) ∷ (pieceBlock 0 0) ∷ (pieceBlock 0 1) ∷ (pieceBlock 2 0) ∷ (pieceBlock 2 1) ∷ (pieceBlock 0 0) ∷ (pieceBlock 0 1) ∷ (pieceBlock 2 0) ∷ (pieceBlock 2 1) ∷ (pieceBlock 0 0) ∷ (pieceBlock 0 1) ∷ (pieceBlock 2 0) ∷ (pieceBlock 2 1) ∷ (pieceBlock 0 0) ∷ (pieceBlock 0 1) ∷ (pieceBlock 2 0) ∷ (pieceBlock 2 1) ∷ (pieceBlock 0 0) ∷ (pieceBlock 0 1) ∷ (pieceBlock 2 0) ∷ (pieceBlock 2 1) ∷ (pieceBlock 0 0) ∷ (pieceBlock 0 1) ∷ (pieceBlock 2 0) ∷ (pieceBlock 2 1) ∷ (pieceBlock 0 0) ∷ (pieceBlock 0 1) ∷ (pieceBlock 2 0) ∷ (pieceBlock 2 1) ∷ (pieceBlock 0 0) ∷ (pieceBlock 0 1) ∷ (pieceBlock 2 0) ∷ (pieceBlock 2 1) ∷ (pieceBlock 0 0) ∷ (pieceBlock 0 1) ∷ (pieceBlock 2 0) ∷ (pieceBlock 2 1) ∷ (pieceBlock 0 0) ∷ (pieceBlock 0 1) ∷ (pieceBlock 2 0) ∷ (pieceBlock 2 1) ∷ (pieceBlock 0 0) ∷ (pieceBlock 0 1) ∷ (pieceBlock 2 0) ∷ (pieceBlock 2 1) ∷ (pieceBlock 0 0) ∷ (pieceBlock 0 1) ∷ (pieceBlock 2 0) ∷ (pieceBlock 2 1) ∷ (pieceBlock 0 0) ∷ (pieceBlock 0 1) ∷ (pieceBlock 2 0) ∷ (pieceBlock 2 1) ∷ (pieceBlock 0 0) ∷ (pieceBlock 0 1) ∷ (pieceBlock 2 0) ∷ (pieceBlock 2 1) ∷ (pieceBlock 0 0) ∷ (pieceBlock 0 1) ∷ (pieceBlock 2 0) ∷ (pieceBlock 2 1) ∷ (pieceBlock 0 0) ∷ (pieceBlock 0 1) ∷ (pieceBlock 2 0) ∷ (pieceBlock 2 1) ∷ (pieceBlock 0 0) ∷ (pieceBlock 0 1) ∷ (pieceBlock 2 0) ∷ (pieceBlock 2 1) ∷ (pieceBlock 0 0) ∷ (pieceBlock 0 1) ∷ (pieceBlock 2 0) ∷ (pieceBlock 2 1) ∷ (pieceBlock 0 0) ∷ (pieceBlock 0 1) ∷ (pieceBlock 2 0) ∷ (pieceBlock 2 1) ∷ (pieceBlock 0 0) ∷ (pieceBlock 0 1) ∷ (pieceBlock 2 0) ∷ (pieceBlock 2 1) ∷ (pieceBlock 0 0) ∷ (pieceBlock 0 1) ∷ (pieceBlock 2 0) ∷ (pieceBlock 2 1) ∷ (pieceBlock 0 0) ∷ (pieceBlock 0 1) ∷ (pieceBlock 2 0) ∷ (pieceBlock 2 1) ∷ (pieceBlock 0 0) ∷ (pieceBlock 0 1) ∷ (pieceBlock 2 0) ∷ (pieceBlock 2 1) ∷ (pieceBlock 0 0) ∷ (pieceBlock 0 1) ∷ (pieceBlock 2 0) ∷ (pieceBlock 2 1) ∷ (pieceBlock 0 0) ∷ (pieceBlock 0 1) ∷ (pieceBlock 2 0) ∷ (pieceBlock 2 1) ∷ (pieceBlock 0 0) ∷ (pieceBlock 0 1) ∷ (pieceBlock 2 0) ∷ (pieceBlock 2 1) ∷ (pieceBlock 0 0) ∷ (pieceBlock 0 1) ∷ (pieceBlock 2 0) ∷ (pieceBlock 2 1) ∷ (pieceBlock 0 0) ∷ (pieceBlock 0 1) ∷ (pieceBlock 2 0) ∷ (pieceBlock 2 1) ∷ (pieceBlock 0 0) ∷ (pieceBlock 0 1) ∷ (pieceBlock 2 0) ∷ (pieceBlock 2 1) ∷ (pieceBlock 0 0) ∷ (pieceBlock 0 1) ∷ (pieceBlock 2 0) ∷ (pieceBlock 2 1) ∷ (pieceBlock 0 0) ∷ (pieceBlock 0 1) ∷ (pieceBlock 2 0) ∷ (pieceBlock 2 1) ∷ (pieceBlock 0 0) ∷ (pieceBlock 0 1) ∷ (pieceBlock 2 0) ∷ (pieceBlock 2 1) ∷ (pieceBlock 0 0) ∷ (pieceBlock 0 1) ∷ (pieceBlock 2 0) ∷ (pieceBlock 2 1) ∷ (pieceBlock 0 0) ∷ (pieceBlock 0 1) ∷ (pieceBlock 2 0) ∷ (pieceBlock 2 1) ∷ (pieceBlock 0 0) ∷ (pieceBlock 0 1) ∷ (pieceBlock 2 0) ∷ (pieceBlock 2 1) ∷ (pieceBlock 0 0) ∷ (pieceBlock 0 1) ∷ (pieceBlock 2 0) ∷ (pieceBlock 2 1) ∷ (pieceBlock 0 0) ∷ (pieceBlock 0 1) ∷ (pieceBlock 2 0) ∷ (pieceBlock 2 1) ∷ (pieceBlock 0 0) ∷ (pieceBlock 0 1) ∷ (pieceBlock 2 0) ∷ (pieceBlock 2 1) ∷ (pieceBlock 0 0) ∷ (pieceBlock 0 1) ∷ (pieceBlock 2 0) ∷ (pieceBlock 2 1) ∷ (pieceBlock 0 0) ∷ (pieceBlock 0 1) ∷ (pieceBlock 2 0) ∷ (pieceBlock 2 1) ∷ (pieceBlock 0 0) ∷ (pieceBlock 0 1) ∷ (pieceBlock 2 0) ∷ (pieceBlock 2 1) ∷ (pieceBlock 0 0) ∷ (pieceBlock 0 1) ∷ (pieceBlock 2 0) ∷ (pieceBlock 2 1) ∷ (pieceBlock 0 0) ∷ (pieceBlock 0 1) ∷ (pieceBlock 2 0) ∷ (pieceBlock 2 1) ∷ (pieceBlock 0 0) ∷ (pieceBlock 0 1) ∷ (pieceBlock 2 0) ∷ (pieceBlock 2 1) ∷ (pieceBlock 0 0) ∷ (pieceBlock 0 1) ∷ (pieceBlock 2 0) ∷ (pieceBlock 2 1) ∷ (pieceBlock 0 0) ∷ (pieceBlock 0 1) ∷ (pieceBlock 2 0) ∷ (pieceBlock 2 1) ∷ (pieceBlock 0 0) ∷ (pieceBlock 0 1) ∷ (pieceBlock 2 0) ∷ (pieceBlock 2 1) ∷ (pieceBlock 0 0) ∷ (pieceBlock 0 1) ∷ (pieceBlock 2 0) ∷ (pieceBlock 2 1) ∷ (pieceBlock 0 0) ∷ (pieceBlock 0 1) ∷ (pieceBlock 2 0) ∷ (pieceBlock 2 1) ∷ (pieceBlock 0 0) ∷ (pieceBlock 0 1) ∷ (pieceBlock 2 0) ∷ (pieceBlock 2 1) ∷ (pieceBlock 0 0) ∷ (pieceBlock 0 1) ∷ (pieceBlock 2 0) ∷ (pieceBlock 2 1) ∷ (pieceBlock 0 0) ∷ (pieceBlock 0 1) ∷ (pieceBlock 2 0) ∷ (pieceBlock 2 1) ∷ (pieceBlock 0 0) ∷ (pieceBlock 0 1) ∷ (pieceBlock 2 0) ∷ (pieceBlock 2 1) ∷ (pieceBlock 0 0) ∷ (pieceBlock 0 1) ∷ (pieceBlock 2 0) ∷ (pieceBlock 2 1) ∷ (pieceBlock 0 0) ∷ (pieceBlock 0 1) ∷ (pieceBlock 2 0) ∷ (pieceBlock 2 1) ∷ (pieceBlock 0 0) ∷ (pieceBlock 0 1) ∷ (pieceBlock 2 0) ∷ (pieceBlock 2 1) ∷ (pieceBlock 0 0) ∷ (pieceBlock 0 1) ∷ (pieceBlock 2 0) ∷ (pieceBlock 2 1) ∷ (pieceBlock 0 0) ∷ (pieceBlock 0 1) ∷ (pieceBlock 2 0) ∷ (pieceBlock 2 1) ∷ (pieceBlock 0 0) ∷ (pieceBlock 0 1) ∷ (pieceBlock 2 0) ∷ (pieceBlock 2 1) ∷ (pieceBlock 0 0) ∷ (pieceBlock 0 1) ∷ (pieceBlock 2 0) ∷ (pieceBlock 2 1) ∷ (pieceBlock 0 0) ∷ (pieceBlock 0 1) ∷ (pieceBlock 2 0) ∷ (pieceBlock 2 1) ∷ (pieceBlock 0 0) ∷ (pieceBlock 0 1) ∷ (pieceBlock 2 0) ∷ (pieceBlock 2 1) ∷ (pieceBlock 0 0) ∷ (pieceBlock 0 1) ∷ (pieceBlock 2 0) ∷ (pieceBlock 2 1) ∷ (pieceBlock 0 0) ∷ (pieceBlock 0 1) ∷ (pieceBlock 2 0) ∷ (pieceBlock 2 1) ∷ (pieceBlock 0 0) ∷ (pieceBlock 0 1) ∷ (pieceBlock 2 0) ∷ (pieceBlock 2 1) ∷ (pieceBlock 0 0) ∷ (pieceBlock 0 1) ∷ (pieceBlock 2 0) ∷ (pieceBlock 2 1) ∷ (pieceBlock 0 0) ∷ (pieceBlock 0 1) ∷ (pieceBlock 2 0) ∷ (pieceBlock 2 1) ∷ (pieceBlock 0 0) ∷ (pieceBlock 0 1) ∷ (pieceBlock 2 0) ∷ (pieceBlock 2 1) ∷ (pieceBlock 0 0) ∷ (pieceBlock 0 1) ∷ (pieceBlock 2 0) ∷ (pieceBlock 2 1) ∷ (pieceBlock 0 0) ∷ (pieceBlock 0 1) ∷ (pieceBlock 2 0) ∷ (pieceBlock 2 1) ∷ (pieceBlock 0 0) ∷ (pieceBlock 0 1) ∷ (pieceBlock 2 0) ∷ (pieceBlock 2 1) ∷ (pieceBlock 0 0) ∷ (pieceBlock 0 1) ∷ (pieceBlock 2 0) ∷ (pieceBlock 2 1) ∷ (pieceBlock 0 0) ∷ (pieceBlock 0 1) ∷ (pieceBlock 2 0) ∷ (pieceBlock 2 1) ∷ (pieceBlock 0 0) ∷ (pieceBlock 0 1) ∷ (pieceBlock 2 0) ∷ (pieceBlock 2 1) ∷ (pieceBlock 0 0) ∷ (pieceBlock 0 1) ∷ (pieceBlock 2 0) ∷ (pieceBlock 2 1) ∷ (pieceBlock 0 0) ∷ (pieceBlock 0 1) ∷ (pieceBlock 2 0) ∷ (pieceBlock 2 1) ∷ (pieceBlock 0 0) ∷ (pieceBlock 0 1) ∷ (pieceBlock 2 0) ∷ (pieceBlock 2 1) ∷ (pieceBlock 0 0) ∷ (pieceBlock 0 1) ∷ (pieceBlock 2 0) ∷ (pieceBlock 2 1) ∷ (pieceBlock 0 0) ∷ (pieceBlock 0 1) ∷ (pieceBlock 2 0) ∷ (pieceBlock 2 1) ∷ (pieceBlock 0 0) ∷ (pieceBlock 0 1) ∷ (pieceBlock 2 0) ∷ (pieceBlock 2 1) ∷ (pieceBlock 0 0) ∷ (pieceBlock 0 1) ∷ (pieceBlock 2 0) ∷ (pieceBlock 2 1) ∷ (pieceBlock 0 0) ∷ (pieceBlock 0 1) ∷ (pieceBlock 2 0) ∷ (pieceBlock 2 1) ∷ (pieceBlock 0 0) ∷ (pieceBlock 0 1) ∷ (pieceBlock 2 0) ∷ (pieceBlock 2 1) ∷ (pieceBlock 0 0) ∷ (pieceBlock 0 1) ∷ (pieceBlock 2 0) ∷ (pieceBlock 2 1) ∷ (pieceBlock 0 0) ∷ (pieceBlock 0 1) ∷ (pieceBlock 2 0) ∷ (pieceBlock 2 1) ∷ (pieceBlock 0 0) ∷ (pieceBlock 0 1) ∷ (pieceBlock 2 0) ∷ (pieceBlock 2 1) ∷ (pieceBlock 0 0) ∷ (pieceBlock 0 1) ∷ (pieceBlock 2 0) ∷ (pieceBlock 2 1) ∷ (pieceBlock 0 0) ∷ (pieceBlock 0 1) ∷ (pieceBlock 2 0) ∷ (pieceBlock 2 1) ∷ (pieceBlock 0 0) ∷ (pieceBlock 0 1) ∷ (pieceBlock 2 0) ∷ (pieceBlock 2 1) ∷ (pieceBlock 0 0) ∷ (pieceBlock 0 1) ∷ (pieceBlock 2 0) ∷ (pieceBlock 2 1) ∷ (pieceBlock 0 0) ∷ (pieceBlock 0 1) ∷ (pieceBlock 2 0) ∷ (pieceBlock 2 1) ∷ (pieceBlock 0 0) ∷ (pieceBlock 0 1) ∷ (pieceBlock 2 0) ∷ (pieceBlock 2 1) ∷ (pieceBlock 0 0) ∷ (pieceBlock 0 1) ∷ (pieceBlock 2 0) ∷ (pieceBlock 2 1) ∷ (pieceBlock 0 0) ∷ (pieceBlock 0 1) ∷ (pieceBlock 2 0) ∷ (pieceBlock 2 1) ∷ (pieceBlock 0 0) ∷ (pieceBlock 0 1) ∷ (pieceBlock 2 0) ∷ (pieceBlock 2 1) ∷ (pieceBlock 0 0) ∷ (pieceBlock 0 1) ∷ (pieceBlock 2 0) ∷ (pieceBlock 2 1) ∷ (pieceBlock 0 0) ∷ (pieceBlock 0 1) ∷ (pieceBlock 2 0) ∷ (pieceBlock 2 1) ∷ (pieceBlock 0 0) ∷ (pieceBlock 0 1) ∷ (pieceBlock 2 0) ∷ (pieceBlock 2 1) ∷ (pieceBlock 0 0) ∷ (pieceBlock 0 1) ∷ (pieceBlock 2 0) ∷ (pieceBlock 2 1) ∷ (pieceBlock 0 0) ∷ (pieceBlock 0 1) ∷ (pieceBlock 2 0) ∷ (pieceBlock 2 1) ∷ (pieceBlock 0 0) ∷ (pieceBlock 0 1) ∷ (pieceBlock 2 0) ∷ (pieceBlock 2 1) ∷ (pieceBlock 0 0) ∷ (pieceBlock 0 1) ∷ (pieceBlock 2 0) ∷ (pieceBlock 2 1) ∷ (pieceBlock 0 0) ∷ (pieceBlock 0 1) ∷ (pieceBlock 2 0) ∷ (pieceBlock 2 1) ∷ (pieceBlock 0 0) ∷ (pieceBlock 0 1) ∷ (pieceBlock 2 0) ∷ (pieceBlock 2 1) ∷ (pieceBlock 0 0) ∷ (pieceBlock 0 1) ∷ (pieceBlock 2 0) ∷ (pieceBlock 2 1) ∷ (pieceBlock 0 0) ∷ (pieceBlock 0 1) ∷ (pieceBlock 2 0) ∷ (pieceBlock 2 1) ∷ (pieceBlock 0 0) ∷ (pieceBlock 0 1) ∷ (pieceBlock 2 0) ∷ (pieceBlock 2 1) ∷ (pieceBlock 0 0) ∷ (pieceBlock 0 1) ∷ (pieceBlock 2 0) ∷ (pieceBlock 2 1) ∷ (pieceBlock 0 0) ∷ (pieceBlock 0 1) ∷ (pieceBlock 2 0) ∷ (pieceBlock 2 1) ∷ (pieceBlock 0 0) ∷ (pieceBlock 0 1) ∷ (pieceBlock 2 0) ∷ (pieceBlock 2 1) ∷ (pieceBlock 0 0) ∷ (pieceBlock 0 1) ∷ (pieceBlock 2 0) ∷ (pieceBlock 2 1) ∷ (pieceBlock 0 0) ∷ (pieceBlock 0 1) ∷ (pieceBlock 2 0) ∷ (pieceBlock 2 1) ∷ (pieceBlock 0 0) ∷ (pieceBlock 0 1) ∷ (pieceBlock 2 0) ∷ (pieceBlock 2 1) ∷ (pieceBlock 0 0) ∷ (pieceBlock 0 1) ∷ (pieceBlock 2 0) ∷ (pieceBlock 2 1) ∷ (pieceBlock 0 0) ∷ (pieceBlock 0 1) ∷ (pieceBlock 2 0) ∷ (pieceBlock 2 1) ∷ (pieceBlock 0 0) ∷ (pieceBlock 0 1) ∷ (pieceBlock 2 0) ∷ (pieceBlock 2 1) ∷ (pieceBlock 0 0) ∷ (pieceBlock 0 1) ∷ (pieceBlock 2 0) ∷ (pieceBlock 2 1) ∷ (pieceBlock 0 0) ∷ (pieceBlock 0 1) ∷ (pieceBlock 2 0) ∷ (pieceBlock 2 1) ∷ (pieceBlock 0 0) ∷ (pieceBlock 0 1) ∷ (pieceBlock 2 0) ∷ (pieceBlock 2 1) ∷ (pieceBlock 0 0) ∷ (pieceBlock 0 1) ∷ (pieceBlock 2 0) ∷ (pieceBlock 2 1) ∷ (pieceBlock 0 0) ∷ (pieceBlock 0 1) ∷ (pieceBlock 2 0) ∷ (pieceBlock 2 1) ∷ (pieceBlock 0 0) ∷ (pieceBlock 0 1) ∷ (pieceBlock 2 0) ∷ (pieceBlock 2 1) ∷ (pieceBlock 0 0) ∷ (pieceBlock 0 1) ∷ (pieceBlock 2 0) ∷ (pieceBlock 2 1) ∷ (pieceBlock 0 0) ∷ (pieceBlock 0 1) ∷ (pieceBlock 2 0) ∷ (pieceBlock 2 1) ∷ (pieceBlock 0 0) ∷ (pieceBlock 0 1) ∷ (pieceBlock 2 0) ∷ (pieceBlock 2 1) ∷ (pieceBlock 0 0) ∷ (pieceBlock 0 1) ∷ (pieceBlock 2 0) ∷ (pieceBlock 2 1) ∷ (pieceBlock 0 0) ∷ (pieceBlock 0 1) ∷ (pieceBlock 2 0) ∷ (pieceBlock 2 1) ∷ (pieceBlock 0 0) ∷ (pieceBlock 0 1) ∷ (pieceBlock 2 0) ∷ (pieceBlock 2 1) ∷ (pieceBlock 0 0) ∷ (pieceBlock 0 1) ∷ (pieceBlock 2 0) ∷ (pieceBlock 2 1) ∷ (pieceBlock 0 0) ∷ (pieceBlock 0 1) ∷ (pieceBlock 2 0) ∷ (pieceBlock 2 1) ∷ (pieceBlock 0 0) ∷ (pieceBlock 0 1) ∷ (pieceBlock 2 0) ∷ (pieceBlock 2 1) ∷ (pieceBlock 0 0) ∷ (pieceBlock 0 1) ∷ (pieceBlock 2 0) ∷ (pieceBlock 2 1) ∷ (pieceBlock 0 0) ∷ (pieceBlock 0 1) ∷ (pieceBlock 2 0) ∷ (pieceBlock 2 1) ∷ (pieceBlock 0 0) ∷ (pieceBlock 0 1) ∷ (pieceBlock 2 0) ∷ (pieceBlock 2 1) ∷ (pieceBlock 0 0) ∷ (pieceBlock 0 1) ∷ (pieceBlock 2 0) ∷ (pieceBlock 2 1) ∷ (pieceBlock 0 0) ∷ (pieceBlock 0 1) ∷ (pieceBlock 2 0) ∷ (pieceBlock 2 1) ∷ (pieceBlock 0 0) ∷ (pieceBlock 0 1) ∷ (pieceBlock 2 0) ∷ (pieceBlock 2 1) ∷ (pieceBlock 0 0) ∷ (pieceBlock 0 1) ∷ (pieceBlock 2 0) ∷ (pieceBlock 2 1) ∷ (pieceBlock 0 0) ∷ (pieceBlock 0 1) ∷ (pieceBlock 2 0) ∷ (pieceBlock 2 1) ∷ (pieceBlock 0 0) ∷ (pieceBlock 0 1) ∷ (pieceBlock 2 0) ∷ (pieceBlock 2 1) ∷ (pieceBlock 0 0) ∷ (pieceBlock 0 1) ∷ (pieceBlock 2 0) ∷ (pieceBlock 2 1) ∷ (pieceBlock 0 0) ∷ (pieceBlock 0 1) ∷ (pieceBlock 2 0) ∷ (pieceBlock 2 1) ∷ (pieceBlock 0 0) ∷ (pieceBlock 0 1) ∷ (pieceBlock 2 0) ∷ (pieceBlock 2 1) ∷ (pieceBlock 0 0) ∷ (pieceBlock 0 1) ∷ (pieceBlock 2 0) ∷ (pieceBlock 2 1) ∷ (pieceBlock 0 0) ∷ (pieceBlock 0 1) ∷ (pieceBlock 2 0) ∷ (pieceBlock 2 1) ∷ (pieceBlock 0 0) ∷ (pieceBlock 0 1) ∷ (pieceBlock 2 0) ∷ (pieceBlock 2 1) ∷ (pieceBlock 0 0) ∷ (pieceBlock 0 1) ∷ (pieceBlock 2 0) ∷ (pieceBlock 2 1) ∷ (pieceBlock 0 0) ∷ (pieceBlock 0 1) ∷ (pieceBlock 2 0) ∷ (pieceBlock 2 1) ∷ (pieceBlock 0 0) ∷ (pieceBlock 0 1) ∷ (pieceBlock 2 0) ∷ (pieceBlock 2 1) ∷ (pieceBlock 0 0) ∷ (pieceBlock 0 1) ∷ (pieceBlock 2 0) ∷ (pieceBlock 2 1) ∷ (pieceBlock 0 0) ∷ (pieceBlock 0 1) ∷ (pieceBlock 2 0) ∷ (pieceBlock 2 1) ∷ (pieceBlock 0 0) ∷ (pieceBlock 0 1) ∷ (pieceBlock 2 0) ∷ (pieceBlock 2 1) ∷ (pieceBlock 0 0) ∷ (pieceBlock 0 1) ∷ (pieceBlock 2 0) ∷ (pieceBlock 2 1) ∷ (pieceBlock 0 0) ∷ (pieceBlock 0 1) ∷ (pieceBlock 2 0) ∷ (pieceBlock 2 1) ∷ (pieceBlock 0 0) ∷ (pieceBlock 0 1) ∷ (pieceBlock 2 0) ∷ (pieceBlock 2 1) ∷ (pieceBlock 0 0) ∷ (pieceBlock 0 1) ∷ (pieceBlock 2 0) ∷ (pieceBlock 2 1) ∷ (pieceBlock 0 0) ∷ (pieceBlock 0 1) ∷ (pieceBlock 2 0) ∷ (pieceBlock 2 1) ∷ (pieceBlock 0 0) ∷ (pieceBlock 0 1) ∷ (pieceBlock 2 0) ∷ (pieceBlock 2 1) ∷ (pieceBlock 0 0) ∷ (pieceBlock 0 1) ∷ (pieceBlock 2 0) ∷ (pieceBlock 2 1) ∷ (pieceBlock 0 0) ∷ (pieceBlock 0 1) ∷ (pieceBlock 2 0) ∷ (pieceBlock 2 1) ∷ (pieceBlock 0 0) ∷ (pieceBlock 0 1) ∷ (pieceBlock 2 0) ∷ (pieceBlock 2 1) ∷ (pieceBlock 0 0) ∷ (pieceBlock 0 1) ∷ (pieceBlock 2 0) ∷ (pieceBlock 2 1) ∷ (pieceBlock 0 0) ∷ (pieceBlock 0 1) ∷ (pieceBlock 2 0) ∷ (pieceBlock 2 1) ∷ (pieceBlock 0 0) ∷ (pieceBlock 0 1) ∷ (pieceBlock 2 0) ∷ (pieceBlock 2 1) ∷ (pieceBlock 0 0) ∷ (pieceBlock 0 1) ∷ (pieceBlock 2 0) ∷ (pieceBlock 2 1) ∷ (pieceBlock 0 0) ∷ (pieceBlock 0 1) ∷ (pieceBlock 2 0) ∷ (pieceBlock 2 1) ∷ (pieceBlock 0 0) ∷ (pieceBlock 0 1) ∷ (pieceBlock 2 0) ∷ (pieceBlock 2 1) ∷ (pieceBlock 0 0) ∷ (pieceBlock 0 1) ∷ (pieceBlock 2 0) ∷ (pieceBlock 2 1) ∷ (pieceBlock 0 0) ∷ (pieceBlock 0 1) ∷ (pieceBlock 2 0) ∷ (pieceBlock 2 1) ∷ (pieceBlock 0 0) ∷ (pieceBlock 0 1) ∷ (pieceBlock 2 0) ∷ (pieceBlock 2 1) ∷ (pieceBlock 0 0) ∷ (pieceBlock 0 1) ∷ (pieceBlock 2 0) ∷ (pieceBlock 2 1) ∷ (pieceBlock 0 0) ∷ (pieceBlock 0 1) ∷ (pieceBlock 2 0) ∷ (pieceBlock 2 1) ∷ (pieceBlock 0 0) ∷ (pieceBlock 0 1) ∷ (pieceBlock 2 0) ∷ (pieceBlock 2 1) ∷ (pieceBlock 0 0) ∷ (pieceBlock 0 1) ∷ (pieceBlock 2 0) ∷ (pieceBlock 2 1) ∷ (pieceBlock 0 0) ∷ (pieceBlock 0 1) ∷ (pieceBlock 2 0) ∷ (pieceBlock 2 1) ∷ (pieceBlock 0 0) ∷ (pieceBlock 0 1) ∷ (pieceBlock 2 0) ∷ (pieceBlock 2 1) ∷ (pieceBlock 0 0) ∷ (pieceBlock 0 1) ∷ (pieceBlock 2 0) ∷ (pieceBlock 2 1) ∷ (pieceBlock 0 0) ∷ (pieceBlock 0 1) ∷ (pieceBlock 2 0) ∷ (pieceBlock 2 1) ∷ (pieceBlock 0 0) ∷ (pieceBlock 0 1) ∷ (pieceBlock 2 0) ∷ (pieceBlock 2 1) ∷ (pieceBlock 0 0) ∷ (pieceBlock 0 1) ∷ (pieceBlock 2 0) ∷ (pieceBlock 2 1) ∷ (pieceBlock 0 0) ∷ (pieceBlock 0 1) ∷ (pieceBlock 2 0) ∷ (pieceBlock 2 1) ∷ (pieceBlock 0 0) ∷ (pieceBlock 0 1) ∷ (pieceBlock 2 0) ∷ (pieceBlock 2 1) ∷ (pieceBlock 0 0) ∷ (pieceBlock 0 1) ∷ (pieceBlock 2 0) ∷ (pieceBlock 2 1) ∷ (pieceBlock 0 0) ∷ (pieceBlock 0 1) ∷ (pieceBlock 2 0) ∷ (pieceBlock 2 1) ∷ (pieceBlock 0 0) ∷ (pieceBlock 0 1) ∷ (pieceBlock 2 0) ∷ (pieceBlock 2 1) ∷ (pieceBlock 0 0) ∷ (pieceBlock 0 1) ∷ (pieceBlock 2 0) ∷ (pieceBlock 2 1) ∷ (pieceBlock 0 0) ∷ (pieceBlock 0 1) ∷ (pieceBlock 2 0) ∷ (pieceBlock 2 1) ∷ (pieceBlock 0 0) ∷ (pieceBlock 0 1) ∷ (pieceBlock 2 0) ∷ (pieceBlock 2 1) ∷ (pieceBlock 0 0) ∷ (pieceBlock 0 1) ∷ (pieceBlock 2 0) ∷ (pieceBlock 2 1) ∷ (pieceBlock 0 0) ∷ (pieceBlock 0 1) ∷ (pieceBlock 2 0) ∷ (pieceBlock 2 1) ∷ (pieceBlock 0 0) ∷ (pieceBlock 0 1) ∷ (pieceBlock 2 0) ∷ (pieceBlock 2 1) ∷ (pieceBlock 0 0) ∷ (pieceBlock 0 1) ∷ (pieceBlock 2 0) ∷ (pieceBlock 2 1) ∷ (pieceBlock 0 0) ∷ (pieceBlock 0 1) ∷ (pieceBlock 2 0) ∷ (pieceBlock 2 1) ∷ (pieceBlock 0 0) ∷ (pieceBlock 0 1) ∷ (pieceBlock 2 0) ∷ (pieceBlock 2 1) ∷ (pieceBlock 0 0) ∷ (pieceBlock 0 1) ∷ (pieceBlock 2 0) ∷ (pieceBlock 2 1) ∷ (pieceBlock 0 0) ∷ (pieceBlock 0 1) ∷ (pieceBlock 2 0) ∷ (pieceBlock 2 1) ∷ (pieceBlock 0 0) ∷ (pieceBlock 0 1) ∷ (pieceBlock 2 0) ∷ (pieceBlock 2 1) ∷ (pieceBlock 0 0) ∷ (pieceBlock 0 1) ∷ (pieceBlock 2 0) ∷ (pieceBlock 2 1) ∷ (pieceBlock 0 0) ∷ (pieceBlock 0 1) ∷ (pieceBlock 2 0) ∷ (pieceBlock 2 1) ∷ (pieceBlock 0 0) ∷ (pieceBlock 0 1) ∷ (pieceBlock 2 0) ∷ (pieceBlock 2 1) ∷ (pieceBlock 0 0) ∷ (pieceBlock 0 1) ∷ (pieceBlock 2 0) ∷ (pieceBlock 2 1) ∷ (pieceBlock 0 0) ∷ (pieceBlock 0 1) ∷ (pieceBlock 2 0) ∷ (pieceBlock 2 1) ∷ (pieceBlock 0 0) ∷ (pieceBlock 0 1) ∷ (pieceBlock 2 0) ∷ (pieceBlock 2 1) ∷ (pieceBlock 0 0) ∷ (pieceBlock 0 1) ∷ (pieceBlock 2 0) ∷ (pieceBlock 2 1) ∷ (pieceBlock 0 0) ∷ (pieceBlock 0 1) ∷ (pieceBlock 2 0) ∷ (pieceBlock 2 1) ∷ (pieceBlock 0 0) ∷ (pieceBlock 0 1) ∷ (pieceBlock 2 0) ∷ (pieceBlock 2 1) ∷ (pieceBlock 0 0) ∷ (pieceBlock 0 1) ∷ (pieceBlock 2 0) ∷ (pieceBlock 2 1) ∷ (pieceBlock 0 0) ∷ (pieceBlock 0 1) ∷ (pieceBlock 2 0) ∷ (pieceBlock 2 1) ∷ (pieceBlock 0 0) ∷ (pieceBlock 0 1) ∷ (pieceBlock 2 0) ∷ (pieceBlock 2 1) ∷ (pieceBlock 0 0) ∷ (pieceBlock 0 1) ∷ (pieceBlock 2 0) ∷ (pieceBlock 2 1) ∷ (pieceBlock 0 0) ∷ (pieceBlock 0 1) ∷ (pieceBlock 2 0) ∷ (pieceBlock 2 1) ∷ (pieceBlock 0 0) ∷ (pieceBlock 0 1) ∷ (pieceBlock 2 0) ∷ (pieceBlock 2 1) ∷ (pieceBlock 0 0) ∷ (pieceBlock 0 1) ∷ (pieceBlock 2 0) ∷ (pieceBlock 2 1) ∷ (pieceBlock 0 0) ∷ (pieceBlock 0 1) ∷ (pieceBlock 2 0) ∷ (pieceBlock 2 1) ∷ (pieceBlock 0 0) ∷ (pieceBlock 0 1) ∷ (pieceBlock 2 0) ∷ (pieceBlock 2 1) ∷ (pieceBlock 0 0) ∷ (pieceBlock 0 1) ∷ (pieceBlock 2 0) ∷ (pieceBlock 2 1) ∷ (pieceBlock 0 0) ∷ (pieceBlock 0 1) ∷ (pieceBlock 2 0) ∷ (pieceBlock 2 1) ∷ (pieceBlock 0 0) ∷ (pieceBlock 0 1) ∷ (pieceBlock 2 0) ∷ (pieceBlock 2 1) ∷ (pieceBlock 0 0) ∷ (pieceBlock 0 1) ∷ (pieceBlock 2 0) ∷ (pieceBlock 2 1) ∷ (pieceBlock 0 0) ∷ (pieceBlock 0 1) ∷ (pieceBlock 2 0) ∷ (pieceBlock 2 1) ∷ (pieceBlock 0 0) ∷ (pieceBlock 0 1) ∷ (pieceBlock 2 0) ∷ (pieceBlock 2 1) ∷ (pieceBlock 0 0) ∷ (pieceBlock 0 1) ∷ (pieceBlock 2 0) ∷ (pieceBlock 2 1) ∷ (pieceBlock 0 0) ∷ (pieceBlock 0 1) ∷ (pieceBlock 2 0) ∷ (pieceBlock 2 1) ∷ (pieceBlock 0 0) ∷ (pieceBlock 0 1) ∷ (pieceBlock 2 0) ∷ (pieceBlock 2 1) ∷ (pieceBlock 0 0) ∷ (pieceBlock 0 1) ∷ (pieceBlock 2 0) ∷ (pieceBlock 2 1) ∷ (pieceBlock 0 0) ∷ (pieceBlock 0 1) ∷ (pieceBlock 2 0) ∷ (pieceBlock 2 1) ∷ (pieceBlock 0 0) ∷ (pieceBlock 0 1) ∷ (pieceBlock 2 0) ∷ (pieceBlock 2 1) ∷ (pieceBlock 0 0) ∷ (pieceBlock 0 1) ∷ (pieceBlock 2 0) ∷ (pieceBlock 2 1) ∷ (pieceBlock 0 0) ∷ (pieceBlock 0 1) ∷ (pieceBlock 2 0) ∷ (pieceBlock 2 1) ∷ (pieceBlock 0 0) ∷ (pieceBlock 0 1) ∷ (pieceBlock 2 0) ∷ (pieceBlock 2 1) ∷ (pieceBlock 0 0) ∷ (pieceBlock 0 1) ∷ (pieceBlock 2 0) ∷ (pieceBlock 2 1) ∷ (pieceBlock 0 0) ∷ (pieceBlock 0 1) ∷ (pieceBlock 2 0) ∷ (pieceBlock 2 1) ∷ (pieceBlock 0 0) ∷ (pieceBlock 0 1) ∷ (pieceBlock 2 0) ∷ (pieceBlock 2 1) ∷ (pieceBlock 0 0) ∷ (pieceBlock 0 1) ∷ (pieceBlock 2 0) ∷ (pieceBlock 2 1) ∷ (pieceBlock 0 0) ∷ (pieceBlock 0 1) ∷ (pieceBlock 2 0) ∷ (pieceBlock 2 1) ∷ (pieceBlock 0 0) ∷ (pieceBlock 0 1) ∷ (pieceBlock 2 0) ∷ (pieceBlock 2 1) ∷ (pieceBlock 0 0) ∷ (pieceBlock 0 1) ∷ (pieceBlock 2 0) ∷ (pieceBlock 2 1) ∷ (pieceBlock 0 0) ∷ (pieceBlock 0 1) ∷ (pieceBlock 2 0) ∷ (pieceBlock 2 1) ∷ (pieceBlock 0 0) ∷ (pieceBlock 0 1) ∷ (pieceBlock 2 0) ∷ (pieceBlock 2 1) ∷ (pieceBlock 0 0) ∷ (pieceBlock 0 1) ∷ (pieceBlock 2 0) ∷ (pieceBlock 2 1) ∷ (pieceBlock 0 0) ∷ (pieceBlock 0 1) ∷ (pieceBlock 2 0) ∷ (pieceBlock 2 1) ∷ (pieceBlock 0 0) ∷ (pieceBlock 0 1) ∷ (pieceBlock 2 0) ∷ (pieceBlock 2 1) ∷ (pieceBlock 0 0) ∷ (pieceBlock 0 1) ∷ (pieceBlock 2 0) ∷ (pieceBlock 2 1) ∷ (pieceBlock 0 0) ∷ (pieceBlock 0 1) ∷ (pieceBlock 2 0) ∷ (pieceBlock 2 1) ∷ (pieceBlock 0 0) ∷ (pieceBlock 0 1) ∷ (pieceBlock 2 0) ∷ (pieceBlock 2 1) ∷ (pieceBlock 0 0) ∷ (pieceBlock 0 1) ∷ (pieceBlock 2 0) ∷ (pieceBlock 2 1) ∷ (pieceBlock 0 0) ∷ (pieceBlock 0 1) ∷ (pieceBlock 2 0) ∷ (pieceBlock 2 1) ∷ (pieceBlock 0 0) ∷ (pieceBlock 0 1) ∷ (pieceBlock 2 0) ∷ (pieceBlock 2 1) ∷ (pieceBlock 0 0) ∷ (pieceBlock 0 1) ∷ (pieceBlock 2 0) ∷ (pieceBlock 2 1) ∷ []) 1024 (0 ∷ 0 ∷ 0 ∷ 0 ∷ 1023 ∷ 0 ∷ 0 ∷ []) 1)) image-2800
+    ∷ outcome (answered (replied (numbers ((some 0) ∷ [])))) image-2800
+    ∷ []
+unfolding replaying
+calls-2800 = refl
+
+abbrev image-2805 : List ℕ
+image-2805 =
     1 ∷ 0 ∷ 0 ∷ 0 ∷ 0 ∷ 0 ∷ 0 ∷ 128 ∷ 0 ∷ 0 ∷ 0 ∷ 64 ∷ 0 ∷ 0 ∷ 0 ∷ 0 ∷ 0 ∷ 0 ∷ 0 ∷ 0 ∷ 0 ∷ 0 ∷ 2 ∷ 1 ∷
     2 ∷ 0 ∷ 0 ∷ 4 ∷ 4 ∷ 0 ∷ 0 ∷ 0 ∷ 0 ∷ 0 ∷
     2 ∷ 0 ∷ 0 ∷ 4 ∷ 4 ∷ 0 ∷ 0 ∷ 0 ∷ 0 ∷ 0 ∷ []
 
-abbrev image-2892 : List ℕ
-image-2892 =
-    1 ∷ 0 ∷ 0 ∷ 0 ∷ 0 ∷ 0 ∷ 0 ∷ 128 ∷ 0 ∷ 0 ∷ 0 ∷ 64 ∷ 0 ∷ 0 ∷ 1 ∷ 0 ∷ 0 ∷ 0 ∷ 0 ∷ 0 ∷ 0 ∷ 0 ∷ 2 ∷ 1 ∷
-    2 ∷ 0 ∷ 0 ∷ 4 ∷ 4 ∷ 0 ∷ 0 ∷ 0 ∷ 0 ∷ 0 ∷
-    2 ∷ 0 ∷ 0 ∷ 4 ∷ 4 ∷ 0 ∷ 0 ∷ 0 ∷ 0 ∷ 0 ∷ []
-
-abbrev image-2896 : List ℕ
-image-2896 =
-    1 ∷ 0 ∷ 0 ∷ 0 ∷ 0 ∷ 0 ∷ 0 ∷ 128 ∷ 0 ∷ 0 ∷ 0 ∷ 64 ∷ 0 ∷ 0 ∷ 1 ∷ 0 ∷ 0 ∷ 0 ∷ 0 ∷ 0 ∷ 0 ∷ 0 ∷ 2 ∷ 1 ∷
-    2 ∷ 0 ∷ 0 ∷ 2 ∷ 4 ∷ 0 ∷ 0 ∷ 0 ∷ 0 ∷ 0 ∷
+abbrev image-2809 : List ℕ
+image-2809 =
+    1 ∷ 0 ∷ 0 ∷ 0 ∷ 0 ∷ 0 ∷ 0 ∷ 128 ∷ 0 ∷ 0 ∷ 0 ∷ 64 ∷ 0 ∷ 0 ∷ 0 ∷ 0 ∷ 0 ∷ 0 ∷ 0 ∷ 0 ∷ 0 ∷ 0 ∷ 2 ∷ 1 ∷
+    2 ∷ 0 ∷ 0 ∷ 1 ∷ 4 ∷ 0 ∷ 0 ∷ 0 ∷ 0 ∷ 0 ∷
     2 ∷ 0 ∷ 0 ∷ 4 ∷ 4 ∷ 0 ∷ 0 ∷ 0 ∷ 0 ∷ 0 ∷
     3 ∷ 0 ∷ 0 ∷ 0 ∷ 0 ∷ 0 ∷
-    4 ∷ 3 ∷ 0 ∷ 0 ∷ 1 ∷ 0 ∷ 0 ∷ 0 ∷ 0 ∷ 0 ∷ 0 ∷ 0 ∷ 0 ∷ []
+    4 ∷ 1 ∷ 0 ∷ 1 ∷ 1 ∷ 0 ∷ 0 ∷ 0 ∷ 0 ∷ 0 ∷ 0 ∷ 0 ∷ 0 ∷ []
 
--- calls 2886 to 2897
-calls-2886 :
+-- calls 2805 to 2810
+calls-2805 :
     outcomes none
-    (new-line 1000000 32768 16384
-    ∷ call-line 1000000 (pick-pieces (asking 32 8 1 10 (some 1) 2 (29 ∷ 0 ∷ []) []) 4351 (words 4352 []))
-    ∷ call-line 1000000 (mark-as-canceled 1 0 (some 2) (words 4352 []))
-    ∷ call-line 1000000 (question (listOfPicker get-download-queue 1000000))
-    ∷ call-line 1000000 (mark-as-downloading 2147483648 0 (some 1) 128 (words 4352 []))
-    ∷ call-line 1000000 (piece-passed 0)
-    ∷ call-line 1000000 inc-refcount-all
-    ∷ call-line 1000000 (pick-pieces (asking 43746 300 2 10 (some 0) 2 (255 ∷ []) (0 ∷ 0 ∷ [])) 4351 (words 4352 (2331164757 ∷ [])))
-    ∷ image-line 1000000 1000000
-    ∷ call-line 1000000 (question (ofPicker distributed-copies))
-    ∷ call-line 1000000 (mark-as-finished 0 0 (some 0) (words 4352 []))
-    ∷ call-line 16 (question (ofBlock is-finished-block 0 0))
+    (new-line plenty 32768 16384
+    ∷ call-line plenty (question (partial-at 1099511627776))
+    ∷ call-line plenty (pick-pieces (asking 204 5 2 10 (some 1) 2 (246 ∷ []) []) 261 (words 4352 []))
+    ∷ call-line plenty (pick-pieces (asking 94 2049 0 10 none 2 (255 ∷ []) (0 ∷ 1 ∷ [])) 4351 (words 4352 []))
+    ∷ call-line plenty (mark-as-downloading 0 0 (some 0) 0 (words 4352 []))
+    ∷ call-line plenty (mark-as-finished 0 0 (some 18446744073709551615) (words 4352 []))
     ∷ [])
-    ≡ outcome stands image-2886
-    ∷ outcome (answered (refused PickArguments)) image-2886
-    ∷ outcome (answered (done 0)) image-2886
-    ∷ outcome (answered (replied (numbers []))) image-2886
-    ∷ outcome (answered (refused OutOfRange)) image-2886
-    ∷ outcome (answered (done 0)) image-2886
-    ∷ outcome (answered (done 0)) image-2892
-    ∷ outcome (answered (picked ((pieceBlock 0 0) ∷ (pieceBlock 1 0) ∷ []) 10272 (0 ∷ 2 ∷ 0 ∷ 0 ∷ 2 ∷ 0 ∷ 0 ∷ []) 1)) image-2892
-    ∷ outcome (bytesTaken (1 ∷ 0 ∷ 0 ∷ 0 ∷ 0 ∷ 0 ∷ 0 ∷ 128 ∷ 0 ∷ 0 ∷ 0 ∷ 64 ∷ 0 ∷ 0 ∷ 1 ∷ 0 ∷ 0 ∷ 0 ∷ 0 ∷ 0 ∷ 0 ∷ 0 ∷ 2 ∷ 1 ∷ 2 ∷ 0 ∷ 0 ∷ 4 ∷ 4 ∷ 0 ∷ 0 ∷ 0 ∷ 0 ∷ 0 ∷ 2 ∷ 0 ∷ 0 ∷ 4 ∷ 4 ∷ 0 ∷ 0 ∷ 0 ∷ 0 ∷ 0 ∷ [])) image-2892
-    ∷ outcome (answered (replied (numbers ((some 1) ∷ (some 0) ∷ [])))) image-2892
-    ∷ outcome (answered (done 0)) image-2896
-    ∷ outcome (answered (refused ShortMemory)) image-2896
+    ≡ outcome stands image-2805
+    ∷ outcome (answered (replied nothing)) image-2805
+    ∷ outcome (answered (refused ShortOutput)) image-2805
+    ∷ outcome (answered (refused PickArguments)) image-2805
+    ∷ outcome (answered (said true 0)) image-2809
+    ∷ outcome (answered (refused NotWriting)) image-2809
     ∷ []
 unfolding replaying
-calls-2886 = refl
+calls-2805 = refl
 
-abbrev image-3156 : List ℕ
-image-3156 =
-    1 ∷ 0 ∷ 0 ∷ 0 ∷ 0 ∷ 0 ∷ 0 ∷ 0 ∷ 1 ∷ 0 ∷ 0 ∷ 128 ∷ 0 ∷ 0 ∷ 2 ∷ 0 ∷ 0 ∷ 0 ∷ 1 ∷ 0 ∷ 0 ∷ 0 ∷ 0 ∷ 0 ∷
-    2 ∷ 0 ∷ 2 ∷ 4 ∷ 6 ∷ 0 ∷ 0 ∷ 0 ∷ 0 ∷ 0 ∷
-    6 ∷ 0 ∷ 0 ∷ 0 ∷ 0 ∷ []
+abbrev image-2979 : List ℕ
+image-2979 =
+    1 ∷ 0 ∷ 0 ∷ 0 ∷ 0 ∷ 0 ∷ 0 ∷ 192 ∷ 0 ∷ 0 ∷ 0 ∷ 64 ∷ 0 ∷ 0 ∷ 0 ∷ 0 ∷ 0 ∷ 0 ∷ 2 ∷ 0 ∷ 0 ∷ 0 ∷ 0 ∷ 0 ∷
+    2 ∷ 0 ∷ 0 ∷ 4 ∷ 6 ∷ 1 ∷ 0 ∷ 0 ∷ 0 ∷ 0 ∷
+    2 ∷ 0 ∷ 2 ∷ 4 ∷ 7 ∷ 0 ∷ 0 ∷ 0 ∷ 0 ∷ 0 ∷
+    2 ∷ 0 ∷ 1 ∷ 4 ∷ 6 ∷ 0 ∷ 0 ∷ 0 ∷ 0 ∷ 1 ∷
+    5 ∷ 0 ∷ 0 ∷ 0 ∷ 0 ∷
+    6 ∷ 0 ∷ 0 ∷ 0 ∷ 1 ∷
+    6 ∷ 0 ∷ 0 ∷ 0 ∷ 2 ∷ []
 
-abbrev image-3159 : List ℕ
-image-3159 =
-    1 ∷ 0 ∷ 0 ∷ 0 ∷ 0 ∷ 0 ∷ 0 ∷ 0 ∷ 1 ∷ 0 ∷ 0 ∷ 128 ∷ 0 ∷ 0 ∷ 2 ∷ 0 ∷ 0 ∷ 0 ∷ 1 ∷ 0 ∷ 0 ∷ 0 ∷ 0 ∷ 0 ∷
-    2 ∷ 0 ∷ 1 ∷ 4 ∷ 6 ∷ 0 ∷ 0 ∷ 0 ∷ 0 ∷ 0 ∷
-    6 ∷ 0 ∷ 0 ∷ 0 ∷ 0 ∷ []
-
-abbrev image-3163 : List ℕ
-image-3163 =
-    1 ∷ 0 ∷ 0 ∷ 0 ∷ 0 ∷ 0 ∷ 0 ∷ 0 ∷ 1 ∷ 0 ∷ 0 ∷ 128 ∷ 0 ∷ 0 ∷ 2 ∷ 0 ∷ 0 ∷ 0 ∷ 1 ∷ 0 ∷ 0 ∷ 0 ∷ 0 ∷ 0 ∷
-    2 ∷ 0 ∷ 1 ∷ 4 ∷ 0 ∷ 0 ∷ 0 ∷ 0 ∷ 0 ∷ 0 ∷ []
-
-abbrev image-3168 : List ℕ
-image-3168 =
-    1 ∷ 0 ∷ 0 ∷ 0 ∷ 0 ∷ 0 ∷ 0 ∷ 0 ∷ 1 ∷ 0 ∷ 0 ∷ 128 ∷ 0 ∷ 0 ∷ 2 ∷ 0 ∷ 0 ∷ 0 ∷ 1 ∷ 0 ∷ 0 ∷ 0 ∷ 0 ∷ 0 ∷
-    2 ∷ 0 ∷ 1 ∷ 3 ∷ 0 ∷ 0 ∷ 0 ∷ 0 ∷ 0 ∷ 0 ∷
-    3 ∷ 0 ∷ 0 ∷ 0 ∷ 0 ∷ 0 ∷
-    4 ∷ 1 ∷ 0 ∷ 1 ∷ 0 ∷ 0 ∷ 0 ∷ 0 ∷ 0 ∷ 0 ∷ 0 ∷ 0 ∷ 0 ∷ []
-
-abbrev image-3170 : List ℕ
-image-3170 =
-    1 ∷ 0 ∷ 0 ∷ 0 ∷ 0 ∷ 0 ∷ 0 ∷ 0 ∷ 1 ∷ 0 ∷ 0 ∷ 128 ∷ 0 ∷ 0 ∷ 2 ∷ 0 ∷ 0 ∷ 0 ∷ 1 ∷ 0 ∷ 0 ∷ 0 ∷ 0 ∷ 0 ∷
-    2 ∷ 0 ∷ 1 ∷ 3 ∷ 0 ∷ 0 ∷ 0 ∷ 0 ∷ 0 ∷ 0 ∷
-    3 ∷ 0 ∷ 0 ∷ 0 ∷ 0 ∷ 1 ∷
-    4 ∷ 1 ∷ 0 ∷ 1 ∷ 0 ∷ 0 ∷ 0 ∷ 0 ∷ 0 ∷ 0 ∷ 0 ∷ 0 ∷ 0 ∷ []
-
-abbrev image-3173 : List ℕ
-image-3173 =
-    1 ∷ 0 ∷ 0 ∷ 0 ∷ 0 ∷ 0 ∷ 0 ∷ 0 ∷ 1 ∷ 0 ∷ 0 ∷ 128 ∷ 0 ∷ 0 ∷ 2 ∷ 0 ∷ 0 ∷ 0 ∷ 1 ∷ 0 ∷ 0 ∷ 0 ∷ 0 ∷ 0 ∷
-    2 ∷ 0 ∷ 2 ∷ 3 ∷ 0 ∷ 0 ∷ 0 ∷ 0 ∷ 0 ∷ 0 ∷
-    3 ∷ 0 ∷ 0 ∷ 0 ∷ 0 ∷ 1 ∷
-    4 ∷ 1 ∷ 0 ∷ 1 ∷ 0 ∷ 0 ∷ 0 ∷ 0 ∷ 0 ∷ 0 ∷ 0 ∷ 0 ∷ 0 ∷ []
-
--- calls 3156 to 3177
-calls-3156 :
-    outcomes none
-    (read-line 1000000 image-3156
-    ∷ call-line 1000000 (question (ofPicker block-size))
-    ∷ call-line 1000000 (dec-refcount 0 (words 4352 []))
-    ∷ call-line 1000000 (question (ofBlock block-state 0 0))
-    ∷ call-line 1000000 (pick-pieces (asking 244 13 3 0 (some 18446744073709551615) 1 (255 ∷ []) (0 ∷ 0 ∷ 0 ∷ 0 ∷ 0 ∷ 0 ∷ 0 ∷ 0 ∷ 0 ∷ 0 ∷ 0 ∷ 0 ∷ 0 ∷ 0 ∷ 0 ∷ 0 ∷ 0 ∷ 0 ∷ 0 ∷ 0 ∷ [])) 4351 (words 4352 []))
-    ∷ call-line 1000000 (set-piece-priority 0 0 (words 4352 []))
-    ∷ call-line 1000000 (question (listOfPiece blocks-for-piece 0 1000000))
-    ∷ call-line 1000000 (mark-as-canceled 0 0 (some 1) (words 4352 []))
-    ∷ call-line 1000000 (question (ofPicker reverse-cursor?))
-    ∷ call-line 1000000 (mark-as-downloading 0 0 none 0 (words 4352 []))
-    ∷ call-line 1000000 (mark-as-finished 0 0 (some 1) (words 4352 []))
-    ∷ call-line 1000000 (piece-passed 0)
-    ∷ call-line 1000000 (question (listOfPicker get-download-queue 1000000))
-    ∷ call-line 1000000 (question (listOfPicker get-availability-vec 1000000))
-    ∷ call-line 1000000 (inc-refcount 0 (words 4352 []))
-    ∷ call-line 1000000 (question (listOfPiece blocks-for-piece 0 1000000))
-    ∷ call-line 1000000 (mark-as-downloading 0 1 (some 18446744073709551615) 2 (words 4352 []))
-    ∷ call-line 1000000 (pick-pieces (asking 78 13 3 3 (some 1) 1 (84 ∷ []) (0 ∷ 0 ∷ [])) 4351 (words 4352 (3903439985 ∷ [])))
-    ∷ call-line 15 (question (ofBlock is-downloaded 0 0))
-    ∷ [])
-    ≡ outcome stands image-3156
-    ∷ outcome (answered (replied (numbers ((some 16384) ∷ [])))) image-3156
-    ∷ outcome (answered (done 0)) image-3159
-    ∷ outcome (answered (replied nothing)) image-3159
-    ∷ outcome (answered (picked ((pieceBlock 0 0) ∷ []) 10280 (0 ∷ 20 ∷ 0 ∷ 1 ∷ 0 ∷ 0 ∷ 0 ∷ []) 0)) image-3159
-    ∷ outcome (answered (said true 0)) image-3163
-    ∷ outcome (answered (replied nothing)) image-3163
-    ∷ outcome (answered (done 0)) image-3163
-    ∷ outcome (answered (replied (numbers ((some 0) ∷ [])))) image-3163
-    ∷ outcome (answered (said true 0)) image-3168
-    ∷ outcome (answered (refused NotWriting)) image-3168
-    ∷ outcome (answered (done 0)) image-3170
-    ∷ outcome (answered (replied (numbers ((some 0) ∷ (some 0) ∷ (some 1) ∷ (some 0) ∷ (some 0) ∷ (some 1) ∷ (some 0) ∷ [])))) image-3170
-    ∷ outcome (answered (replied (numbers ((some 3) ∷ [])))) image-3170
-    ∷ outcome (answered (done 0)) image-3173
-    ∷ outcome (answered (replied (numbers ((some 1) ∷ (some 1) ∷ none ∷ [])))) image-3173
-    ∷ outcome (answered (refused OutOfRange)) image-3173
-    ∷ outcome (answered (picked [] 10240 (0 ∷ 2 ∷ 0 ∷ 0 ∷ 1 ∷ 0 ∷ 0 ∷ []) 1)) image-3173
-    ∷ outcome (answered (refused ShortMemory)) image-3173
-    ∷ []
-unfolding replaying
-calls-3156 = refl
-
-abbrev image-3242 : List ℕ
-image-3242 =
-    1 ∷ 0 ∷ 0 ∷ 0 ∷ 0 ∷ 0 ∷ 0 ∷ 213 ∷ 58 ∷ 0 ∷ 0 ∷ 64 ∷ 0 ∷ 0 ∷ 0 ∷ 0 ∷ 0 ∷ 0 ∷ 0 ∷ 0 ∷ 0 ∷ 0 ∷ 4 ∷ 1 ∷
-    2 ∷ 0 ∷ 0 ∷ 4 ∷ 4 ∷ 0 ∷ 0 ∷ 0 ∷ 0 ∷ 0 ∷
-    2 ∷ 0 ∷ 0 ∷ 4 ∷ 4 ∷ 0 ∷ 0 ∷ 0 ∷ 0 ∷ 0 ∷
-    2 ∷ 0 ∷ 0 ∷ 4 ∷ 4 ∷ 0 ∷ 0 ∷ 0 ∷ 0 ∷ 0 ∷
-    2 ∷ 0 ∷ 0 ∷ 4 ∷ 4 ∷ 0 ∷ 0 ∷ 0 ∷ 0 ∷ 0 ∷ []
-
--- calls 3242 to 3244
-calls-3242 :
-    outcomes none
-    (new-line 1000000 54586 16384
-    ∷ call-line 1000000 (mark-as-canceled 2 0 (some 1) (words 4352 []))
-    ∷ call-line 16 (question (list-place 1099511627776))
-    ∷ [])
-    ≡ outcome stands image-3242
-    ∷ outcome (answered (done 0)) image-3242
-    ∷ outcome (answered (refused ShortMemory)) image-3242
-    ∷ []
-unfolding replaying
-calls-3242 = refl
-
-abbrev image-3366 : List ℕ
-image-3366 =
-    1 ∷ 0 ∷ 0 ∷ 0 ∷ 0 ∷ 0 ∷ 0 ∷ 128 ∷ 1 ∷ 0 ∷ 0 ∷ 128 ∷ 0 ∷ 0 ∷ 0 ∷ 0 ∷ 0 ∷ 0 ∷ 0 ∷ 0 ∷ 0 ∷ 0 ∷ 2 ∷ 1 ∷
-    2 ∷ 0 ∷ 0 ∷ 4 ∷ 4 ∷ 0 ∷ 0 ∷ 0 ∷ 0 ∷ 0 ∷
-    2 ∷ 0 ∷ 0 ∷ 4 ∷ 4 ∷ 0 ∷ 0 ∷ 0 ∷ 0 ∷ 0 ∷ []
-
-abbrev image-3371 : List ℕ
-image-3371 =
-    1 ∷ 0 ∷ 0 ∷ 0 ∷ 0 ∷ 0 ∷ 0 ∷ 128 ∷ 1 ∷ 0 ∷ 0 ∷ 128 ∷ 0 ∷ 0 ∷ 0 ∷ 0 ∷ 0 ∷ 0 ∷ 0 ∷ 0 ∷ 0 ∷ 0 ∷ 2 ∷ 1 ∷
-    2 ∷ 0 ∷ 0 ∷ 4 ∷ 4 ∷ 0 ∷ 0 ∷ 0 ∷ 0 ∷ 0 ∷
-    2 ∷ 0 ∷ 1 ∷ 4 ∷ 4 ∷ 0 ∷ 0 ∷ 0 ∷ 0 ∷ 0 ∷ []
-
--- calls 3366 to 3373
-calls-3366 :
-    outcomes none
-    (new-line 1000000 32769 32768
-    ∷ call-line 1000000 (abort-download 1 0 (some 2) (words 4352 []))
-    ∷ call-line 1000000 (piece-passed 0)
-    ∷ call-line 1000000 (mark-as-downloading 1 0 (some 0) 128 (words 0 []))
-    ∷ call-line 1000000 (question (ofPiece peer-count 2147483648))
-    ∷ call-line 1000000 (inc-refcount 1 (words 4352 []))
-    ∷ call-line 1000000 (pick-pieces (asking 62624 40 2 3 (some 1) 2 (255 ∷ []) []) 4351 (words 4352 (5 ∷ [])))
-    ∷ call-line 1000000 (question (partial-at 1099511627776))
-    ∷ [])
-    ≡ outcome stands image-3366
-    ∷ outcome (answered (done 0)) image-3366
-    ∷ outcome (answered (done 0)) image-3366
-    ∷ outcome (answered (refused FewDraws)) image-3366
-    ∷ outcome (answered (refused OutOfRange)) image-3366
-    ∷ outcome (answered (done 0)) image-3371
-    ∷ outcome (answered (picked ((pieceBlock 1 0) ∷ (pieceBlock 0 0) ∷ (pieceBlock 0 1) ∷ []) 11264 (0 ∷ 0 ∷ 0 ∷ 0 ∷ 0 ∷ 1 ∷ 0 ∷ []) 1)) image-3371
-    ∷ outcome (answered (replied nothing)) image-3371
-    ∷ []
-unfolding replaying
-calls-3366 = refl
-
-abbrev image-3396 : List ℕ
-image-3396 =
-    1 ∷ 0 ∷ 0 ∷ 0 ∷ 0 ∷ 0 ∷ 2 ∷ 5 ∷ 185 ∷ 0 ∷ 0 ∷ 128 ∷ 0 ∷ 0 ∷ 1 ∷ 0 ∷ 0 ∷ 0 ∷ 5 ∷ 0 ∷ 0 ∷ 0 ∷ 0 ∷ 1 ∷
-    2 ∷ 0 ∷ 1 ∷ 4 ∷ 7 ∷ 0 ∷ 0 ∷ 0 ∷ 0 ∷ 1 ∷
-    2 ∷ 0 ∷ 1 ∷ 3 ∷ 4 ∷ 0 ∷ 0 ∷ 0 ∷ 0 ∷ 0 ∷
-    2 ∷ 0 ∷ 1 ∷ 1 ∷ 1 ∷ 0 ∷ 0 ∷ 0 ∷ 0 ∷ 0 ∷
-    2 ∷ 0 ∷ 3 ∷ 1 ∷ 7 ∷ 0 ∷ 0 ∷ 0 ∷ 0 ∷ 0 ∷
+abbrev image-2982 : List ℕ
+image-2982 =
+    1 ∷ 0 ∷ 0 ∷ 0 ∷ 0 ∷ 0 ∷ 0 ∷ 192 ∷ 0 ∷ 0 ∷ 0 ∷ 64 ∷ 0 ∷ 0 ∷ 0 ∷ 0 ∷ 0 ∷ 0 ∷ 2 ∷ 0 ∷ 0 ∷ 0 ∷ 0 ∷ 0 ∷
+    2 ∷ 0 ∷ 0 ∷ 4 ∷ 6 ∷ 1 ∷ 0 ∷ 0 ∷ 0 ∷ 0 ∷
     2 ∷ 0 ∷ 2 ∷ 2 ∷ 7 ∷ 0 ∷ 0 ∷ 0 ∷ 0 ∷ 0 ∷
+    2 ∷ 0 ∷ 1 ∷ 4 ∷ 6 ∷ 0 ∷ 0 ∷ 0 ∷ 0 ∷ 1 ∷
     3 ∷ 0 ∷ 0 ∷ 0 ∷ 1 ∷ 0 ∷
-    4 ∷ 0 ∷ 0 ∷ 1 ∷ 1 ∷ 0 ∷ 0 ∷ 0 ∷ 0 ∷ 0 ∷ 0 ∷ 0 ∷ 3 ∷
-    4 ∷ 0 ∷ 0 ∷ 0 ∷ 1 ∷ 0 ∷ 0 ∷ 0 ∷ 0 ∷ 0 ∷ 0 ∷ 0 ∷ 1 ∷
-    3 ∷ 0 ∷ 0 ∷ 0 ∷ 2 ∷ 6 ∷
-    4 ∷ 1 ∷ 0 ∷ 1 ∷ 1 ∷ 0 ∷ 0 ∷ 0 ∷ 0 ∷ 0 ∷ 0 ∷ 0 ∷ 1 ∷
+    4 ∷ 2 ∷ 0 ∷ 0 ∷ 1 ∷ 0 ∷ 0 ∷ 0 ∷ 0 ∷ 0 ∷ 0 ∷ 0 ∷ 2 ∷
+    5 ∷ 0 ∷ 0 ∷ 0 ∷ 0 ∷
+    6 ∷ 0 ∷ 0 ∷ 0 ∷ 2 ∷ []
+
+-- calls 2979 to 2983
+calls-2979 :
+    outcomes none
+    (read-line plenty image-2979
+    ∷ call-line plenty (question (listOfPiece blocks-for-piece 0 1000000))
+    ∷ call-line plenty (pick-pieces (asking 162 1099511627776 2 5 none 3 (18 ∷ []) (1 ∷ 2 ∷ 2 ∷ [])) 4351 (words 4352 []))
+    ∷ call-line plenty (mark-as-writing 1 0 (some 2) (words 5000 []))
+    ∷ call-line plenty (question (ofPiece locked? 1))
+    ∷ [])
+    ≡ outcome stands image-2979
+    ∷ outcome (answered (replied nothing)) image-2979
+    ∷ outcome (answered (refused PickArguments)) image-2979
+    ∷ outcome (answered (said true 0)) image-2982
+    ∷ outcome (answered (replied (numbers ((some 0) ∷ [])))) image-2982
+    ∷ []
+unfolding replaying
+calls-2979 = refl
+
+abbrev image-3189 : List ℕ
+image-3189 =
+    1 ∷ 0 ∷ 0 ∷ 0 ∷ 0 ∷ 0 ∷ 1 ∷ 0 ∷ 0 ∷ 0 ∷ 0 ∷ 128 ∷ 0 ∷ 0 ∷ 2 ∷ 0 ∷ 0 ∷ 0 ∷ 0 ∷ 0 ∷ 0 ∷ 0 ∷ 2 ∷ 0 ∷
+    2 ∷ 3 ∷ 229 ∷ 4 ∷ 4 ∷ 0 ∷ 0 ∷ 0 ∷ 0 ∷ 0 ∷
+    2 ∷ 3 ∷ 229 ∷ 6 ∷ 7 ∷ 0 ∷ 0 ∷ 0 ∷ 64 ∷ 1 ∷
+    3 ∷ 0 ∷ 0 ∷ 0 ∷ 1 ∷ 2 ∷
+    4 ∷ 1 ∷ 0 ∷ 1 ∷ 0 ∷ 0 ∷ 0 ∷ 0 ∷ 0 ∷ 0 ∷ 0 ∷ 0 ∷ 0 ∷
     4 ∷ 1 ∷ 0 ∷ 1 ∷ 1 ∷ 255 ∷ 255 ∷ 255 ∷ 255 ∷ 255 ∷ 255 ∷ 255 ∷ 255 ∷
-    3 ∷ 0 ∷ 0 ∷ 0 ∷ 3 ∷ 0 ∷
-    4 ∷ 1 ∷ 0 ∷ 0 ∷ 1 ∷ 0 ∷ 0 ∷ 0 ∷ 0 ∷ 0 ∷ 0 ∷ 0 ∷ 2 ∷
-    4 ∷ 1 ∷ 0 ∷ 0 ∷ 1 ∷ 0 ∷ 0 ∷ 0 ∷ 0 ∷ 0 ∷ 0 ∷ 0 ∷ 2 ∷
-    3 ∷ 0 ∷ 0 ∷ 0 ∷ 4 ∷ 0 ∷
-    4 ∷ 2 ∷ 0 ∷ 0 ∷ 1 ∷ 0 ∷ 0 ∷ 0 ∷ 0 ∷ 0 ∷ 0 ∷ 0 ∷ 1 ∷
+    5 ∷ 0 ∷ 0 ∷ 0 ∷ 0 ∷
+    6 ∷ 0 ∷ 0 ∷ 0 ∷ 1 ∷
+    6 ∷ 0 ∷ 0 ∷ 0 ∷ 0 ∷ []
+
+-- calls 3189 to 3190
+calls-3189 :
+    outcomes none
+    (read-line plenty image-3189
+    ∷ call-line (lending 23 1000000 1000000) (abort-download 0 1 (some 3) (words 4352 []))
+    ∷ [])
+    ≡ outcome stands image-3189
+    ∷ outcome (answered (refused ShortMemory)) image-3189
+    ∷ []
+unfolding replaying
+calls-3189 = refl
+
+abbrev image-3301 : List ℕ
+image-3301 =
+    1 ∷ 0 ∷ 0 ∷ 0 ∷ 0 ∷ 0 ∷ 0 ∷ 192 ∷ 1 ∷ 0 ∷ 0 ∷ 64 ∷ 0 ∷ 1 ∷ 144 ∷ 0 ∷ 0 ∷ 0 ∷ 0 ∷ 0 ∷ 0 ∷ 0 ∷ 4 ∷ 0 ∷
+    2 ∷ 0 ∷ 9 ∷ 4 ∷ 4 ∷ 0 ∷ 0 ∷ 0 ∷ 0 ∷ 0 ∷
+    2 ∷ 0 ∷ 2 ∷ 4 ∷ 4 ∷ 0 ∷ 0 ∷ 0 ∷ 64 ∷ 0 ∷
+    2 ∷ 0 ∷ 1 ∷ 4 ∷ 4 ∷ 0 ∷ 0 ∷ 0 ∷ 0 ∷ 0 ∷
+    2 ∷ 2 ∷ 87 ∷ 4 ∷ 1 ∷ 0 ∷ 0 ∷ 0 ∷ 0 ∷ 0 ∷
+    6 ∷ 0 ∷ 0 ∷ 0 ∷ 2 ∷
+    6 ∷ 0 ∷ 0 ∷ 0 ∷ 1 ∷
+    6 ∷ 0 ∷ 0 ∷ 0 ∷ 0 ∷
+    6 ∷ 0 ∷ 0 ∷ 0 ∷ 3 ∷ []
+
+-- calls 3301 to 3303
+calls-3301 :
+    outcomes none
+    (read-line plenty image-3301
+    ∷ call-line (lending 15 1000000 1000000) (mark-as-downloading 0 2 (some 2) 2 (words 4352 []))
+    ∷ call-line plenty (mark-as-writing 4 0 (some 18446744073709551615) (words 4352 []))
+    ∷ [])
+    ≡ outcome stands image-3301
+    ∷ outcome (answered (refused ShortMemory)) image-3301
+    ∷ outcome (answered (refused OutOfRange)) image-3301
+    ∷ []
+unfolding replaying
+calls-3301 = refl
+
+abbrev image-3339 : List ℕ
+image-3339 =
+    1 ∷ 0 ∷ 0 ∷ 0 ∷ 0 ∷ 0 ∷ 0 ∷ 128 ∷ 1 ∷ 0 ∷ 0 ∷ 64 ∷ 0 ∷ 0 ∷ 1 ∷ 0 ∷ 0 ∷ 0 ∷ 0 ∷ 0 ∷ 0 ∷ 0 ∷ 0 ∷ 0 ∷
+    2 ∷ 3 ∷ 230 ∷ 4 ∷ 4 ∷ 0 ∷ 0 ∷ 0 ∷ 0 ∷ 0 ∷
+    2 ∷ 0 ∷ 2 ∷ 4 ∷ 4 ∷ 1 ∷ 0 ∷ 0 ∷ 64 ∷ 0 ∷
+    2 ∷ 3 ∷ 231 ∷ 4 ∷ 0 ∷ 0 ∷ 0 ∷ 0 ∷ 0 ∷ 0 ∷
+    6 ∷ 0 ∷ 0 ∷ 0 ∷ 0 ∷ []
+
+-- calls 3339 to 3342
+calls-3339 :
+    outcomes none
+    (read-line plenty image-3339
+    ∷ call-line plenty (mark-as-canceled 2 0 (some 0) (words 4352 []))
+    ∷ call-line plenty (question (ofBlock is-requested 0 0))
+    ∷ call-line (lending 1000000 16 1000000) (mark-as-finished 0 0 none (words 4352 []))
+    ∷ [])
+    ≡ outcome stands image-3339
+    ∷ outcome (answered (done 0)) image-3339
+    ∷ outcome (answered (replied (numbers ((some 0) ∷ [])))) image-3339
+    ∷ outcome (answered (refused ShortMemory)) image-3339
+    ∷ []
+unfolding replaying
+calls-3339 = refl
+
+abbrev image-3370 : List ℕ
+image-3370 =
+    1 ∷ 0 ∷ 0 ∷ 0 ∷ 0 ∷ 0 ∷ 2 ∷ 0 ∷ 1 ∷ 0 ∷ 0 ∷ 128 ∷ 0 ∷ 0 ∷ 1 ∷ 0 ∷ 0 ∷ 0 ∷ 0 ∷ 0 ∷ 0 ∷ 0 ∷ 5 ∷ 1 ∷
+    2 ∷ 0 ∷ 0 ∷ 1 ∷ 4 ∷ 0 ∷ 0 ∷ 0 ∷ 0 ∷ 0 ∷
+    2 ∷ 0 ∷ 1 ∷ 2 ∷ 7 ∷ 0 ∷ 0 ∷ 0 ∷ 0 ∷ 0 ∷
+    2 ∷ 0 ∷ 2 ∷ 4 ∷ 7 ∷ 0 ∷ 0 ∷ 0 ∷ 0 ∷ 0 ∷
+    2 ∷ 0 ∷ 2 ∷ 4 ∷ 4 ∷ 0 ∷ 0 ∷ 0 ∷ 0 ∷ 0 ∷
+    2 ∷ 0 ∷ 2 ∷ 4 ∷ 6 ∷ 0 ∷ 0 ∷ 0 ∷ 0 ∷ 0 ∷
+    3 ∷ 0 ∷ 0 ∷ 0 ∷ 0 ∷ 2 ∷
+    4 ∷ 0 ∷ 3 ∷ 232 ∷ 1 ∷ 0 ∷ 0 ∷ 0 ∷ 0 ∷ 0 ∷ 0 ∷ 0 ∷ 2 ∷
+    4 ∷ 0 ∷ 0 ∷ 0 ∷ 1 ∷ 0 ∷ 0 ∷ 0 ∷ 0 ∷ 0 ∷ 0 ∷ 0 ∷ 1 ∷
+    3 ∷ 0 ∷ 0 ∷ 0 ∷ 1 ∷ 5 ∷
+    4 ∷ 0 ∷ 0 ∷ 0 ∷ 1 ∷ 0 ∷ 0 ∷ 0 ∷ 0 ∷ 0 ∷ 0 ∷ 0 ∷ 2 ∷
+    4 ∷ 0 ∷ 0 ∷ 0 ∷ 1 ∷ 0 ∷ 0 ∷ 0 ∷ 0 ∷ 0 ∷ 0 ∷ 0 ∷ 3 ∷
     5 ∷ 0 ∷ 0 ∷ 0 ∷ 0 ∷ []
 
-abbrev image-3397 : List ℕ
-image-3397 =
-    1 ∷ 0 ∷ 0 ∷ 0 ∷ 0 ∷ 0 ∷ 2 ∷ 5 ∷ 185 ∷ 0 ∷ 0 ∷ 128 ∷ 0 ∷ 0 ∷ 1 ∷ 0 ∷ 0 ∷ 0 ∷ 5 ∷ 0 ∷ 0 ∷ 0 ∷ 0 ∷ 0 ∷
-    2 ∷ 0 ∷ 1 ∷ 4 ∷ 7 ∷ 0 ∷ 0 ∷ 0 ∷ 0 ∷ 1 ∷
-    2 ∷ 0 ∷ 1 ∷ 3 ∷ 4 ∷ 0 ∷ 0 ∷ 0 ∷ 0 ∷ 0 ∷
-    2 ∷ 0 ∷ 1 ∷ 1 ∷ 1 ∷ 0 ∷ 0 ∷ 0 ∷ 0 ∷ 0 ∷
-    2 ∷ 0 ∷ 3 ∷ 1 ∷ 7 ∷ 0 ∷ 0 ∷ 0 ∷ 0 ∷ 0 ∷
-    2 ∷ 0 ∷ 2 ∷ 2 ∷ 7 ∷ 0 ∷ 0 ∷ 0 ∷ 0 ∷ 0 ∷
-    3 ∷ 0 ∷ 0 ∷ 0 ∷ 1 ∷ 0 ∷
-    4 ∷ 0 ∷ 0 ∷ 1 ∷ 1 ∷ 0 ∷ 0 ∷ 0 ∷ 0 ∷ 0 ∷ 0 ∷ 0 ∷ 3 ∷
+abbrev image-3372 : List ℕ
+image-3372 =
+    1 ∷ 0 ∷ 0 ∷ 0 ∷ 0 ∷ 0 ∷ 2 ∷ 0 ∷ 1 ∷ 0 ∷ 0 ∷ 128 ∷ 0 ∷ 0 ∷ 1 ∷ 0 ∷ 0 ∷ 0 ∷ 0 ∷ 0 ∷ 0 ∷ 0 ∷ 5 ∷ 0 ∷
+    2 ∷ 0 ∷ 0 ∷ 1 ∷ 4 ∷ 0 ∷ 0 ∷ 0 ∷ 0 ∷ 0 ∷
+    2 ∷ 0 ∷ 1 ∷ 2 ∷ 7 ∷ 0 ∷ 0 ∷ 0 ∷ 0 ∷ 0 ∷
+    2 ∷ 0 ∷ 2 ∷ 4 ∷ 7 ∷ 0 ∷ 0 ∷ 0 ∷ 0 ∷ 0 ∷
+    2 ∷ 0 ∷ 2 ∷ 4 ∷ 4 ∷ 0 ∷ 0 ∷ 0 ∷ 0 ∷ 0 ∷
+    2 ∷ 0 ∷ 2 ∷ 4 ∷ 6 ∷ 0 ∷ 0 ∷ 0 ∷ 0 ∷ 0 ∷
+    3 ∷ 0 ∷ 0 ∷ 0 ∷ 0 ∷ 2 ∷
+    4 ∷ 0 ∷ 3 ∷ 232 ∷ 1 ∷ 0 ∷ 0 ∷ 0 ∷ 0 ∷ 0 ∷ 0 ∷ 0 ∷ 2 ∷
     4 ∷ 0 ∷ 0 ∷ 0 ∷ 1 ∷ 0 ∷ 0 ∷ 0 ∷ 0 ∷ 0 ∷ 0 ∷ 0 ∷ 1 ∷
-    3 ∷ 0 ∷ 0 ∷ 0 ∷ 2 ∷ 6 ∷
-    4 ∷ 1 ∷ 0 ∷ 1 ∷ 1 ∷ 0 ∷ 0 ∷ 0 ∷ 0 ∷ 0 ∷ 0 ∷ 0 ∷ 1 ∷
-    4 ∷ 1 ∷ 0 ∷ 1 ∷ 1 ∷ 255 ∷ 255 ∷ 255 ∷ 255 ∷ 255 ∷ 255 ∷ 255 ∷ 255 ∷
-    3 ∷ 0 ∷ 0 ∷ 0 ∷ 3 ∷ 0 ∷
-    4 ∷ 1 ∷ 0 ∷ 0 ∷ 1 ∷ 0 ∷ 0 ∷ 0 ∷ 0 ∷ 0 ∷ 0 ∷ 0 ∷ 2 ∷
-    4 ∷ 1 ∷ 0 ∷ 0 ∷ 1 ∷ 0 ∷ 0 ∷ 0 ∷ 0 ∷ 0 ∷ 0 ∷ 0 ∷ 2 ∷
-    3 ∷ 0 ∷ 0 ∷ 0 ∷ 4 ∷ 0 ∷
-    4 ∷ 2 ∷ 0 ∷ 0 ∷ 1 ∷ 0 ∷ 0 ∷ 0 ∷ 0 ∷ 0 ∷ 0 ∷ 0 ∷ 1 ∷
+    3 ∷ 0 ∷ 0 ∷ 0 ∷ 1 ∷ 5 ∷
+    4 ∷ 0 ∷ 0 ∷ 0 ∷ 1 ∷ 0 ∷ 0 ∷ 0 ∷ 0 ∷ 0 ∷ 0 ∷ 0 ∷ 2 ∷
+    4 ∷ 0 ∷ 0 ∷ 0 ∷ 1 ∷ 0 ∷ 0 ∷ 0 ∷ 0 ∷ 0 ∷ 0 ∷ 0 ∷ 3 ∷
     5 ∷ 0 ∷ 0 ∷ 0 ∷ 0 ∷
-    6 ∷ 0 ∷ 0 ∷ 0 ∷ 0 ∷
-    6 ∷ 0 ∷ 0 ∷ 0 ∷ 1 ∷ []
+    6 ∷ 0 ∷ 0 ∷ 0 ∷ 2 ∷
+    6 ∷ 0 ∷ 0 ∷ 0 ∷ 4 ∷
+    6 ∷ 0 ∷ 0 ∷ 0 ∷ 3 ∷ []
 
-abbrev image-3398 : List ℕ
-image-3398 =
-    1 ∷ 0 ∷ 0 ∷ 0 ∷ 0 ∷ 0 ∷ 2 ∷ 5 ∷ 185 ∷ 0 ∷ 0 ∷ 128 ∷ 0 ∷ 0 ∷ 1 ∷ 0 ∷ 0 ∷ 0 ∷ 5 ∷ 0 ∷ 0 ∷ 0 ∷ 0 ∷ 0 ∷
-    2 ∷ 0 ∷ 1 ∷ 4 ∷ 7 ∷ 0 ∷ 0 ∷ 0 ∷ 0 ∷ 1 ∷
-    2 ∷ 0 ∷ 1 ∷ 3 ∷ 4 ∷ 0 ∷ 0 ∷ 0 ∷ 0 ∷ 0 ∷
-    2 ∷ 0 ∷ 1 ∷ 1 ∷ 1 ∷ 0 ∷ 0 ∷ 0 ∷ 0 ∷ 0 ∷
-    2 ∷ 0 ∷ 3 ∷ 1 ∷ 7 ∷ 0 ∷ 0 ∷ 0 ∷ 0 ∷ 0 ∷
-    2 ∷ 0 ∷ 2 ∷ 2 ∷ 7 ∷ 0 ∷ 0 ∷ 0 ∷ 0 ∷ 0 ∷
-    3 ∷ 0 ∷ 0 ∷ 0 ∷ 1 ∷ 0 ∷
-    4 ∷ 0 ∷ 0 ∷ 1 ∷ 1 ∷ 0 ∷ 0 ∷ 0 ∷ 0 ∷ 0 ∷ 0 ∷ 0 ∷ 3 ∷
+abbrev image-3373 : List ℕ
+image-3373 =
+    1 ∷ 0 ∷ 0 ∷ 0 ∷ 0 ∷ 0 ∷ 2 ∷ 0 ∷ 1 ∷ 0 ∷ 0 ∷ 128 ∷ 0 ∷ 0 ∷ 1 ∷ 0 ∷ 0 ∷ 0 ∷ 0 ∷ 0 ∷ 0 ∷ 0 ∷ 5 ∷ 0 ∷
+    2 ∷ 0 ∷ 0 ∷ 1 ∷ 4 ∷ 0 ∷ 0 ∷ 0 ∷ 0 ∷ 0 ∷
+    2 ∷ 0 ∷ 1 ∷ 2 ∷ 7 ∷ 0 ∷ 0 ∷ 0 ∷ 0 ∷ 0 ∷
+    2 ∷ 0 ∷ 2 ∷ 0 ∷ 7 ∷ 0 ∷ 0 ∷ 0 ∷ 0 ∷ 0 ∷
+    2 ∷ 0 ∷ 2 ∷ 4 ∷ 4 ∷ 0 ∷ 0 ∷ 0 ∷ 0 ∷ 0 ∷
+    2 ∷ 0 ∷ 2 ∷ 4 ∷ 6 ∷ 0 ∷ 0 ∷ 0 ∷ 0 ∷ 0 ∷
+    3 ∷ 0 ∷ 0 ∷ 0 ∷ 0 ∷ 2 ∷
+    4 ∷ 0 ∷ 3 ∷ 232 ∷ 1 ∷ 0 ∷ 0 ∷ 0 ∷ 0 ∷ 0 ∷ 0 ∷ 0 ∷ 2 ∷
     4 ∷ 0 ∷ 0 ∷ 0 ∷ 1 ∷ 0 ∷ 0 ∷ 0 ∷ 0 ∷ 0 ∷ 0 ∷ 0 ∷ 1 ∷
-    3 ∷ 0 ∷ 0 ∷ 0 ∷ 2 ∷ 6 ∷
-    4 ∷ 1 ∷ 0 ∷ 1 ∷ 1 ∷ 0 ∷ 0 ∷ 0 ∷ 0 ∷ 0 ∷ 0 ∷ 0 ∷ 1 ∷
+    3 ∷ 0 ∷ 0 ∷ 0 ∷ 1 ∷ 5 ∷
+    4 ∷ 0 ∷ 0 ∷ 0 ∷ 1 ∷ 0 ∷ 0 ∷ 0 ∷ 0 ∷ 0 ∷ 0 ∷ 0 ∷ 2 ∷
+    4 ∷ 0 ∷ 0 ∷ 0 ∷ 1 ∷ 0 ∷ 0 ∷ 0 ∷ 0 ∷ 0 ∷ 0 ∷ 0 ∷ 3 ∷
+    3 ∷ 0 ∷ 0 ∷ 0 ∷ 2 ∷ 0 ∷
     4 ∷ 2 ∷ 0 ∷ 0 ∷ 1 ∷ 0 ∷ 0 ∷ 0 ∷ 0 ∷ 0 ∷ 0 ∷ 0 ∷ 1 ∷
-    3 ∷ 0 ∷ 0 ∷ 0 ∷ 3 ∷ 0 ∷
-    4 ∷ 1 ∷ 0 ∷ 0 ∷ 1 ∷ 0 ∷ 0 ∷ 0 ∷ 0 ∷ 0 ∷ 0 ∷ 0 ∷ 2 ∷
-    4 ∷ 1 ∷ 0 ∷ 0 ∷ 1 ∷ 0 ∷ 0 ∷ 0 ∷ 0 ∷ 0 ∷ 0 ∷ 0 ∷ 2 ∷
-    3 ∷ 0 ∷ 0 ∷ 0 ∷ 4 ∷ 0 ∷
-    4 ∷ 2 ∷ 0 ∷ 0 ∷ 1 ∷ 0 ∷ 0 ∷ 0 ∷ 0 ∷ 0 ∷ 0 ∷ 0 ∷ 1 ∷
+    4 ∷ 0 ∷ 0 ∷ 0 ∷ 0 ∷ 0 ∷ 0 ∷ 0 ∷ 0 ∷ 0 ∷ 0 ∷ 0 ∷ 0 ∷
     5 ∷ 0 ∷ 0 ∷ 0 ∷ 0 ∷
-    6 ∷ 0 ∷ 0 ∷ 0 ∷ 0 ∷
-    6 ∷ 0 ∷ 0 ∷ 0 ∷ 1 ∷ []
+    6 ∷ 0 ∷ 0 ∷ 0 ∷ 2 ∷
+    6 ∷ 0 ∷ 0 ∷ 0 ∷ 4 ∷
+    6 ∷ 0 ∷ 0 ∷ 0 ∷ 3 ∷ []
 
--- calls 3396 to 3399
-calls-3396 :
-    outcomes none
-    (read-line 1000000 image-3396
-    ∷ call-line 1000000 (pick-pieces (asking 152 5 10 1 (some 18446744073709551615) 5 (4 ∷ []) []) 4351 (words 4352 []))
-    ∷ call-line 1000000 (mark-as-writing 2 1 (some 1) (words 4352 []))
-    ∷ call-line 1000000 (question (ofBlock block-state 4 0))
-    ∷ [])
-    ≡ outcome stands image-3396
-    ∷ outcome (answered (picked [] 10240 (0 ∷ 0 ∷ 0 ∷ 2 ∷ 0 ∷ 0 ∷ 0 ∷ []) 0)) image-3397
-    ∷ outcome (answered (said true 0)) image-3398
-    ∷ outcome (answered (replied (numbers ((some 2) ∷ [])))) image-3398
-    ∷ []
-unfolding replaying
-calls-3396 = refl
+abbrev image-3375 : List ℕ
+image-3375 =
+    1 ∷ 0 ∷ 0 ∷ 0 ∷ 0 ∷ 0 ∷ 2 ∷ 0 ∷ 1 ∷ 0 ∷ 0 ∷ 128 ∷ 0 ∷ 0 ∷ 1 ∷ 0 ∷ 0 ∷ 0 ∷ 0 ∷ 0 ∷ 0 ∷ 0 ∷ 5 ∷ 0 ∷
+    2 ∷ 0 ∷ 0 ∷ 1 ∷ 4 ∷ 0 ∷ 0 ∷ 0 ∷ 0 ∷ 0 ∷
+    2 ∷ 0 ∷ 1 ∷ 2 ∷ 7 ∷ 0 ∷ 0 ∷ 0 ∷ 0 ∷ 0 ∷
+    2 ∷ 0 ∷ 2 ∷ 0 ∷ 7 ∷ 0 ∷ 0 ∷ 0 ∷ 0 ∷ 0 ∷
+    2 ∷ 0 ∷ 3 ∷ 4 ∷ 4 ∷ 0 ∷ 0 ∷ 0 ∷ 0 ∷ 0 ∷
+    2 ∷ 0 ∷ 2 ∷ 4 ∷ 6 ∷ 0 ∷ 0 ∷ 0 ∷ 0 ∷ 0 ∷
+    3 ∷ 0 ∷ 0 ∷ 0 ∷ 0 ∷ 2 ∷
+    4 ∷ 0 ∷ 3 ∷ 232 ∷ 1 ∷ 0 ∷ 0 ∷ 0 ∷ 0 ∷ 0 ∷ 0 ∷ 0 ∷ 2 ∷
+    4 ∷ 0 ∷ 0 ∷ 0 ∷ 1 ∷ 0 ∷ 0 ∷ 0 ∷ 0 ∷ 0 ∷ 0 ∷ 0 ∷ 1 ∷
+    3 ∷ 0 ∷ 0 ∷ 0 ∷ 1 ∷ 5 ∷
+    4 ∷ 0 ∷ 0 ∷ 0 ∷ 1 ∷ 0 ∷ 0 ∷ 0 ∷ 0 ∷ 0 ∷ 0 ∷ 0 ∷ 2 ∷
+    4 ∷ 0 ∷ 0 ∷ 0 ∷ 1 ∷ 0 ∷ 0 ∷ 0 ∷ 0 ∷ 0 ∷ 0 ∷ 0 ∷ 3 ∷
+    3 ∷ 0 ∷ 0 ∷ 0 ∷ 2 ∷ 0 ∷
+    4 ∷ 2 ∷ 0 ∷ 0 ∷ 1 ∷ 0 ∷ 0 ∷ 0 ∷ 0 ∷ 0 ∷ 0 ∷ 0 ∷ 1 ∷
+    4 ∷ 0 ∷ 0 ∷ 0 ∷ 0 ∷ 0 ∷ 0 ∷ 0 ∷ 0 ∷ 0 ∷ 0 ∷ 0 ∷ 0 ∷
+    5 ∷ 0 ∷ 0 ∷ 0 ∷ 0 ∷
+    6 ∷ 0 ∷ 0 ∷ 0 ∷ 2 ∷
+    6 ∷ 0 ∷ 0 ∷ 0 ∷ 4 ∷
+    6 ∷ 0 ∷ 0 ∷ 0 ∷ 3 ∷ []
 
-abbrev image-3426 : List ℕ
-image-3426 =
-    1 ∷ 0 ∷ 0 ∷ 0 ∷ 0 ∷ 0 ∷ 1 ∷ 237 ∷ 19 ∷ 0 ∷ 0 ∷ 128 ∷ 0 ∷ 0 ∷ 0 ∷ 0 ∷ 0 ∷ 0 ∷ 3 ∷ 0 ∷ 0 ∷ 0 ∷ 0 ∷ 0 ∷
-    2 ∷ 3 ∷ 231 ∷ 4 ∷ 4 ∷ 0 ∷ 0 ∷ 0 ∷ 0 ∷ 0 ∷
-    2 ∷ 3 ∷ 231 ∷ 4 ∷ 7 ∷ 0 ∷ 0 ∷ 0 ∷ 64 ∷ 1 ∷
-    2 ∷ 3 ∷ 231 ∷ 4 ∷ 4 ∷ 0 ∷ 0 ∷ 0 ∷ 0 ∷ 0 ∷
-    2 ∷ 0 ∷ 1 ∷ 4 ∷ 4 ∷ 1 ∷ 0 ∷ 0 ∷ 0 ∷ 0 ∷
+abbrev image-3377 : List ℕ
+image-3377 =
+    1 ∷ 0 ∷ 0 ∷ 0 ∷ 0 ∷ 0 ∷ 2 ∷ 0 ∷ 1 ∷ 0 ∷ 0 ∷ 128 ∷ 0 ∷ 0 ∷ 1 ∷ 0 ∷ 0 ∷ 0 ∷ 0 ∷ 0 ∷ 0 ∷ 0 ∷ 5 ∷ 0 ∷
+    2 ∷ 0 ∷ 0 ∷ 1 ∷ 4 ∷ 0 ∷ 0 ∷ 0 ∷ 0 ∷ 0 ∷
+    2 ∷ 0 ∷ 1 ∷ 2 ∷ 7 ∷ 0 ∷ 0 ∷ 0 ∷ 0 ∷ 0 ∷
+    2 ∷ 0 ∷ 2 ∷ 2 ∷ 7 ∷ 0 ∷ 0 ∷ 0 ∷ 0 ∷ 0 ∷
+    2 ∷ 0 ∷ 3 ∷ 4 ∷ 4 ∷ 0 ∷ 0 ∷ 0 ∷ 0 ∷ 0 ∷
+    2 ∷ 0 ∷ 2 ∷ 4 ∷ 6 ∷ 0 ∷ 0 ∷ 0 ∷ 0 ∷ 0 ∷
+    3 ∷ 0 ∷ 0 ∷ 0 ∷ 0 ∷ 2 ∷
+    4 ∷ 0 ∷ 3 ∷ 232 ∷ 1 ∷ 0 ∷ 0 ∷ 0 ∷ 0 ∷ 0 ∷ 0 ∷ 0 ∷ 2 ∷
+    4 ∷ 0 ∷ 0 ∷ 0 ∷ 1 ∷ 0 ∷ 0 ∷ 0 ∷ 0 ∷ 0 ∷ 0 ∷ 0 ∷ 1 ∷
+    3 ∷ 0 ∷ 0 ∷ 0 ∷ 1 ∷ 5 ∷
+    4 ∷ 0 ∷ 0 ∷ 0 ∷ 1 ∷ 0 ∷ 0 ∷ 0 ∷ 0 ∷ 0 ∷ 0 ∷ 0 ∷ 2 ∷
+    4 ∷ 0 ∷ 0 ∷ 0 ∷ 1 ∷ 0 ∷ 0 ∷ 0 ∷ 0 ∷ 0 ∷ 0 ∷ 0 ∷ 3 ∷
+    3 ∷ 0 ∷ 0 ∷ 0 ∷ 2 ∷ 0 ∷
+    4 ∷ 2 ∷ 0 ∷ 0 ∷ 1 ∷ 0 ∷ 0 ∷ 0 ∷ 0 ∷ 0 ∷ 0 ∷ 0 ∷ 1 ∷
+    4 ∷ 3 ∷ 0 ∷ 0 ∷ 1 ∷ 0 ∷ 0 ∷ 0 ∷ 0 ∷ 0 ∷ 0 ∷ 0 ∷ 0 ∷
+    5 ∷ 0 ∷ 0 ∷ 0 ∷ 0 ∷
+    6 ∷ 0 ∷ 0 ∷ 0 ∷ 4 ∷
+    6 ∷ 0 ∷ 0 ∷ 0 ∷ 3 ∷ []
+
+abbrev image-3378 : List ℕ
+image-3378 =
+    1 ∷ 0 ∷ 0 ∷ 0 ∷ 0 ∷ 0 ∷ 2 ∷ 0 ∷ 1 ∷ 0 ∷ 0 ∷ 128 ∷ 0 ∷ 0 ∷ 1 ∷ 0 ∷ 0 ∷ 0 ∷ 0 ∷ 0 ∷ 0 ∷ 0 ∷ 5 ∷ 0 ∷
+    2 ∷ 0 ∷ 0 ∷ 1 ∷ 4 ∷ 0 ∷ 0 ∷ 0 ∷ 0 ∷ 0 ∷
+    2 ∷ 0 ∷ 1 ∷ 0 ∷ 7 ∷ 0 ∷ 0 ∷ 0 ∷ 0 ∷ 0 ∷
+    2 ∷ 0 ∷ 2 ∷ 2 ∷ 7 ∷ 0 ∷ 0 ∷ 0 ∷ 0 ∷ 0 ∷
+    2 ∷ 0 ∷ 3 ∷ 4 ∷ 4 ∷ 0 ∷ 0 ∷ 0 ∷ 0 ∷ 0 ∷
+    2 ∷ 0 ∷ 2 ∷ 4 ∷ 6 ∷ 0 ∷ 0 ∷ 0 ∷ 0 ∷ 0 ∷
+    3 ∷ 0 ∷ 0 ∷ 0 ∷ 0 ∷ 2 ∷
+    4 ∷ 0 ∷ 3 ∷ 232 ∷ 1 ∷ 0 ∷ 0 ∷ 0 ∷ 0 ∷ 0 ∷ 0 ∷ 0 ∷ 2 ∷
+    4 ∷ 0 ∷ 0 ∷ 0 ∷ 1 ∷ 0 ∷ 0 ∷ 0 ∷ 0 ∷ 0 ∷ 0 ∷ 0 ∷ 1 ∷
+    3 ∷ 0 ∷ 0 ∷ 0 ∷ 1 ∷ 5 ∷
+    4 ∷ 3 ∷ 0 ∷ 0 ∷ 1 ∷ 255 ∷ 255 ∷ 255 ∷ 255 ∷ 255 ∷ 255 ∷ 255 ∷ 255 ∷
+    4 ∷ 0 ∷ 0 ∷ 0 ∷ 1 ∷ 0 ∷ 0 ∷ 0 ∷ 0 ∷ 0 ∷ 0 ∷ 0 ∷ 3 ∷
+    3 ∷ 0 ∷ 0 ∷ 0 ∷ 2 ∷ 0 ∷
+    4 ∷ 2 ∷ 0 ∷ 0 ∷ 1 ∷ 0 ∷ 0 ∷ 0 ∷ 0 ∷ 0 ∷ 0 ∷ 0 ∷ 1 ∷
+    4 ∷ 3 ∷ 0 ∷ 0 ∷ 1 ∷ 0 ∷ 0 ∷ 0 ∷ 0 ∷ 0 ∷ 0 ∷ 0 ∷ 0 ∷
+    5 ∷ 0 ∷ 0 ∷ 0 ∷ 0 ∷
+    6 ∷ 0 ∷ 0 ∷ 0 ∷ 1 ∷
+    6 ∷ 0 ∷ 0 ∷ 0 ∷ 4 ∷
+    6 ∷ 0 ∷ 0 ∷ 0 ∷ 3 ∷ []
+
+abbrev image-3380 : List ℕ
+image-3380 =
+    1 ∷ 0 ∷ 0 ∷ 0 ∷ 0 ∷ 0 ∷ 2 ∷ 0 ∷ 1 ∷ 0 ∷ 0 ∷ 128 ∷ 0 ∷ 0 ∷ 1 ∷ 0 ∷ 0 ∷ 0 ∷ 0 ∷ 0 ∷ 0 ∷ 0 ∷ 5 ∷ 0 ∷
+    2 ∷ 0 ∷ 0 ∷ 1 ∷ 4 ∷ 0 ∷ 0 ∷ 0 ∷ 0 ∷ 0 ∷
+    2 ∷ 0 ∷ 1 ∷ 0 ∷ 7 ∷ 0 ∷ 0 ∷ 0 ∷ 0 ∷ 0 ∷
+    2 ∷ 0 ∷ 2 ∷ 2 ∷ 7 ∷ 0 ∷ 0 ∷ 0 ∷ 0 ∷ 0 ∷
+    2 ∷ 0 ∷ 3 ∷ 4 ∷ 4 ∷ 0 ∷ 0 ∷ 0 ∷ 0 ∷ 0 ∷
+    2 ∷ 0 ∷ 2 ∷ 4 ∷ 6 ∷ 0 ∷ 0 ∷ 0 ∷ 0 ∷ 0 ∷
+    3 ∷ 0 ∷ 0 ∷ 0 ∷ 0 ∷ 2 ∷
+    4 ∷ 0 ∷ 3 ∷ 232 ∷ 1 ∷ 0 ∷ 0 ∷ 0 ∷ 0 ∷ 0 ∷ 0 ∷ 0 ∷ 2 ∷
+    4 ∷ 0 ∷ 0 ∷ 0 ∷ 1 ∷ 0 ∷ 0 ∷ 0 ∷ 0 ∷ 0 ∷ 0 ∷ 0 ∷ 1 ∷
+    3 ∷ 0 ∷ 0 ∷ 0 ∷ 1 ∷ 5 ∷
+    4 ∷ 3 ∷ 0 ∷ 0 ∷ 1 ∷ 255 ∷ 255 ∷ 255 ∷ 255 ∷ 255 ∷ 255 ∷ 255 ∷ 255 ∷
+    4 ∷ 0 ∷ 0 ∷ 0 ∷ 1 ∷ 0 ∷ 0 ∷ 0 ∷ 0 ∷ 0 ∷ 0 ∷ 0 ∷ 3 ∷
+    3 ∷ 0 ∷ 0 ∷ 0 ∷ 2 ∷ 1 ∷
+    4 ∷ 2 ∷ 0 ∷ 0 ∷ 1 ∷ 0 ∷ 0 ∷ 0 ∷ 0 ∷ 0 ∷ 0 ∷ 0 ∷ 1 ∷
+    4 ∷ 3 ∷ 0 ∷ 0 ∷ 1 ∷ 0 ∷ 0 ∷ 0 ∷ 0 ∷ 0 ∷ 0 ∷ 0 ∷ 0 ∷
+    5 ∷ 0 ∷ 0 ∷ 0 ∷ 0 ∷
+    6 ∷ 0 ∷ 0 ∷ 0 ∷ 1 ∷
+    6 ∷ 0 ∷ 0 ∷ 0 ∷ 4 ∷
+    6 ∷ 0 ∷ 0 ∷ 0 ∷ 3 ∷ []
+
+abbrev image-3384 : List ℕ
+image-3384 =
+    1 ∷ 0 ∷ 0 ∷ 0 ∷ 0 ∷ 0 ∷ 2 ∷ 0 ∷ 1 ∷ 0 ∷ 0 ∷ 128 ∷ 0 ∷ 0 ∷ 1 ∷ 0 ∷ 0 ∷ 0 ∷ 0 ∷ 0 ∷ 0 ∷ 0 ∷ 5 ∷ 0 ∷
+    2 ∷ 0 ∷ 0 ∷ 0 ∷ 4 ∷ 0 ∷ 0 ∷ 0 ∷ 0 ∷ 0 ∷
+    2 ∷ 0 ∷ 1 ∷ 0 ∷ 7 ∷ 0 ∷ 0 ∷ 0 ∷ 0 ∷ 0 ∷
+    2 ∷ 0 ∷ 2 ∷ 2 ∷ 7 ∷ 0 ∷ 0 ∷ 0 ∷ 0 ∷ 0 ∷
+    2 ∷ 0 ∷ 3 ∷ 4 ∷ 4 ∷ 0 ∷ 0 ∷ 0 ∷ 0 ∷ 0 ∷
+    2 ∷ 0 ∷ 2 ∷ 4 ∷ 6 ∷ 0 ∷ 0 ∷ 0 ∷ 0 ∷ 0 ∷
+    3 ∷ 0 ∷ 0 ∷ 0 ∷ 0 ∷ 2 ∷
+    4 ∷ 0 ∷ 3 ∷ 232 ∷ 1 ∷ 0 ∷ 0 ∷ 0 ∷ 0 ∷ 0 ∷ 0 ∷ 0 ∷ 2 ∷
+    4 ∷ 2 ∷ 0 ∷ 0 ∷ 1 ∷ 0 ∷ 0 ∷ 0 ∷ 0 ∷ 0 ∷ 0 ∷ 0 ∷ 3 ∷
+    3 ∷ 0 ∷ 0 ∷ 0 ∷ 1 ∷ 5 ∷
+    4 ∷ 3 ∷ 0 ∷ 0 ∷ 1 ∷ 255 ∷ 255 ∷ 255 ∷ 255 ∷ 255 ∷ 255 ∷ 255 ∷ 255 ∷
+    4 ∷ 0 ∷ 0 ∷ 0 ∷ 1 ∷ 0 ∷ 0 ∷ 0 ∷ 0 ∷ 0 ∷ 0 ∷ 0 ∷ 3 ∷
+    3 ∷ 0 ∷ 0 ∷ 0 ∷ 2 ∷ 1 ∷
+    4 ∷ 2 ∷ 0 ∷ 0 ∷ 1 ∷ 0 ∷ 0 ∷ 0 ∷ 0 ∷ 0 ∷ 0 ∷ 0 ∷ 1 ∷
+    4 ∷ 3 ∷ 0 ∷ 0 ∷ 1 ∷ 0 ∷ 0 ∷ 0 ∷ 0 ∷ 0 ∷ 0 ∷ 0 ∷ 0 ∷
     5 ∷ 0 ∷ 0 ∷ 0 ∷ 0 ∷
     6 ∷ 0 ∷ 0 ∷ 0 ∷ 1 ∷
     6 ∷ 0 ∷ 0 ∷ 0 ∷ 0 ∷
-    6 ∷ 0 ∷ 0 ∷ 0 ∷ 2 ∷ []
+    6 ∷ 0 ∷ 0 ∷ 0 ∷ 4 ∷
+    6 ∷ 0 ∷ 0 ∷ 0 ∷ 3 ∷ []
 
--- calls 3426 to 3429
-calls-3426 :
-    outcomes none
-    (read-line 1000000 image-3426
-    ∷ call-line 1000000 (question (listOfPicker get-availability-vec 1000000))
-    ∷ call-line 1000000 (question (ofBlock num-peers-block 0 3))
-    ∷ [])
-    ≡ outcome stands image-3426
-    ∷ outcome (answered (replied (numbers ((some 999) ∷ (some 999) ∷ (some 999) ∷ (some 1) ∷ [])))) image-3426
-    ∷ outcome (answered (refused OutOfRange)) image-3426
-    ∷ []
-unfolding replaying
-calls-3426 = refl
-
-abbrev image-3546 : List ℕ
-image-3546 =
-    1 ∷ 0 ∷ 0 ∷ 0 ∷ 0 ∷ 0 ∷ 0 ∷ 0 ∷ 1 ∷ 0 ∷ 0 ∷ 0 ∷ 3 ∷ 0 ∷ 1 ∷ 0 ∷ 0 ∷ 0 ∷ 1 ∷ 0 ∷ 0 ∷ 0 ∷ 0 ∷ 1 ∷
-    2 ∷ 0 ∷ 1 ∷ 4 ∷ 7 ∷ 0 ∷ 0 ∷ 0 ∷ 0 ∷ 0 ∷ []
-
--- calls 3546 to 3551
-calls-3546 :
-    outcomes none
-    (read-line 1000000 image-3546
-    ∷ call-line 1000000 (dec-refcount 2147483648 (words 5000 []))
-    ∷ call-line 1000000 (pick-pieces (asking 228 8 0 1001 (some 0) 1 (142 ∷ []) []) 4351 (words 4352 []))
-    ∷ call-line 15 (abort-download 0 0 (some 0) (words 5000 []))
-    ∷ call-line 1000000 (question (listOfPiece blocks-for-piece 0 1000000))
-    ∷ call-line 1000000 (mark-as-finished 0 4294967296 (some 2) (words 4352 []))
-    ∷ [])
-    ≡ outcome stands image-3546
-    ∷ outcome (answered (refused OutOfRange)) image-3546
-    ∷ outcome (answered (refused PickArguments)) image-3546
-    ∷ outcome (answered (refused ShortMemory)) image-3546
-    ∷ outcome (answered (replied nothing)) image-3546
-    ∷ outcome (answered (refused OutOfRange)) image-3546
-    ∷ []
-unfolding replaying
-calls-3546 = refl
-
-abbrev image-3576 : List ℕ
-image-3576 =
-    1 ∷ 0 ∷ 0 ∷ 0 ∷ 0 ∷ 0 ∷ 0 ∷ 88 ∷ 153 ∷ 0 ∷ 0 ∷ 64 ∷ 0 ∷ 0 ∷ 0 ∷ 0 ∷ 0 ∷ 0 ∷ 0 ∷ 0 ∷ 0 ∷ 0 ∷ 2 ∷ 1 ∷
-    2 ∷ 0 ∷ 0 ∷ 4 ∷ 4 ∷ 0 ∷ 0 ∷ 0 ∷ 0 ∷ 0 ∷
-    2 ∷ 0 ∷ 0 ∷ 4 ∷ 4 ∷ 0 ∷ 0 ∷ 0 ∷ 0 ∷ 0 ∷ []
-
-abbrev image-3577 : List ℕ
-image-3577 =
-    1 ∷ 0 ∷ 0 ∷ 0 ∷ 0 ∷ 0 ∷ 0 ∷ 88 ∷ 153 ∷ 0 ∷ 0 ∷ 64 ∷ 0 ∷ 0 ∷ 0 ∷ 0 ∷ 0 ∷ 0 ∷ 0 ∷ 0 ∷ 0 ∷ 0 ∷ 2 ∷ 1 ∷
-    2 ∷ 0 ∷ 0 ∷ 2 ∷ 4 ∷ 0 ∷ 0 ∷ 0 ∷ 0 ∷ 0 ∷
-    2 ∷ 0 ∷ 0 ∷ 4 ∷ 4 ∷ 0 ∷ 0 ∷ 0 ∷ 0 ∷ 0 ∷
-    3 ∷ 0 ∷ 0 ∷ 0 ∷ 0 ∷ 0 ∷
-    4 ∷ 2 ∷ 0 ∷ 0 ∷ 1 ∷ 255 ∷ 255 ∷ 255 ∷ 255 ∷ 255 ∷ 255 ∷ 255 ∷ 255 ∷ []
-
-abbrev image-3582 : List ℕ
-image-3582 =
-    1 ∷ 0 ∷ 0 ∷ 0 ∷ 0 ∷ 0 ∷ 0 ∷ 88 ∷ 153 ∷ 0 ∷ 0 ∷ 64 ∷ 0 ∷ 0 ∷ 0 ∷ 0 ∷ 0 ∷ 0 ∷ 0 ∷ 0 ∷ 0 ∷ 0 ∷ 2 ∷ 1 ∷
-    2 ∷ 0 ∷ 0 ∷ 4 ∷ 4 ∷ 0 ∷ 0 ∷ 0 ∷ 0 ∷ 0 ∷
-    2 ∷ 0 ∷ 0 ∷ 4 ∷ 4 ∷ 0 ∷ 0 ∷ 0 ∷ 0 ∷ 0 ∷ []
-
--- calls 3576 to 3582
-calls-3576 :
-    outcomes none
-    (new-line 1000000 22681 16384
-    ∷ call-line 1000000 (mark-as-writing 0 0 (some 18446744073709551615) (words 4352 []))
-    ∷ call-line 1000000 (mark-as-writing 0 0 (some 18446744073709551615) (words 5000 []))
-    ∷ call-line 1000000 dec-refcount-all
-    ∷ call-line 1000000 (dec-refcount 0 (words 4352 []))
-    ∷ call-line 1000000 (question (listOfPiece blocks-for-piece 0 1000000))
-    ∷ call-line 1000000 (mark-as-canceled 0 0 (some 0) (words 4352 []))
-    ∷ [])
-    ≡ outcome stands image-3576
-    ∷ outcome (answered (said true 0)) image-3577
-    ∷ outcome (answered (said false 0)) image-3577
-    ∷ outcome (answered (refused NoPeerToTake)) image-3577
-    ∷ outcome (answered (refused NoPeerToTake)) image-3577
-    ∷ outcome (answered (replied (numbers ((some 2) ∷ (some 0) ∷ (some 18446744073709551615) ∷ [])))) image-3577
-    ∷ outcome (answered (done 0)) image-3582
-    ∷ []
-unfolding replaying
-calls-3576 = refl
-
-abbrev image-3636 : List ℕ
-image-3636 =
-    1 ∷ 0 ∷ 0 ∷ 0 ∷ 0 ∷ 0 ∷ 0 ∷ 209 ∷ 115 ∷ 0 ∷ 0 ∷ 64 ∷ 0 ∷ 0 ∷ 0 ∷ 0 ∷ 0 ∷ 0 ∷ 4 ∷ 0 ∷ 0 ∷ 0 ∷ 0 ∷ 0 ∷
-    2 ∷ 3 ∷ 232 ∷ 4 ∷ 4 ∷ 0 ∷ 0 ∷ 0 ∷ 0 ∷ 0 ∷
-    2 ∷ 0 ∷ 2 ∷ 4 ∷ 0 ∷ 1 ∷ 0 ∷ 0 ∷ 0 ∷ 0 ∷
-    2 ∷ 0 ∷ 1 ∷ 4 ∷ 6 ∷ 0 ∷ 0 ∷ 0 ∷ 0 ∷ 0 ∷
-    2 ∷ 0 ∷ 0 ∷ 4 ∷ 4 ∷ 0 ∷ 0 ∷ 0 ∷ 0 ∷ 0 ∷
+abbrev image-3385 : List ℕ
+image-3385 =
+    1 ∷ 0 ∷ 0 ∷ 0 ∷ 0 ∷ 0 ∷ 2 ∷ 0 ∷ 1 ∷ 0 ∷ 0 ∷ 128 ∷ 0 ∷ 0 ∷ 1 ∷ 0 ∷ 0 ∷ 0 ∷ 0 ∷ 0 ∷ 0 ∷ 0 ∷ 5 ∷ 0 ∷
+    2 ∷ 0 ∷ 0 ∷ 0 ∷ 4 ∷ 0 ∷ 0 ∷ 0 ∷ 0 ∷ 0 ∷
+    2 ∷ 0 ∷ 1 ∷ 0 ∷ 7 ∷ 0 ∷ 0 ∷ 0 ∷ 0 ∷ 0 ∷
+    2 ∷ 0 ∷ 2 ∷ 2 ∷ 7 ∷ 0 ∷ 0 ∷ 0 ∷ 0 ∷ 0 ∷
+    2 ∷ 0 ∷ 3 ∷ 4 ∷ 4 ∷ 0 ∷ 0 ∷ 0 ∷ 0 ∷ 0 ∷
+    2 ∷ 0 ∷ 3 ∷ 4 ∷ 6 ∷ 0 ∷ 0 ∷ 0 ∷ 0 ∷ 0 ∷
+    3 ∷ 0 ∷ 0 ∷ 0 ∷ 0 ∷ 2 ∷
+    4 ∷ 0 ∷ 3 ∷ 232 ∷ 1 ∷ 0 ∷ 0 ∷ 0 ∷ 0 ∷ 0 ∷ 0 ∷ 0 ∷ 2 ∷
+    4 ∷ 2 ∷ 0 ∷ 0 ∷ 1 ∷ 0 ∷ 0 ∷ 0 ∷ 0 ∷ 0 ∷ 0 ∷ 0 ∷ 3 ∷
+    3 ∷ 0 ∷ 0 ∷ 0 ∷ 1 ∷ 5 ∷
+    4 ∷ 3 ∷ 0 ∷ 0 ∷ 1 ∷ 255 ∷ 255 ∷ 255 ∷ 255 ∷ 255 ∷ 255 ∷ 255 ∷ 255 ∷
+    4 ∷ 0 ∷ 0 ∷ 0 ∷ 1 ∷ 0 ∷ 0 ∷ 0 ∷ 0 ∷ 0 ∷ 0 ∷ 0 ∷ 3 ∷
+    3 ∷ 0 ∷ 0 ∷ 0 ∷ 2 ∷ 1 ∷
+    4 ∷ 2 ∷ 0 ∷ 0 ∷ 1 ∷ 0 ∷ 0 ∷ 0 ∷ 0 ∷ 0 ∷ 0 ∷ 0 ∷ 1 ∷
+    4 ∷ 3 ∷ 0 ∷ 0 ∷ 1 ∷ 0 ∷ 0 ∷ 0 ∷ 0 ∷ 0 ∷ 0 ∷ 0 ∷ 0 ∷
     5 ∷ 0 ∷ 0 ∷ 0 ∷ 0 ∷
-    6 ∷ 0 ∷ 0 ∷ 0 ∷ 2 ∷
+    6 ∷ 0 ∷ 0 ∷ 0 ∷ 1 ∷
+    6 ∷ 0 ∷ 0 ∷ 0 ∷ 0 ∷
+    6 ∷ 0 ∷ 0 ∷ 0 ∷ 4 ∷
+    6 ∷ 0 ∷ 0 ∷ 0 ∷ 3 ∷ []
+
+-- calls 3370 to 3393
+calls-3370 :
+    outcomes none
+    (read-line plenty image-3370
+    ∷ call-line plenty (question (ofPicker total-size))
+    ∷ call-line plenty (pick-pieces (asking 227 2048 2048 1 (some 18446744073709551615) 5 (74 ∷ []) []) 4351 (words 5000 []))
+    ∷ call-line plenty (mark-as-writing 2 0 (some 1) (words 4352 []))
+    ∷ call-line plenty (piece-passed 3)
+    ∷ call-line plenty (inc-refcount 3 (words 5000 []))
+    ∷ call-line plenty (pick-pieces (asking 62 40 2049 1000 (some 2) 5 (203 ∷ []) (1 ∷ 0 ∷ 3 ∷ 0 ∷ 3 ∷ [])) 4351 (words 4352 []))
+    ∷ call-line plenty (mark-as-finished 2 1 (some 0) (words 5000 []))
+    ∷ call-line plenty (mark-as-finished 1 0 (some 18446744073709551615) (words 4352 []))
+    ∷ call-line plenty (mark-as-downloading 2 1 none 128 (words 4352 []))
+    ∷ call-line plenty (piece-passed 2)
+    ∷ call-line plenty (abort-download 2 0 (some 2) (words 4352 []))
+    ∷ call-line plenty (question (ofPicker total-size))
+    ∷ call-line plenty (abort-download 2 0 (some 3) (words 5000 []))
+    ∷ call-line plenty (mark-as-writing 0 1 (some 3) (words 4352 []))
+    ∷ call-line plenty (inc-refcount 4 (words 4352 []))
+    ∷ call-line plenty (question (listOfPicker get-download-queue 1000000))
+    ∷ call-line plenty (question (listOfPiece blocks-for-piece 4 6))
+    ∷ call-line plenty (question (list-place 3))
+    ∷ call-line plenty (mark-as-downloading 2 1 (some 1) 128 (words 5000 []))
+    ∷ call-line plenty (pick-pieces (asking 224 3 4 5 (some 1) 5 (62 ∷ []) []) 4351 (words 4352 (338748284 ∷ [])))
+    ∷ call-line plenty (pick-pieces (asking 46850 13 0 1000 none 5 (127 ∷ []) (4 ∷ 2 ∷ 2 ∷ [])) 4351 (words 4352 (2 ∷ [])))
+    ∷ call-line plenty (pick-pieces (asking 14 13 2047 10 (some 0) 5 (128 ∷ []) []) 4351 (words 4352 (3241482936 ∷ [])))
+    ∷ call-line (lending 0 50 6) (question (recent-extent 0))
+    ∷ [])
+    ≡ outcome stands image-3370
+    ∷ outcome (answered (replied (numbers ((some 131073) ∷ [])))) image-3370
+    ∷ outcome (answered (picked ((pieceBlock 4 0) ∷ []) 10256 (0 ∷ 0 ∷ 3 ∷ 0 ∷ 0 ∷ 0 ∷ 0 ∷ []) 0)) image-3372
+    ∷ outcome (answered (said true 0)) image-3373
+    ∷ outcome (answered (done 0)) image-3373
+    ∷ outcome (answered (done 0)) image-3375
+    ∷ outcome (answered (refused PickArguments)) image-3375
+    ∷ outcome (answered (done 0)) image-3377
+    ∷ outcome (answered (done 0)) image-3378
+    ∷ outcome (answered (said false 0)) image-3378
+    ∷ outcome (answered (done 0)) image-3380
+    ∷ outcome (answered (done 0)) image-3380
+    ∷ outcome (answered (replied (numbers ((some 131073) ∷ [])))) image-3380
+    ∷ outcome (answered (done 0)) image-3380
+    ∷ outcome (answered (said true 0)) image-3384
+    ∷ outcome (answered (done 0)) image-3385
+    ∷ outcome (answered (replied (numbers ((some 0) ∷ (some 0) ∷ (some 0) ∷ (some 1) ∷ (some 1) ∷ (some 0) ∷ (some 0) ∷ (some 1) ∷ (some 1) ∷ (some 1) ∷ (some 0) ∷ (some 0) ∷ (some 0) ∷ (some 1) ∷ (some 2) ∷ (some 1) ∷ (some 1) ∷ (some 1) ∷ (some 0) ∷ (some 0) ∷ (some 0) ∷ [])))) image-3385
+    ∷ outcome (answered (replied nothing)) image-3385
+    ∷ outcome (answered (replied (numbers ((some 3) ∷ [])))) image-3385
+    ∷ outcome (answered (said false 0)) image-3385
+    ∷ outcome (answered (picked ((pieceBlock 4 0) ∷ (pieceBlock 3 0) ∷ (pieceBlock 3 1) ∷ []) 3072 (0 ∷ 0 ∷ 0 ∷ 0 ∷ 2 ∷ 3 ∷ 0 ∷ []) 1)) image-3385
+    ∷ outcome (answered (picked ((pieceBlock 4 0) ∷ (pieceBlock 3 0) ∷ (pieceBlock 3 1) ∷ (pieceBlock 1 1) ∷ []) 9248 (0 ∷ 3 ∷ 0 ∷ 0 ∷ 3 ∷ 0 ∷ 0 ∷ []) 1)) image-3385
+    ∷ outcome (answered (picked [] 11264 (2 ∷ 0 ∷ 0 ∷ 0 ∷ 4 ∷ 0 ∷ 0 ∷ []) 1)) image-3385
+    ∷ outcome (answered (refused ShortMemory)) image-3385
+    ∷ []
+unfolding replaying
+calls-3370 = refl
+
+abbrev image-3429 : List ℕ
+image-3429 =
+    1 ∷ 0 ∷ 0 ∷ 0 ∷ 0 ∷ 0 ∷ 0 ∷ 0 ∷ 1 ∷ 0 ∷ 0 ∷ 64 ∷ 0 ∷ 0 ∷ 0 ∷ 0 ∷ 0 ∷ 0 ∷ 1 ∷ 0 ∷ 0 ∷ 0 ∷ 0 ∷ 0 ∷
+    2 ∷ 0 ∷ 2 ∷ 3 ∷ 1 ∷ 0 ∷ 0 ∷ 0 ∷ 0 ∷ 1 ∷
+    3 ∷ 0 ∷ 0 ∷ 0 ∷ 0 ∷ 0 ∷
+    4 ∷ 0 ∷ 0 ∷ 1 ∷ 1 ∷ 0 ∷ 0 ∷ 0 ∷ 0 ∷ 0 ∷ 0 ∷ 0 ∷ 3 ∷
+    5 ∷ 0 ∷ 0 ∷ 0 ∷ 0 ∷
     6 ∷ 0 ∷ 0 ∷ 0 ∷ 0 ∷ []
 
--- calls 3636 to 3637
-calls-3636 :
+abbrev image-3430 : List ℕ
+image-3430 =
+    1 ∷ 0 ∷ 0 ∷ 0 ∷ 0 ∷ 0 ∷ 0 ∷ 0 ∷ 1 ∷ 0 ∷ 0 ∷ 64 ∷ 0 ∷ 0 ∷ 0 ∷ 0 ∷ 0 ∷ 0 ∷ 1 ∷ 0 ∷ 0 ∷ 0 ∷ 0 ∷ 0 ∷
+    2 ∷ 0 ∷ 2 ∷ 3 ∷ 4 ∷ 0 ∷ 0 ∷ 0 ∷ 0 ∷ 1 ∷
+    3 ∷ 0 ∷ 0 ∷ 0 ∷ 0 ∷ 0 ∷
+    4 ∷ 0 ∷ 0 ∷ 1 ∷ 1 ∷ 0 ∷ 0 ∷ 0 ∷ 0 ∷ 0 ∷ 0 ∷ 0 ∷ 3 ∷
+    5 ∷ 0 ∷ 0 ∷ 0 ∷ 0 ∷
+    6 ∷ 0 ∷ 0 ∷ 0 ∷ 0 ∷ []
+
+abbrev image-3435 : List ℕ
+image-3435 =
+    1 ∷ 0 ∷ 0 ∷ 0 ∷ 0 ∷ 0 ∷ 0 ∷ 0 ∷ 1 ∷ 0 ∷ 0 ∷ 64 ∷ 0 ∷ 0 ∷ 0 ∷ 0 ∷ 0 ∷ 0 ∷ 1 ∷ 0 ∷ 0 ∷ 0 ∷ 0 ∷ 0 ∷
+    2 ∷ 0 ∷ 2 ∷ 3 ∷ 4 ∷ 0 ∷ 0 ∷ 0 ∷ 0 ∷ 1 ∷
+    3 ∷ 0 ∷ 0 ∷ 0 ∷ 0 ∷ 1 ∷
+    4 ∷ 0 ∷ 0 ∷ 1 ∷ 1 ∷ 0 ∷ 0 ∷ 0 ∷ 0 ∷ 0 ∷ 0 ∷ 0 ∷ 3 ∷
+    5 ∷ 0 ∷ 0 ∷ 0 ∷ 0 ∷
+    6 ∷ 0 ∷ 0 ∷ 0 ∷ 0 ∷ []
+
+abbrev image-3438 : List ℕ
+image-3438 =
+    1 ∷ 0 ∷ 0 ∷ 0 ∷ 0 ∷ 0 ∷ 0 ∷ 0 ∷ 1 ∷ 0 ∷ 0 ∷ 64 ∷ 0 ∷ 0 ∷ 0 ∷ 0 ∷ 0 ∷ 0 ∷ 1 ∷ 0 ∷ 0 ∷ 0 ∷ 0 ∷ 1 ∷
+    2 ∷ 0 ∷ 1 ∷ 3 ∷ 4 ∷ 0 ∷ 0 ∷ 0 ∷ 0 ∷ 1 ∷
+    3 ∷ 0 ∷ 0 ∷ 0 ∷ 0 ∷ 1 ∷
+    4 ∷ 0 ∷ 0 ∷ 1 ∷ 1 ∷ 0 ∷ 0 ∷ 0 ∷ 0 ∷ 0 ∷ 0 ∷ 0 ∷ 3 ∷
+    5 ∷ 0 ∷ 0 ∷ 0 ∷ 0 ∷ []
+
+abbrev image-3440 : List ℕ
+image-3440 =
+    1 ∷ 0 ∷ 0 ∷ 0 ∷ 0 ∷ 0 ∷ 0 ∷ 0 ∷ 1 ∷ 0 ∷ 0 ∷ 64 ∷ 0 ∷ 0 ∷ 0 ∷ 0 ∷ 0 ∷ 0 ∷ 1 ∷ 0 ∷ 0 ∷ 0 ∷ 0 ∷ 1 ∷
+    2 ∷ 0 ∷ 1 ∷ 4 ∷ 4 ∷ 1 ∷ 0 ∷ 0 ∷ 0 ∷ 1 ∷
+    5 ∷ 0 ∷ 0 ∷ 0 ∷ 0 ∷ []
+
+abbrev image-3444 : List ℕ
+image-3444 =
+    1 ∷ 0 ∷ 0 ∷ 0 ∷ 0 ∷ 0 ∷ 0 ∷ 0 ∷ 1 ∷ 0 ∷ 0 ∷ 64 ∷ 0 ∷ 0 ∷ 0 ∷ 0 ∷ 0 ∷ 0 ∷ 1 ∷ 0 ∷ 0 ∷ 0 ∷ 0 ∷ 0 ∷
+    2 ∷ 0 ∷ 1 ∷ 4 ∷ 4 ∷ 1 ∷ 0 ∷ 0 ∷ 0 ∷ 1 ∷ []
+
+abbrev image-3456 : List ℕ
+image-3456 =
+    1 ∷ 0 ∷ 0 ∷ 0 ∷ 0 ∷ 0 ∷ 0 ∷ 0 ∷ 1 ∷ 0 ∷ 0 ∷ 64 ∷ 0 ∷ 0 ∷ 0 ∷ 0 ∷ 0 ∷ 0 ∷ 1 ∷ 0 ∷ 0 ∷ 0 ∷ 0 ∷ 0 ∷
+    2 ∷ 0 ∷ 1 ∷ 4 ∷ 7 ∷ 1 ∷ 0 ∷ 0 ∷ 0 ∷ 1 ∷ []
+
+-- calls 3429 to 3457
+calls-3429 :
     outcomes none
-    (read-line 1000000 image-3636
-    ∷ call-line 1000000 (pick-pieces (asking 48588 3 2 1000 (some 3) 4 (8 ∷ []) (1 ∷ [])) 4351 (words 4352 (1 ∷ [])))
+    (read-line plenty image-3429
+    ∷ call-line plenty (set-piece-priority 0 4 (words 4352 []))
+    ∷ call-line plenty (pick-pieces (asking 42 1 1 1000 (some 0) 1 (255 ∷ []) []) 4351 (words 4352 (0 ∷ [])))
+    ∷ call-line plenty (abort-download 0 0 (some 1) (words 5000 []))
+    ∷ call-line plenty (abort-download 0 0 (some 1) (words 4352 []))
+    ∷ call-line plenty (pick-pieces (asking 99 5 1 3 (some 2) 1 (64 ∷ []) []) 4351 (words 4352 []))
+    ∷ call-line plenty (piece-passed 0)
+    ∷ call-line plenty (pick-pieces (asking 186 3 2048 5 (some 18446744073709551615) 1 (255 ∷ []) (0 ∷ 0 ∷ [])) 4351 (words 4352 []))
+    ∷ call-line plenty (question (partial-at 2))
+    ∷ call-line plenty dec-refcount-all
+    ∷ call-line plenty (question (list-place 0))
+    ∷ call-line plenty (mark-as-finished 0 0 (some 18446744073709551615) (words 4352 []))
+    ∷ call-line plenty (mark-as-finished 0 0 (some 18446744073709551615) (words 4352 []))
+    ∷ call-line plenty (question (listOfPicker get-download-queue 1000000))
+    ∷ call-line plenty (set-piece-priority 0 4 (words 4352 []))
+    ∷ call-line plenty (pick-pieces (asking 137 1 0 3 (some 1) 1 (246 ∷ []) (0 ∷ 0 ∷ [])) 4351 (words 4352 []))
+    ∷ call-line plenty (mark-as-writing 0 0 none (words 4352 []))
+    ∷ call-line plenty (abort-download 0 0 none (words 5000 []))
+    ∷ image-line plenty 1000000
+    ∷ call-line plenty (set-piece-priority 0 4 (words 4352 []))
+    ∷ call-line plenty (pick-pieces (asking 227 40 3 1000 (some 0) 1 (64 ∷ []) []) 4351 (words 5000 []))
+    ∷ call-line plenty (mark-as-finished 0 0 (some 0) (words 4352 []))
+    ∷ call-line plenty (pick-pieces (asking 110 3 0 3 (some 0) 1 (37 ∷ []) []) 4351 (words 4352 (3116567456 ∷ [])))
+    ∷ call-line plenty (mark-as-downloading 0 0 (some 2) 2 (words 5000 []))
+    ∷ call-line plenty (mark-as-writing 0 0 (some 1) (words 5000 []))
+    ∷ call-line plenty (mark-as-writing 0 0 (some 2) (words 4352 []))
+    ∷ call-line plenty (dec-refcount 2 (words 4352 []))
+    ∷ call-line plenty (set-piece-priority 0 7 (words 5000 []))
+    ∷ call-line (lending 1000000 6 1000000) (question (ofBlock block-peer 0 0))
     ∷ [])
-    ≡ outcome stands image-3636
-    ∷ outcome (answered (picked [] 10240 (0 ∷ 1 ∷ 0 ∷ 0 ∷ 4 ∷ 0 ∷ 0 ∷ []) 1)) image-3636
+    ≡ outcome stands image-3429
+    ∷ outcome (answered (said false 0)) image-3430
+    ∷ outcome (answered (picked [] 11264 (0 ∷ 0 ∷ 0 ∷ 0 ∷ 0 ∷ 0 ∷ 0 ∷ []) 1)) image-3430
+    ∷ outcome (answered (done 0)) image-3430
+    ∷ outcome (answered (done 0)) image-3430
+    ∷ outcome (answered (picked [] 10240 (0 ∷ 0 ∷ 1 ∷ 0 ∷ 0 ∷ 0 ∷ 0 ∷ []) 0)) image-3430
+    ∷ outcome (answered (done 0)) image-3435
+    ∷ outcome (answered (picked [] 10288 (0 ∷ 2 ∷ 1 ∷ 0 ∷ 0 ∷ 0 ∷ 0 ∷ []) 0)) image-3435
+    ∷ outcome (answered (replied nothing)) image-3435
+    ∷ outcome (answered (done 0)) image-3438
+    ∷ outcome (answered (replied staleList)) image-3438
+    ∷ outcome (answered (done 0)) image-3440
+    ∷ outcome (answered (done 0)) image-3440
+    ∷ outcome (answered (replied (numbers []))) image-3440
+    ∷ outcome (answered (said false 0)) image-3440
+    ∷ outcome (answered (picked [] 8196 (0 ∷ 2 ∷ 0 ∷ 0 ∷ 0 ∷ 0 ∷ 0 ∷ []) 0)) image-3444
+    ∷ outcome (answered (said false 0)) image-3444
+    ∷ outcome (answered (done 0)) image-3444
+    ∷ outcome (bytesTaken (1 ∷ 0 ∷ 0 ∷ 0 ∷ 0 ∷ 0 ∷ 0 ∷ 0 ∷ 1 ∷ 0 ∷ 0 ∷ 64 ∷ 0 ∷ 0 ∷ 0 ∷ 0 ∷ 0 ∷ 0 ∷ 1 ∷ 0 ∷ 0 ∷ 0 ∷ 0 ∷ 0 ∷ 2 ∷ 0 ∷ 1 ∷ 4 ∷ 4 ∷ 1 ∷ 0 ∷ 0 ∷ 0 ∷ 1 ∷ [])) image-3444
+    ∷ outcome (answered (said false 0)) image-3444
+    ∷ outcome (answered (picked [] 10240 (0 ∷ 0 ∷ 0 ∷ 0 ∷ 0 ∷ 0 ∷ 0 ∷ []) 0)) image-3444
+    ∷ outcome (answered (done 0)) image-3444
+    ∷ outcome (answered (picked [] 8192 (0 ∷ 0 ∷ 0 ∷ 0 ∷ 1 ∷ 0 ∷ 0 ∷ []) 1)) image-3444
+    ∷ outcome (answered (refused HavePiece)) image-3444
+    ∷ outcome (answered (said false 0)) image-3444
+    ∷ outcome (answered (said false 0)) image-3444
+    ∷ outcome (answered (refused OutOfRange)) image-3444
+    ∷ outcome (answered (said false 0)) image-3456
+    ∷ outcome (answered (refused ShortMemory)) image-3456
     ∷ []
 unfolding replaying
-calls-3636 = refl
+calls-3429 = refl
 
-abbrev image-3846 : List ℕ
-image-3846 =
-    1 ∷ 0 ∷ 0 ∷ 0 ∷ 0 ∷ 0 ∷ 0 ∷ 167 ∷ 161 ∷ 0 ∷ 0 ∷ 128 ∷ 0 ∷ 0 ∷ 0 ∷ 0 ∷ 0 ∷ 0 ∷ 1 ∷ 0 ∷ 0 ∷ 0 ∷ 1 ∷ 0 ∷
-    2 ∷ 0 ∷ 1 ∷ 6 ∷ 6 ∷ 0 ∷ 0 ∷ 0 ∷ 0 ∷ 0 ∷
-    2 ∷ 3 ∷ 232 ∷ 4 ∷ 4 ∷ 0 ∷ 0 ∷ 0 ∷ 0 ∷ 0 ∷
-    3 ∷ 0 ∷ 0 ∷ 0 ∷ 0 ∷ 0 ∷
-    4 ∷ 2 ∷ 0 ∷ 0 ∷ 1 ∷ 0 ∷ 0 ∷ 0 ∷ 0 ∷ 0 ∷ 0 ∷ 0 ∷ 2 ∷
-    4 ∷ 1 ∷ 0 ∷ 2 ∷ 1 ∷ 0 ∷ 0 ∷ 0 ∷ 0 ∷ 0 ∷ 0 ∷ 0 ∷ 1 ∷
-    6 ∷ 0 ∷ 0 ∷ 0 ∷ 0 ∷
-    6 ∷ 0 ∷ 0 ∷ 0 ∷ 1 ∷ []
+abbrev image-3492 : List ℕ
+image-3492 =
+    1 ∷ 0 ∷ 0 ∷ 0 ∷ 0 ∷ 0 ∷ 1 ∷ 184 ∷ 12 ∷ 0 ∷ 1 ∷ 0 ∷ 0 ∷ 0 ∷ 0 ∷ 0 ∷ 0 ∷ 0 ∷ 0 ∷ 0 ∷ 0 ∷ 0 ∷ 2 ∷ 1 ∷
+    2 ∷ 0 ∷ 0 ∷ 4 ∷ 4 ∷ 0 ∷ 0 ∷ 0 ∷ 0 ∷ 0 ∷
+    2 ∷ 0 ∷ 0 ∷ 4 ∷ 4 ∷ 0 ∷ 0 ∷ 0 ∷ 0 ∷ 0 ∷ []
 
-abbrev image-3851 : List ℕ
-image-3851 =
-    1 ∷ 0 ∷ 0 ∷ 0 ∷ 0 ∷ 0 ∷ 0 ∷ 167 ∷ 161 ∷ 0 ∷ 0 ∷ 128 ∷ 0 ∷ 0 ∷ 0 ∷ 0 ∷ 0 ∷ 0 ∷ 1 ∷ 0 ∷ 0 ∷ 0 ∷ 1 ∷ 0 ∷
-    2 ∷ 0 ∷ 1 ∷ 6 ∷ 6 ∷ 0 ∷ 0 ∷ 0 ∷ 0 ∷ 0 ∷
-    2 ∷ 3 ∷ 232 ∷ 4 ∷ 4 ∷ 0 ∷ 0 ∷ 0 ∷ 0 ∷ 0 ∷
+abbrev image-3499 : List ℕ
+image-3499 =
+    1 ∷ 0 ∷ 0 ∷ 0 ∷ 0 ∷ 0 ∷ 1 ∷ 184 ∷ 12 ∷ 0 ∷ 1 ∷ 0 ∷ 0 ∷ 0 ∷ 0 ∷ 0 ∷ 0 ∷ 0 ∷ 0 ∷ 0 ∷ 0 ∷ 0 ∷ 1 ∷ 1 ∷
+    2 ∷ 0 ∷ 0 ∷ 4 ∷ 4 ∷ 0 ∷ 0 ∷ 0 ∷ 0 ∷ 0 ∷
+    2 ∷ 0 ∷ 0 ∷ 4 ∷ 0 ∷ 0 ∷ 0 ∷ 0 ∷ 0 ∷ 0 ∷ []
+
+-- calls 3492 to 3500
+calls-3492 :
+    outcomes none
+    (new-line plenty 112652 65536
+    ∷ call-line plenty (mark-as-canceled 1 1 none (words 4352 []))
+    ∷ call-line plenty (set-piece-priority 0 4 (words 4352 []))
+    ∷ call-line plenty (question (ofBlock block-peer 1 2))
+    ∷ call-line plenty (question (listOfPicker piece-priorities 1000000))
+    ∷ call-line plenty (mark-as-canceled 0 0 (some 3) (words 5000 []))
+    ∷ call-line plenty (set-piece-priority 1 0 (words 4352 []))
+    ∷ call-line plenty (dec-refcount 1 (words 0 []))
+    ∷ [])
+    ≡ outcome stands image-3492
+    ∷ outcome (answered (done 0)) image-3492
+    ∷ outcome (answered (said false 0)) image-3492
+    ∷ outcome (answered (replied nothing)) image-3492
+    ∷ outcome (answered (replied (numbers ((some 4) ∷ (some 4) ∷ [])))) image-3492
+    ∷ outcome (answered (done 0)) image-3492
+    ∷ outcome (answered (said true 0)) image-3499
+    ∷ outcome (answered (refused FewDraws)) image-3499
+    ∷ []
+unfolding replaying
+calls-3492 = refl
+
+abbrev image-3612 : List ℕ
+image-3612 =
+    1 ∷ 0 ∷ 0 ∷ 0 ∷ 0 ∷ 0 ∷ 2 ∷ 139 ∷ 27 ∷ 0 ∷ 1 ∷ 0 ∷ 0 ∷ 0 ∷ 2 ∷ 0 ∷ 0 ∷ 0 ∷ 1 ∷ 0 ∷ 0 ∷ 0 ∷ 2 ∷ 0 ∷
+    2 ∷ 0 ∷ 0 ∷ 3 ∷ 7 ∷ 0 ∷ 0 ∷ 0 ∷ 64 ∷ 1 ∷
+    2 ∷ 0 ∷ 3 ∷ 5 ∷ 7 ∷ 0 ∷ 0 ∷ 1 ∷ 0 ∷ 0 ∷
+    2 ∷ 0 ∷ 1 ∷ 6 ∷ 4 ∷ 0 ∷ 0 ∷ 0 ∷ 64 ∷ 0 ∷
     3 ∷ 0 ∷ 0 ∷ 0 ∷ 0 ∷ 0 ∷
-    4 ∷ 2 ∷ 0 ∷ 0 ∷ 1 ∷ 0 ∷ 0 ∷ 0 ∷ 0 ∷ 0 ∷ 0 ∷ 0 ∷ 2 ∷
+    4 ∷ 0 ∷ 0 ∷ 0 ∷ 1 ∷ 0 ∷ 0 ∷ 0 ∷ 0 ∷ 0 ∷ 0 ∷ 0 ∷ 2 ∷
+    4 ∷ 0 ∷ 0 ∷ 0 ∷ 0 ∷ 0 ∷ 0 ∷ 0 ∷ 0 ∷ 0 ∷ 0 ∷ 0 ∷ 0 ∷
+    4 ∷ 0 ∷ 0 ∷ 3 ∷ 1 ∷ 0 ∷ 0 ∷ 0 ∷ 0 ∷ 0 ∷ 0 ∷ 0 ∷ 0 ∷
+    4 ∷ 0 ∷ 0 ∷ 0 ∷ 1 ∷ 0 ∷ 0 ∷ 0 ∷ 0 ∷ 0 ∷ 0 ∷ 0 ∷ 0 ∷
+    3 ∷ 0 ∷ 0 ∷ 0 ∷ 1 ∷ 0 ∷
+    4 ∷ 0 ∷ 0 ∷ 0 ∷ 1 ∷ 0 ∷ 0 ∷ 0 ∷ 0 ∷ 0 ∷ 0 ∷ 0 ∷ 1 ∷
+    4 ∷ 0 ∷ 0 ∷ 0 ∷ 1 ∷ 0 ∷ 0 ∷ 0 ∷ 0 ∷ 0 ∷ 0 ∷ 0 ∷ 1 ∷
+    4 ∷ 0 ∷ 0 ∷ 1 ∷ 1 ∷ 0 ∷ 0 ∷ 0 ∷ 0 ∷ 0 ∷ 0 ∷ 0 ∷ 2 ∷
+    4 ∷ 0 ∷ 0 ∷ 3 ∷ 1 ∷ 255 ∷ 255 ∷ 255 ∷ 255 ∷ 255 ∷ 255 ∷ 255 ∷ 255 ∷
+    3 ∷ 0 ∷ 0 ∷ 0 ∷ 2 ∷ 1 ∷
     4 ∷ 1 ∷ 0 ∷ 1 ∷ 1 ∷ 0 ∷ 0 ∷ 0 ∷ 0 ∷ 0 ∷ 0 ∷ 0 ∷ 1 ∷
+    4 ∷ 3 ∷ 0 ∷ 0 ∷ 1 ∷ 255 ∷ 255 ∷ 255 ∷ 255 ∷ 255 ∷ 255 ∷ 255 ∷ 255 ∷
+    4 ∷ 2 ∷ 0 ∷ 1 ∷ 1 ∷ 0 ∷ 0 ∷ 0 ∷ 0 ∷ 0 ∷ 0 ∷ 0 ∷ 3 ∷
+    5 ∷ 0 ∷ 0 ∷ 0 ∷ 0 ∷
     6 ∷ 0 ∷ 0 ∷ 0 ∷ 0 ∷
+    6 ∷ 0 ∷ 0 ∷ 0 ∷ 1 ∷
+    6 ∷ 0 ∷ 0 ∷ 0 ∷ 2 ∷ []
+
+abbrev image-3613 : List ℕ
+image-3613 =
+    1 ∷ 0 ∷ 0 ∷ 0 ∷ 0 ∷ 0 ∷ 2 ∷ 139 ∷ 27 ∷ 0 ∷ 1 ∷ 0 ∷ 0 ∷ 0 ∷ 2 ∷ 0 ∷ 0 ∷ 0 ∷ 1 ∷ 0 ∷ 0 ∷ 0 ∷ 2 ∷ 0 ∷
+    2 ∷ 0 ∷ 0 ∷ 3 ∷ 7 ∷ 0 ∷ 0 ∷ 0 ∷ 64 ∷ 1 ∷
+    2 ∷ 0 ∷ 3 ∷ 5 ∷ 7 ∷ 0 ∷ 0 ∷ 1 ∷ 0 ∷ 0 ∷
+    2 ∷ 0 ∷ 1 ∷ 6 ∷ 4 ∷ 0 ∷ 0 ∷ 0 ∷ 64 ∷ 0 ∷
+    3 ∷ 0 ∷ 0 ∷ 0 ∷ 0 ∷ 0 ∷
+    4 ∷ 0 ∷ 0 ∷ 0 ∷ 1 ∷ 0 ∷ 0 ∷ 0 ∷ 0 ∷ 0 ∷ 0 ∷ 0 ∷ 2 ∷
+    4 ∷ 0 ∷ 0 ∷ 0 ∷ 0 ∷ 0 ∷ 0 ∷ 0 ∷ 0 ∷ 0 ∷ 0 ∷ 0 ∷ 0 ∷
+    4 ∷ 0 ∷ 0 ∷ 3 ∷ 1 ∷ 0 ∷ 0 ∷ 0 ∷ 0 ∷ 0 ∷ 0 ∷ 0 ∷ 0 ∷
+    4 ∷ 0 ∷ 0 ∷ 0 ∷ 1 ∷ 0 ∷ 0 ∷ 0 ∷ 0 ∷ 0 ∷ 0 ∷ 0 ∷ 0 ∷
+    3 ∷ 0 ∷ 0 ∷ 0 ∷ 1 ∷ 0 ∷
+    4 ∷ 0 ∷ 0 ∷ 0 ∷ 1 ∷ 0 ∷ 0 ∷ 0 ∷ 0 ∷ 0 ∷ 0 ∷ 0 ∷ 1 ∷
+    4 ∷ 2 ∷ 0 ∷ 0 ∷ 1 ∷ 0 ∷ 0 ∷ 0 ∷ 0 ∷ 0 ∷ 0 ∷ 0 ∷ 0 ∷
+    4 ∷ 0 ∷ 0 ∷ 1 ∷ 1 ∷ 0 ∷ 0 ∷ 0 ∷ 0 ∷ 0 ∷ 0 ∷ 0 ∷ 2 ∷
+    4 ∷ 0 ∷ 0 ∷ 3 ∷ 1 ∷ 255 ∷ 255 ∷ 255 ∷ 255 ∷ 255 ∷ 255 ∷ 255 ∷ 255 ∷
+    3 ∷ 0 ∷ 0 ∷ 0 ∷ 2 ∷ 1 ∷
+    4 ∷ 1 ∷ 0 ∷ 1 ∷ 1 ∷ 0 ∷ 0 ∷ 0 ∷ 0 ∷ 0 ∷ 0 ∷ 0 ∷ 1 ∷
+    4 ∷ 3 ∷ 0 ∷ 0 ∷ 1 ∷ 255 ∷ 255 ∷ 255 ∷ 255 ∷ 255 ∷ 255 ∷ 255 ∷ 255 ∷
+    4 ∷ 2 ∷ 0 ∷ 1 ∷ 1 ∷ 0 ∷ 0 ∷ 0 ∷ 0 ∷ 0 ∷ 0 ∷ 0 ∷ 3 ∷
+    5 ∷ 0 ∷ 0 ∷ 0 ∷ 0 ∷
+    6 ∷ 0 ∷ 0 ∷ 0 ∷ 0 ∷
+    6 ∷ 0 ∷ 0 ∷ 0 ∷ 1 ∷
+    6 ∷ 0 ∷ 0 ∷ 0 ∷ 2 ∷ []
+
+-- calls 3612 to 3614
+calls-3612 :
+    outcomes none
+    (read-line plenty image-3612
+    ∷ call-line plenty (mark-as-writing 1 1 (some 0) (words 5000 []))
+    ∷ call-line plenty (question (ofPiece hashing? 0))
+    ∷ [])
+    ≡ outcome stands image-3612
+    ∷ outcome (answered (said true 0)) image-3613
+    ∷ outcome (answered (replied (numbers ((some 0) ∷ [])))) image-3613
+    ∷ []
+unfolding replaying
+calls-3612 = refl
+
+abbrev image-3642 : List ℕ
+image-3642 =
+    1 ∷ 0 ∷ 0 ∷ 0 ∷ 0 ∷ 0 ∷ 1 ∷ 128 ∷ 1 ∷ 0 ∷ 0 ∷ 128 ∷ 0 ∷ 0 ∷ 0 ∷ 0 ∷ 0 ∷ 0 ∷ 0 ∷ 0 ∷ 0 ∷ 0 ∷ 3 ∷ 1 ∷
+    2 ∷ 0 ∷ 0 ∷ 2 ∷ 7 ∷ 0 ∷ 0 ∷ 0 ∷ 0 ∷ 0 ∷
+    2 ∷ 0 ∷ 2 ∷ 6 ∷ 4 ∷ 0 ∷ 0 ∷ 0 ∷ 0 ∷ 0 ∷
+    2 ∷ 0 ∷ 1 ∷ 2 ∷ 1 ∷ 0 ∷ 0 ∷ 0 ∷ 0 ∷ 1 ∷
+    2 ∷ 3 ∷ 232 ∷ 3 ∷ 4 ∷ 0 ∷ 0 ∷ 0 ∷ 0 ∷ 0 ∷
+    3 ∷ 0 ∷ 0 ∷ 0 ∷ 0 ∷ 0 ∷
+    4 ∷ 2 ∷ 0 ∷ 0 ∷ 1 ∷ 255 ∷ 255 ∷ 255 ∷ 255 ∷ 255 ∷ 255 ∷ 255 ∷ 255 ∷
+    4 ∷ 3 ∷ 0 ∷ 0 ∷ 1 ∷ 255 ∷ 255 ∷ 255 ∷ 255 ∷ 255 ∷ 255 ∷ 255 ∷ 255 ∷
+    3 ∷ 0 ∷ 0 ∷ 0 ∷ 1 ∷ 0 ∷
+    4 ∷ 2 ∷ 3 ∷ 232 ∷ 1 ∷ 0 ∷ 0 ∷ 0 ∷ 0 ∷ 0 ∷ 0 ∷ 0 ∷ 1 ∷
+    4 ∷ 1 ∷ 0 ∷ 2 ∷ 1 ∷ 0 ∷ 0 ∷ 0 ∷ 0 ∷ 0 ∷ 0 ∷ 0 ∷ 3 ∷
+    3 ∷ 0 ∷ 0 ∷ 0 ∷ 2 ∷ 0 ∷
+    4 ∷ 0 ∷ 0 ∷ 0 ∷ 1 ∷ 0 ∷ 0 ∷ 0 ∷ 0 ∷ 0 ∷ 0 ∷ 0 ∷ 1 ∷
+    4 ∷ 0 ∷ 3 ∷ 231 ∷ 1 ∷ 0 ∷ 0 ∷ 0 ∷ 0 ∷ 0 ∷ 0 ∷ 0 ∷ 1 ∷
+    3 ∷ 0 ∷ 0 ∷ 0 ∷ 3 ∷ 0 ∷
+    4 ∷ 0 ∷ 0 ∷ 0 ∷ 1 ∷ 255 ∷ 255 ∷ 255 ∷ 255 ∷ 255 ∷ 255 ∷ 255 ∷ 255 ∷
+    5 ∷ 0 ∷ 0 ∷ 0 ∷ 0 ∷ []
+
+abbrev image-3647 : List ℕ
+image-3647 =
+    1 ∷ 0 ∷ 0 ∷ 0 ∷ 0 ∷ 0 ∷ 1 ∷ 128 ∷ 1 ∷ 0 ∷ 0 ∷ 128 ∷ 0 ∷ 0 ∷ 0 ∷ 0 ∷ 0 ∷ 0 ∷ 0 ∷ 0 ∷ 0 ∷ 0 ∷ 3 ∷ 1 ∷
+    2 ∷ 0 ∷ 0 ∷ 2 ∷ 7 ∷ 0 ∷ 0 ∷ 0 ∷ 0 ∷ 0 ∷
+    2 ∷ 0 ∷ 2 ∷ 6 ∷ 4 ∷ 0 ∷ 0 ∷ 0 ∷ 0 ∷ 0 ∷
+    2 ∷ 0 ∷ 1 ∷ 0 ∷ 1 ∷ 0 ∷ 0 ∷ 0 ∷ 0 ∷ 1 ∷
+    2 ∷ 3 ∷ 232 ∷ 3 ∷ 4 ∷ 0 ∷ 0 ∷ 0 ∷ 0 ∷ 0 ∷
+    3 ∷ 0 ∷ 0 ∷ 0 ∷ 0 ∷ 0 ∷
+    4 ∷ 2 ∷ 0 ∷ 0 ∷ 1 ∷ 255 ∷ 255 ∷ 255 ∷ 255 ∷ 255 ∷ 255 ∷ 255 ∷ 255 ∷
+    4 ∷ 3 ∷ 0 ∷ 0 ∷ 1 ∷ 255 ∷ 255 ∷ 255 ∷ 255 ∷ 255 ∷ 255 ∷ 255 ∷ 255 ∷
+    3 ∷ 0 ∷ 0 ∷ 0 ∷ 1 ∷ 0 ∷
+    4 ∷ 2 ∷ 3 ∷ 232 ∷ 1 ∷ 0 ∷ 0 ∷ 0 ∷ 0 ∷ 0 ∷ 0 ∷ 0 ∷ 1 ∷
+    4 ∷ 1 ∷ 0 ∷ 2 ∷ 1 ∷ 0 ∷ 0 ∷ 0 ∷ 0 ∷ 0 ∷ 0 ∷ 0 ∷ 3 ∷
+    3 ∷ 0 ∷ 0 ∷ 0 ∷ 2 ∷ 0 ∷
+    4 ∷ 2 ∷ 0 ∷ 0 ∷ 1 ∷ 0 ∷ 0 ∷ 0 ∷ 0 ∷ 0 ∷ 0 ∷ 0 ∷ 1 ∷
+    4 ∷ 0 ∷ 3 ∷ 231 ∷ 1 ∷ 0 ∷ 0 ∷ 0 ∷ 0 ∷ 0 ∷ 0 ∷ 0 ∷ 1 ∷
+    3 ∷ 0 ∷ 0 ∷ 0 ∷ 3 ∷ 0 ∷
+    4 ∷ 0 ∷ 0 ∷ 0 ∷ 1 ∷ 255 ∷ 255 ∷ 255 ∷ 255 ∷ 255 ∷ 255 ∷ 255 ∷ 255 ∷
+    5 ∷ 0 ∷ 0 ∷ 0 ∷ 0 ∷ []
+
+abbrev image-3649 : List ℕ
+image-3649 =
+    1 ∷ 0 ∷ 0 ∷ 0 ∷ 0 ∷ 0 ∷ 1 ∷ 128 ∷ 1 ∷ 0 ∷ 0 ∷ 128 ∷ 0 ∷ 0 ∷ 0 ∷ 0 ∷ 0 ∷ 0 ∷ 0 ∷ 0 ∷ 0 ∷ 0 ∷ 3 ∷ 1 ∷
+    2 ∷ 0 ∷ 0 ∷ 2 ∷ 7 ∷ 0 ∷ 0 ∷ 0 ∷ 0 ∷ 0 ∷
+    2 ∷ 0 ∷ 2 ∷ 6 ∷ 4 ∷ 0 ∷ 0 ∷ 0 ∷ 0 ∷ 0 ∷
+    2 ∷ 0 ∷ 1 ∷ 0 ∷ 1 ∷ 0 ∷ 0 ∷ 0 ∷ 0 ∷ 1 ∷
+    2 ∷ 3 ∷ 232 ∷ 3 ∷ 4 ∷ 0 ∷ 0 ∷ 0 ∷ 0 ∷ 0 ∷
+    3 ∷ 0 ∷ 0 ∷ 0 ∷ 0 ∷ 0 ∷
+    4 ∷ 2 ∷ 0 ∷ 0 ∷ 1 ∷ 255 ∷ 255 ∷ 255 ∷ 255 ∷ 255 ∷ 255 ∷ 255 ∷ 255 ∷
+    4 ∷ 3 ∷ 0 ∷ 0 ∷ 1 ∷ 255 ∷ 255 ∷ 255 ∷ 255 ∷ 255 ∷ 255 ∷ 255 ∷ 255 ∷
+    3 ∷ 0 ∷ 0 ∷ 0 ∷ 1 ∷ 0 ∷
+    4 ∷ 2 ∷ 3 ∷ 232 ∷ 1 ∷ 0 ∷ 0 ∷ 0 ∷ 0 ∷ 0 ∷ 0 ∷ 0 ∷ 0 ∷
+    4 ∷ 1 ∷ 0 ∷ 2 ∷ 1 ∷ 0 ∷ 0 ∷ 0 ∷ 0 ∷ 0 ∷ 0 ∷ 0 ∷ 3 ∷
+    3 ∷ 0 ∷ 0 ∷ 0 ∷ 2 ∷ 0 ∷
+    4 ∷ 2 ∷ 0 ∷ 0 ∷ 1 ∷ 0 ∷ 0 ∷ 0 ∷ 0 ∷ 0 ∷ 0 ∷ 0 ∷ 1 ∷
+    4 ∷ 0 ∷ 3 ∷ 231 ∷ 1 ∷ 0 ∷ 0 ∷ 0 ∷ 0 ∷ 0 ∷ 0 ∷ 0 ∷ 1 ∷
+    3 ∷ 0 ∷ 0 ∷ 0 ∷ 3 ∷ 0 ∷
+    4 ∷ 0 ∷ 0 ∷ 0 ∷ 1 ∷ 255 ∷ 255 ∷ 255 ∷ 255 ∷ 255 ∷ 255 ∷ 255 ∷ 255 ∷
+    5 ∷ 0 ∷ 0 ∷ 0 ∷ 0 ∷ []
+
+abbrev image-3651 : List ℕ
+image-3651 =
+    1 ∷ 0 ∷ 0 ∷ 0 ∷ 0 ∷ 0 ∷ 1 ∷ 128 ∷ 1 ∷ 0 ∷ 0 ∷ 128 ∷ 0 ∷ 0 ∷ 0 ∷ 0 ∷ 0 ∷ 0 ∷ 0 ∷ 0 ∷ 0 ∷ 0 ∷ 3 ∷ 1 ∷
+    2 ∷ 0 ∷ 0 ∷ 2 ∷ 7 ∷ 0 ∷ 0 ∷ 0 ∷ 0 ∷ 0 ∷
+    2 ∷ 0 ∷ 2 ∷ 6 ∷ 4 ∷ 0 ∷ 0 ∷ 0 ∷ 0 ∷ 0 ∷
+    2 ∷ 0 ∷ 1 ∷ 0 ∷ 1 ∷ 0 ∷ 0 ∷ 0 ∷ 0 ∷ 1 ∷
+    2 ∷ 3 ∷ 232 ∷ 2 ∷ 4 ∷ 0 ∷ 0 ∷ 0 ∷ 0 ∷ 0 ∷
+    3 ∷ 0 ∷ 0 ∷ 0 ∷ 0 ∷ 0 ∷
+    4 ∷ 2 ∷ 0 ∷ 0 ∷ 1 ∷ 255 ∷ 255 ∷ 255 ∷ 255 ∷ 255 ∷ 255 ∷ 255 ∷ 255 ∷
+    4 ∷ 3 ∷ 0 ∷ 0 ∷ 1 ∷ 255 ∷ 255 ∷ 255 ∷ 255 ∷ 255 ∷ 255 ∷ 255 ∷ 255 ∷
+    3 ∷ 0 ∷ 0 ∷ 0 ∷ 1 ∷ 0 ∷
+    4 ∷ 2 ∷ 3 ∷ 232 ∷ 1 ∷ 0 ∷ 0 ∷ 0 ∷ 0 ∷ 0 ∷ 0 ∷ 0 ∷ 0 ∷
+    4 ∷ 1 ∷ 0 ∷ 2 ∷ 1 ∷ 0 ∷ 0 ∷ 0 ∷ 0 ∷ 0 ∷ 0 ∷ 0 ∷ 3 ∷
+    3 ∷ 0 ∷ 0 ∷ 0 ∷ 2 ∷ 0 ∷
+    4 ∷ 2 ∷ 0 ∷ 0 ∷ 1 ∷ 0 ∷ 0 ∷ 0 ∷ 0 ∷ 0 ∷ 0 ∷ 0 ∷ 1 ∷
+    4 ∷ 0 ∷ 3 ∷ 231 ∷ 1 ∷ 0 ∷ 0 ∷ 0 ∷ 0 ∷ 0 ∷ 0 ∷ 0 ∷ 1 ∷
+    3 ∷ 0 ∷ 0 ∷ 0 ∷ 3 ∷ 0 ∷
+    4 ∷ 2 ∷ 0 ∷ 0 ∷ 1 ∷ 0 ∷ 0 ∷ 0 ∷ 0 ∷ 0 ∷ 0 ∷ 0 ∷ 2 ∷
+    5 ∷ 0 ∷ 0 ∷ 0 ∷ 0 ∷ []
+
+-- calls 3642 to 3655
+calls-3642 :
+    outcomes none
+    (read-line plenty image-3642
+    ∷ call-line plenty (question (listOfPicker piece-priorities 1000000))
+    ∷ call-line plenty (mark-as-finished 1 1 (some 1) (words 4352 []))
+    ∷ call-line plenty (abort-download 3 0 (some 18446744073709551615) (words 4352 []))
+    ∷ call-line plenty (pick-pieces (asking 34 300 2048 5 (some 0) 4 (8 ∷ []) []) 4351 (words 4352 (3394186777 ∷ [])))
+    ∷ call-line (lending 1000000 41 1000000) (mark-as-writing 2 0 (some 1) (words 4352 []))
+    ∷ call-line plenty (question (ofBlock num-peers-block 0 0))
+    ∷ call-line plenty (mark-as-writing 1 0 (some 0) (words 5000 []))
+    ∷ call-line (lending 15 40 3) (pick-pieces (asking 18 8 0 0 (some 18446744073709551615) 4 (8 ∷ []) []) 4351 (words 4352 []))
+    ∷ call-line plenty (mark-as-writing 3 0 (some 2) (words 5000 []))
+    ∷ call-line plenty (question (list-place 0))
+    ∷ call-line plenty (abort-download 1 0 (some 0) (words 4352 []))
+    ∷ call-line plenty (mark-as-canceled 0 1 none (words 4352 []))
+    ∷ call-line (lending 15 39 5) (question (ofBlock block-num-peers 2 0))
+    ∷ [])
+    ≡ outcome stands image-3642
+    ∷ outcome (answered (replied (numbers ((some 7) ∷ (some 4) ∷ (some 1) ∷ (some 4) ∷ [])))) image-3642
+    ∷ outcome (answered (refused NotWriting)) image-3642
+    ∷ outcome (answered (done 0)) image-3642
+    ∷ outcome (answered (picked [] 10240 (0 ∷ 0 ∷ 0 ∷ 0 ∷ 4 ∷ 0 ∷ 0 ∷ []) 1)) image-3642
+    ∷ outcome (answered (said true 0)) image-3647
+    ∷ outcome (answered (replied (numbers ((some 0) ∷ [])))) image-3647
+    ∷ outcome (answered (said false 0)) image-3649
+    ∷ outcome (answered (refused ShortMemory)) image-3649
+    ∷ outcome (answered (said true 0)) image-3651
+    ∷ outcome (answered (replied staleList)) image-3651
+    ∷ outcome (answered (done 0)) image-3651
+    ∷ outcome (answered (done 0)) image-3651
+    ∷ outcome (answered (refused ShortMemory)) image-3651
+    ∷ []
+unfolding replaying
+calls-3642 = refl
+
+abbrev image-3672 : List ℕ
+image-3672 =
+    1 ∷ 0 ∷ 0 ∷ 0 ∷ 0 ∷ 0 ∷ 0 ∷ 38 ∷ 237 ∷ 0 ∷ 0 ∷ 64 ∷ 0 ∷ 0 ∷ 1 ∷ 0 ∷ 0 ∷ 0 ∷ 0 ∷ 0 ∷ 0 ∷ 0 ∷ 1 ∷ 0 ∷
+    2 ∷ 0 ∷ 4 ∷ 3 ∷ 0 ∷ 0 ∷ 0 ∷ 0 ∷ 0 ∷ 0 ∷
+    3 ∷ 0 ∷ 0 ∷ 0 ∷ 0 ∷ 0 ∷
+    4 ∷ 1 ∷ 0 ∷ 2 ∷ 0 ∷ 0 ∷ 0 ∷ 0 ∷ 0 ∷ 0 ∷ 0 ∷ 0 ∷ 0 ∷ []
+
+abbrev image-3673 : List ℕ
+image-3673 =
+    1 ∷ 0 ∷ 0 ∷ 0 ∷ 0 ∷ 0 ∷ 0 ∷ 38 ∷ 237 ∷ 0 ∷ 0 ∷ 64 ∷ 0 ∷ 0 ∷ 1 ∷ 0 ∷ 0 ∷ 0 ∷ 0 ∷ 0 ∷ 0 ∷ 0 ∷ 1 ∷ 0 ∷
+    2 ∷ 0 ∷ 4 ∷ 1 ∷ 6 ∷ 0 ∷ 0 ∷ 0 ∷ 0 ∷ 0 ∷
+    3 ∷ 0 ∷ 0 ∷ 0 ∷ 0 ∷ 0 ∷
+    4 ∷ 1 ∷ 0 ∷ 2 ∷ 0 ∷ 0 ∷ 0 ∷ 0 ∷ 0 ∷ 0 ∷ 0 ∷ 0 ∷ 0 ∷ []
+
+-- calls 3672 to 3674
+calls-3672 :
+    outcomes none
+    (read-line plenty image-3672
+    ∷ call-line plenty (set-piece-priority 0 6 (words 4352 []))
+    ∷ call-line plenty (question (ofBlock is-downloaded 0 0))
+    ∷ [])
+    ≡ outcome stands image-3672
+    ∷ outcome (answered (said true 0)) image-3673
+    ∷ outcome (answered (replied (numbers ((some 0) ∷ [])))) image-3673
+    ∷ []
+unfolding replaying
+calls-3672 = refl
+
+abbrev image-3762 : List ℕ
+image-3762 =
+    1 ∷ 0 ∷ 0 ∷ 0 ∷ 0 ∷ 0 ∷ 0 ∷ 0 ∷ 6 ∷ 0 ∷ 0 ∷ 0 ∷ 3 ∷ 0 ∷ 1 ∷ 0 ∷ 0 ∷ 0 ∷ 1 ∷ 0 ∷ 0 ∷ 0 ∷ 1 ∷ 0 ∷
+    2 ∷ 0 ∷ 1 ∷ 1 ∷ 7 ∷ 0 ∷ 0 ∷ 0 ∷ 0 ∷ 0 ∷
+    2 ∷ 0 ∷ 2 ∷ 4 ∷ 4 ∷ 0 ∷ 0 ∷ 0 ∷ 0 ∷ 0 ∷
+    3 ∷ 0 ∷ 0 ∷ 0 ∷ 0 ∷ 0 ∷
+    4 ∷ 0 ∷ 3 ∷ 231 ∷ 0 ∷ 0 ∷ 0 ∷ 0 ∷ 0 ∷ 0 ∷ 0 ∷ 0 ∷ 0 ∷
     6 ∷ 0 ∷ 0 ∷ 0 ∷ 1 ∷ []
 
--- calls 3846 to 3857
-calls-3846 :
+abbrev image-3764 : List ℕ
+image-3764 =
+    1 ∷ 0 ∷ 0 ∷ 0 ∷ 0 ∷ 0 ∷ 0 ∷ 0 ∷ 6 ∷ 0 ∷ 0 ∷ 0 ∷ 3 ∷ 0 ∷ 1 ∷ 0 ∷ 0 ∷ 0 ∷ 1 ∷ 0 ∷ 0 ∷ 0 ∷ 1 ∷ 0 ∷
+    2 ∷ 0 ∷ 1 ∷ 1 ∷ 7 ∷ 0 ∷ 0 ∷ 0 ∷ 0 ∷ 0 ∷
+    2 ∷ 0 ∷ 2 ∷ 6 ∷ 4 ∷ 0 ∷ 0 ∷ 0 ∷ 0 ∷ 0 ∷
+    3 ∷ 0 ∷ 0 ∷ 0 ∷ 0 ∷ 0 ∷
+    4 ∷ 0 ∷ 3 ∷ 231 ∷ 0 ∷ 0 ∷ 0 ∷ 0 ∷ 0 ∷ 0 ∷ 0 ∷ 0 ∷ 0 ∷
+    3 ∷ 0 ∷ 0 ∷ 0 ∷ 1 ∷ 0 ∷
+    4 ∷ 1 ∷ 0 ∷ 1 ∷ 1 ∷ 255 ∷ 255 ∷ 255 ∷ 255 ∷ 255 ∷ 255 ∷ 255 ∷ 255 ∷
+    6 ∷ 0 ∷ 0 ∷ 0 ∷ 1 ∷ []
+
+-- calls 3762 to 3765
+calls-3762 :
     outcomes none
-    (read-line 1000000 image-3846
-    ∷ call-line 1000000 (pick-pieces (asking 86 1 0 0 (some 3) 1 (255 ∷ []) []) 4351 (words 5000 []))
-    ∷ call-line 1000000 (question (ofPiece peer-count 1))
-    ∷ call-line 1000000 (abort-download 0 0 (some 3) (words 4352 []))
-    ∷ call-line 1000000 (abort-download 0 1 (some 0) (words 4352 []))
-    ∷ call-line 1000000 (inc-refcount 1 (words 4352 []))
-    ∷ call-line 1000000 (question (ofPicker get-download-queue-sizes))
-    ∷ call-line 1000000 (mark-as-finished 0 1 (some 0) (words 4352 []))
-    ∷ new-line 1000000 5 0
-    ∷ call-line 1000000 (question (ofBlock block-num-peers 1 0))
+    (read-line plenty image-3762
+    ∷ call-line plenty (question (ofPiece blocks-in-piece 0))
+    ∷ call-line plenty (mark-as-downloading 1 0 (some 18446744073709551615) 40619 (words 4352 []))
+    ∷ call-line plenty (mark-as-canceled 1 2 none (words 4352 []))
     ∷ [])
-    ≡ outcome stands image-3846
-    ∷ outcome (answered (refused PickArguments)) image-3846
-    ∷ outcome (answered (replied (numbers ((some 1000) ∷ [])))) image-3846
-    ∷ outcome (answered (done 0)) image-3846
-    ∷ outcome (answered (done 0)) image-3851
-    ∷ outcome (answered (refused TooManyPeers)) image-3851
-    ∷ outcome (answered (replied (numbers ((some 0) ∷ (some 1) ∷ (some 0) ∷ (some 0) ∷ [])))) image-3851
-    ∷ outcome (answered (refused NotWriting)) image-3851
-    ∷ outcome (notDone Geometry) image-3851
-    ∷ outcome (answered (replied nothing)) image-3851
+    ≡ outcome stands image-3762
+    ∷ outcome (answered (replied (numbers ((some 1) ∷ [])))) image-3762
+    ∷ outcome (answered (said true 0)) image-3764
+    ∷ outcome (answered (refused OutOfRange)) image-3764
     ∷ []
 unfolding replaying
-calls-3846 = refl
+calls-3762 = refl
 
-abbrev image-3877 : List ℕ
-image-3877 =
-    1 ∷ 0 ∷ 0 ∷ 0 ∷ 0 ∷ 0 ∷ 0 ∷ 128 ∷ 0 ∷ 0 ∷ 0 ∷ 64 ∷ 0 ∷ 0 ∷ 2 ∷ 0 ∷ 0 ∷ 0 ∷ 1 ∷ 0 ∷ 0 ∷ 0 ∷ 1 ∷ 1 ∷
-    2 ∷ 0 ∷ 2 ∷ 4 ∷ 7 ∷ 0 ∷ 0 ∷ 0 ∷ 0 ∷ 0 ∷
-    2 ∷ 0 ∷ 3 ∷ 4 ∷ 1 ∷ 0 ∷ 0 ∷ 0 ∷ 64 ∷ 0 ∷ []
+abbrev image-3792 : List ℕ
+image-3792 =
+    1 ∷ 0 ∷ 0 ∷ 0 ∷ 0 ∷ 0 ∷ 1 ∷ 128 ∷ 1 ∷ 0 ∷ 0 ∷ 128 ∷ 0 ∷ 0 ∷ 0 ∷ 0 ∷ 0 ∷ 0 ∷ 0 ∷ 0 ∷ 0 ∷ 0 ∷ 4 ∷ 1 ∷
+    2 ∷ 0 ∷ 0 ∷ 4 ∷ 4 ∷ 0 ∷ 0 ∷ 0 ∷ 0 ∷ 0 ∷
+    2 ∷ 0 ∷ 0 ∷ 4 ∷ 4 ∷ 0 ∷ 0 ∷ 0 ∷ 0 ∷ 0 ∷
+    2 ∷ 0 ∷ 0 ∷ 4 ∷ 4 ∷ 0 ∷ 0 ∷ 0 ∷ 0 ∷ 0 ∷
+    2 ∷ 0 ∷ 0 ∷ 4 ∷ 4 ∷ 0 ∷ 0 ∷ 0 ∷ 0 ∷ 0 ∷ []
 
-abbrev image-3878 : List ℕ
-image-3878 =
-    1 ∷ 0 ∷ 0 ∷ 0 ∷ 0 ∷ 0 ∷ 0 ∷ 128 ∷ 0 ∷ 0 ∷ 0 ∷ 64 ∷ 0 ∷ 0 ∷ 2 ∷ 0 ∷ 0 ∷ 0 ∷ 1 ∷ 0 ∷ 0 ∷ 0 ∷ 1 ∷ 1 ∷
-    2 ∷ 0 ∷ 1 ∷ 4 ∷ 7 ∷ 0 ∷ 0 ∷ 0 ∷ 0 ∷ 0 ∷
-    2 ∷ 0 ∷ 3 ∷ 4 ∷ 1 ∷ 0 ∷ 0 ∷ 0 ∷ 64 ∷ 0 ∷ []
+abbrev image-3794 : List ℕ
+image-3794 =
+    1 ∷ 0 ∷ 0 ∷ 0 ∷ 0 ∷ 0 ∷ 1 ∷ 128 ∷ 1 ∷ 0 ∷ 0 ∷ 128 ∷ 0 ∷ 0 ∷ 0 ∷ 0 ∷ 0 ∷ 0 ∷ 0 ∷ 0 ∷ 0 ∷ 0 ∷ 4 ∷ 0 ∷
+    2 ∷ 0 ∷ 0 ∷ 4 ∷ 4 ∷ 0 ∷ 0 ∷ 0 ∷ 0 ∷ 0 ∷
+    2 ∷ 0 ∷ 0 ∷ 4 ∷ 4 ∷ 0 ∷ 0 ∷ 0 ∷ 0 ∷ 0 ∷
+    2 ∷ 0 ∷ 0 ∷ 4 ∷ 4 ∷ 0 ∷ 0 ∷ 0 ∷ 0 ∷ 0 ∷
+    2 ∷ 0 ∷ 0 ∷ 4 ∷ 4 ∷ 0 ∷ 0 ∷ 0 ∷ 0 ∷ 0 ∷ []
 
--- calls 3877 to 3879
-calls-3877 :
+-- calls 3792 to 3796
+calls-3792 :
     outcomes none
-    (read-line 1000000 image-3877
-    ∷ call-line 1000000 (dec-refcount 0 (words 4352 []))
-    ∷ call-line 1000000 (abort-download 0 1 (some 18446744073709551615) (words 4352 []))
+    (new-line plenty 98305 32768
+    ∷ call-line plenty (mark-as-canceled 3 0 (some 1) (words 4352 []))
+    ∷ call-line plenty (pick-pieces (asking 141 8 2 2 (some 3) 4 (255 ∷ []) (0 ∷ 0 ∷ 2 ∷ [])) 4351 (words 4352 []))
+    ∷ call-line plenty (question (ofPiece is-piece-flushed 0))
+    ∷ call-line plenty (question (ofPiece is-downloading 2))
     ∷ [])
-    ≡ outcome stands image-3877
-    ∷ outcome (answered (done 0)) image-3878
-    ∷ outcome (answered (refused OutOfRange)) image-3878
+    ≡ outcome stands image-3792
+    ∷ outcome (answered (done 0)) image-3792
+    ∷ outcome (answered (picked ((pieceBlock 0 0) ∷ (pieceBlock 0 1) ∷ (pieceBlock 2 0) ∷ (pieceBlock 2 1) ∷ []) 10272 (0 ∷ 3 ∷ 0 ∷ 0 ∷ 0 ∷ 0 ∷ 0 ∷ []) 0)) image-3794
+    ∷ outcome (answered (replied (numbers ((some 0) ∷ [])))) image-3794
+    ∷ outcome (answered (replied (numbers ((some 0) ∷ [])))) image-3794
     ∷ []
 unfolding replaying
-calls-3877 = refl
+calls-3792 = refl
+
+abbrev image-3822 : List ℕ
+image-3822 =
+    1 ∷ 0 ∷ 0 ∷ 0 ∷ 0 ∷ 0 ∷ 2 ∷ 0 ∷ 1 ∷ 0 ∷ 1 ∷ 0 ∷ 0 ∷ 0 ∷ 1 ∷ 0 ∷ 0 ∷ 0 ∷ 0 ∷ 0 ∷ 0 ∷ 0 ∷ 2 ∷ 1 ∷
+    2 ∷ 0 ∷ 3 ∷ 1 ∷ 4 ∷ 0 ∷ 0 ∷ 0 ∷ 0 ∷ 0 ∷
+    2 ∷ 0 ∷ 0 ∷ 6 ∷ 1 ∷ 0 ∷ 0 ∷ 0 ∷ 0 ∷ 0 ∷
+    2 ∷ 0 ∷ 2 ∷ 4 ∷ 7 ∷ 1 ∷ 0 ∷ 0 ∷ 0 ∷ 1 ∷
+    3 ∷ 0 ∷ 0 ∷ 0 ∷ 0 ∷ 2 ∷
+    4 ∷ 1 ∷ 0 ∷ 1 ∷ 1 ∷ 0 ∷ 0 ∷ 0 ∷ 0 ∷ 0 ∷ 0 ∷ 0 ∷ 1 ∷
+    4 ∷ 1 ∷ 0 ∷ 1 ∷ 1 ∷ 255 ∷ 255 ∷ 255 ∷ 255 ∷ 255 ∷ 255 ∷ 255 ∷ 255 ∷
+    4 ∷ 1 ∷ 3 ∷ 232 ∷ 1 ∷ 0 ∷ 0 ∷ 0 ∷ 0 ∷ 0 ∷ 0 ∷ 0 ∷ 1 ∷
+    4 ∷ 1 ∷ 0 ∷ 1 ∷ 0 ∷ 0 ∷ 0 ∷ 0 ∷ 0 ∷ 0 ∷ 0 ∷ 0 ∷ 0 ∷
+    3 ∷ 0 ∷ 0 ∷ 0 ∷ 1 ∷ 0 ∷
+    4 ∷ 2 ∷ 0 ∷ 0 ∷ 0 ∷ 0 ∷ 0 ∷ 0 ∷ 0 ∷ 0 ∷ 0 ∷ 0 ∷ 0 ∷
+    4 ∷ 2 ∷ 0 ∷ 1 ∷ 1 ∷ 0 ∷ 0 ∷ 0 ∷ 0 ∷ 0 ∷ 0 ∷ 0 ∷ 2 ∷
+    4 ∷ 1 ∷ 0 ∷ 1 ∷ 1 ∷ 0 ∷ 0 ∷ 0 ∷ 0 ∷ 0 ∷ 0 ∷ 0 ∷ 3 ∷
+    4 ∷ 3 ∷ 0 ∷ 1 ∷ 1 ∷ 0 ∷ 0 ∷ 0 ∷ 0 ∷ 0 ∷ 0 ∷ 0 ∷ 2 ∷
+    5 ∷ 0 ∷ 0 ∷ 0 ∷ 0 ∷ []
+
+-- calls 3822 to 3824
+calls-3822 :
+    outcomes none
+    (read-line plenty image-3822
+    ∷ call-line plenty (lock-piece 0)
+    ∷ call-line plenty (mark-as-canceled 1 2 (some 2) (words 1 []))
+    ∷ [])
+    ≡ outcome stands image-3822
+    ∷ outcome (answered (done 0)) image-3822
+    ∷ outcome (answered (refused FewDraws)) image-3822
+    ∷ []
+unfolding replaying
+calls-3822 = refl
+
+abbrev image-3882 : List ℕ
+image-3882 =
+    1 ∷ 0 ∷ 0 ∷ 0 ∷ 0 ∷ 0 ∷ 0 ∷ 0 ∷ 3 ∷ 0 ∷ 0 ∷ 0 ∷ 3 ∷ 0 ∷ 0 ∷ 0 ∷ 0 ∷ 0 ∷ 1 ∷ 0 ∷ 0 ∷ 0 ∷ 1 ∷ 0 ∷
+    2 ∷ 0 ∷ 1 ∷ 4 ∷ 0 ∷ 0 ∷ 0 ∷ 0 ∷ 0 ∷ 0 ∷
+    5 ∷ 0 ∷ 0 ∷ 0 ∷ 0 ∷ []
+
+abbrev image-3883 : List ℕ
+image-3883 =
+    1 ∷ 0 ∷ 0 ∷ 0 ∷ 0 ∷ 0 ∷ 0 ∷ 0 ∷ 3 ∷ 0 ∷ 0 ∷ 0 ∷ 3 ∷ 0 ∷ 0 ∷ 0 ∷ 0 ∷ 0 ∷ 1 ∷ 0 ∷ 0 ∷ 0 ∷ 1 ∷ 0 ∷
+    2 ∷ 0 ∷ 1 ∷ 3 ∷ 0 ∷ 0 ∷ 0 ∷ 0 ∷ 0 ∷ 0 ∷
+    3 ∷ 0 ∷ 0 ∷ 0 ∷ 0 ∷ 0 ∷
+    4 ∷ 2 ∷ 0 ∷ 0 ∷ 1 ∷ 0 ∷ 0 ∷ 0 ∷ 0 ∷ 0 ∷ 0 ∷ 0 ∷ 0 ∷
+    5 ∷ 0 ∷ 0 ∷ 0 ∷ 0 ∷ []
+
+abbrev image-3884 : List ℕ
+image-3884 =
+    1 ∷ 0 ∷ 0 ∷ 0 ∷ 0 ∷ 0 ∷ 0 ∷ 0 ∷ 3 ∷ 0 ∷ 0 ∷ 0 ∷ 3 ∷ 0 ∷ 0 ∷ 0 ∷ 0 ∷ 0 ∷ 1 ∷ 0 ∷ 0 ∷ 0 ∷ 1 ∷ 0 ∷
+    2 ∷ 0 ∷ 1 ∷ 4 ∷ 0 ∷ 0 ∷ 0 ∷ 0 ∷ 0 ∷ 0 ∷
+    5 ∷ 0 ∷ 0 ∷ 0 ∷ 0 ∷ []
+
+abbrev image-3886 : List ℕ
+image-3886 =
+    1 ∷ 0 ∷ 0 ∷ 0 ∷ 0 ∷ 0 ∷ 0 ∷ 0 ∷ 3 ∷ 0 ∷ 0 ∷ 0 ∷ 3 ∷ 0 ∷ 0 ∷ 0 ∷ 0 ∷ 0 ∷ 1 ∷ 0 ∷ 0 ∷ 0 ∷ 0 ∷ 0 ∷
+    2 ∷ 0 ∷ 1 ∷ 4 ∷ 1 ∷ 0 ∷ 0 ∷ 0 ∷ 0 ∷ 0 ∷
+    5 ∷ 0 ∷ 0 ∷ 0 ∷ 0 ∷
+    6 ∷ 0 ∷ 0 ∷ 0 ∷ 0 ∷ []
+
+abbrev image-3889 : List ℕ
+image-3889 =
+    1 ∷ 0 ∷ 0 ∷ 0 ∷ 0 ∷ 0 ∷ 0 ∷ 0 ∷ 3 ∷ 0 ∷ 0 ∷ 0 ∷ 3 ∷ 0 ∷ 0 ∷ 0 ∷ 0 ∷ 0 ∷ 1 ∷ 0 ∷ 0 ∷ 0 ∷ 0 ∷ 0 ∷
+    2 ∷ 0 ∷ 2 ∷ 4 ∷ 1 ∷ 0 ∷ 0 ∷ 0 ∷ 0 ∷ 0 ∷
+    5 ∷ 0 ∷ 0 ∷ 0 ∷ 0 ∷
+    6 ∷ 0 ∷ 0 ∷ 0 ∷ 0 ∷ []
+
+abbrev image-3891 : List ℕ
+image-3891 =
+    1 ∷ 0 ∷ 0 ∷ 0 ∷ 0 ∷ 0 ∷ 0 ∷ 0 ∷ 3 ∷ 0 ∷ 0 ∷ 0 ∷ 3 ∷ 0 ∷ 0 ∷ 0 ∷ 0 ∷ 0 ∷ 1 ∷ 0 ∷ 0 ∷ 0 ∷ 0 ∷ 0 ∷
+    2 ∷ 0 ∷ 2 ∷ 1 ∷ 1 ∷ 0 ∷ 0 ∷ 0 ∷ 0 ∷ 0 ∷
+    3 ∷ 0 ∷ 0 ∷ 0 ∷ 0 ∷ 0 ∷
+    4 ∷ 1 ∷ 0 ∷ 1 ∷ 1 ∷ 0 ∷ 0 ∷ 0 ∷ 0 ∷ 0 ∷ 0 ∷ 0 ∷ 2 ∷
+    5 ∷ 0 ∷ 0 ∷ 0 ∷ 0 ∷ []
+
+abbrev image-3893 : List ℕ
+image-3893 =
+    1 ∷ 0 ∷ 0 ∷ 0 ∷ 0 ∷ 0 ∷ 0 ∷ 0 ∷ 3 ∷ 0 ∷ 0 ∷ 0 ∷ 3 ∷ 0 ∷ 0 ∷ 0 ∷ 0 ∷ 0 ∷ 1 ∷ 0 ∷ 0 ∷ 0 ∷ 0 ∷ 0 ∷
+    2 ∷ 0 ∷ 2 ∷ 1 ∷ 1 ∷ 0 ∷ 0 ∷ 0 ∷ 0 ∷ 0 ∷
+    3 ∷ 0 ∷ 0 ∷ 0 ∷ 0 ∷ 1 ∷
+    4 ∷ 1 ∷ 0 ∷ 1 ∷ 1 ∷ 0 ∷ 0 ∷ 0 ∷ 0 ∷ 0 ∷ 0 ∷ 0 ∷ 2 ∷
+    5 ∷ 0 ∷ 0 ∷ 0 ∷ 0 ∷ []
+
+abbrev image-3894 : List ℕ
+image-3894 =
+    1 ∷ 0 ∷ 0 ∷ 0 ∷ 0 ∷ 0 ∷ 0 ∷ 0 ∷ 3 ∷ 0 ∷ 0 ∷ 0 ∷ 3 ∷ 0 ∷ 0 ∷ 0 ∷ 0 ∷ 0 ∷ 1 ∷ 0 ∷ 0 ∷ 0 ∷ 0 ∷ 0 ∷
+    2 ∷ 0 ∷ 2 ∷ 3 ∷ 0 ∷ 0 ∷ 0 ∷ 0 ∷ 0 ∷ 0 ∷
+    3 ∷ 0 ∷ 0 ∷ 0 ∷ 0 ∷ 1 ∷
+    4 ∷ 1 ∷ 0 ∷ 1 ∷ 1 ∷ 0 ∷ 0 ∷ 0 ∷ 0 ∷ 0 ∷ 0 ∷ 0 ∷ 2 ∷
+    5 ∷ 0 ∷ 0 ∷ 0 ∷ 0 ∷ []
+
+abbrev image-3899 : List ℕ
+image-3899 =
+    1 ∷ 0 ∷ 0 ∷ 0 ∷ 0 ∷ 0 ∷ 0 ∷ 0 ∷ 3 ∷ 0 ∷ 0 ∷ 0 ∷ 3 ∷ 0 ∷ 0 ∷ 0 ∷ 0 ∷ 0 ∷ 1 ∷ 0 ∷ 0 ∷ 0 ∷ 0 ∷ 0 ∷
+    2 ∷ 0 ∷ 2 ∷ 3 ∷ 0 ∷ 0 ∷ 0 ∷ 0 ∷ 0 ∷ 0 ∷
+    3 ∷ 0 ∷ 0 ∷ 0 ∷ 0 ∷ 1 ∷
+    4 ∷ 2 ∷ 0 ∷ 0 ∷ 1 ∷ 0 ∷ 0 ∷ 0 ∷ 0 ∷ 0 ∷ 0 ∷ 0 ∷ 2 ∷
+    5 ∷ 0 ∷ 0 ∷ 0 ∷ 0 ∷ []
+
+abbrev image-3900 : List ℕ
+image-3900 =
+    1 ∷ 0 ∷ 0 ∷ 0 ∷ 0 ∷ 0 ∷ 0 ∷ 0 ∷ 3 ∷ 0 ∷ 0 ∷ 0 ∷ 3 ∷ 0 ∷ 0 ∷ 0 ∷ 0 ∷ 0 ∷ 1 ∷ 0 ∷ 0 ∷ 0 ∷ 0 ∷ 1 ∷
+    2 ∷ 0 ∷ 1 ∷ 3 ∷ 0 ∷ 0 ∷ 0 ∷ 0 ∷ 0 ∷ 0 ∷
+    3 ∷ 0 ∷ 0 ∷ 0 ∷ 0 ∷ 1 ∷
+    4 ∷ 2 ∷ 0 ∷ 0 ∷ 1 ∷ 0 ∷ 0 ∷ 0 ∷ 0 ∷ 0 ∷ 0 ∷ 0 ∷ 2 ∷
+    5 ∷ 0 ∷ 0 ∷ 0 ∷ 0 ∷ []
+
+abbrev image-3901 : List ℕ
+image-3901 =
+    1 ∷ 0 ∷ 0 ∷ 0 ∷ 0 ∷ 0 ∷ 0 ∷ 0 ∷ 3 ∷ 0 ∷ 0 ∷ 0 ∷ 3 ∷ 0 ∷ 0 ∷ 0 ∷ 0 ∷ 0 ∷ 1 ∷ 0 ∷ 0 ∷ 0 ∷ 0 ∷ 1 ∷
+    2 ∷ 0 ∷ 1 ∷ 3 ∷ 0 ∷ 0 ∷ 0 ∷ 0 ∷ 0 ∷ 0 ∷
+    3 ∷ 0 ∷ 0 ∷ 0 ∷ 0 ∷ 1 ∷
+    4 ∷ 2 ∷ 0 ∷ 0 ∷ 0 ∷ 0 ∷ 0 ∷ 0 ∷ 0 ∷ 0 ∷ 0 ∷ 0 ∷ 0 ∷
+    5 ∷ 0 ∷ 0 ∷ 0 ∷ 0 ∷ []
+
+abbrev image-3904 : List ℕ
+image-3904 =
+    1 ∷ 0 ∷ 0 ∷ 0 ∷ 0 ∷ 0 ∷ 0 ∷ 0 ∷ 3 ∷ 0 ∷ 0 ∷ 0 ∷ 3 ∷ 0 ∷ 0 ∷ 0 ∷ 0 ∷ 0 ∷ 1 ∷ 0 ∷ 0 ∷ 0 ∷ 0 ∷ 0 ∷
+    2 ∷ 0 ∷ 1 ∷ 3 ∷ 0 ∷ 0 ∷ 0 ∷ 0 ∷ 0 ∷ 0 ∷
+    3 ∷ 0 ∷ 0 ∷ 0 ∷ 0 ∷ 1 ∷
+    4 ∷ 2 ∷ 0 ∷ 0 ∷ 0 ∷ 0 ∷ 0 ∷ 0 ∷ 0 ∷ 0 ∷ 0 ∷ 0 ∷ 0 ∷
+    5 ∷ 0 ∷ 0 ∷ 0 ∷ 0 ∷ []
+
+abbrev image-3905 : List ℕ
+image-3905 =
+    1 ∷ 0 ∷ 0 ∷ 0 ∷ 0 ∷ 0 ∷ 0 ∷ 0 ∷ 3 ∷ 0 ∷ 0 ∷ 0 ∷ 3 ∷ 0 ∷ 0 ∷ 0 ∷ 0 ∷ 0 ∷ 1 ∷ 0 ∷ 0 ∷ 0 ∷ 0 ∷ 0 ∷
+    2 ∷ 0 ∷ 1 ∷ 4 ∷ 0 ∷ 0 ∷ 0 ∷ 0 ∷ 0 ∷ 0 ∷
+    5 ∷ 0 ∷ 0 ∷ 0 ∷ 0 ∷ []
 
 abbrev image-3906 : List ℕ
 image-3906 =
-    1 ∷ 0 ∷ 0 ∷ 0 ∷ 0 ∷ 0 ∷ 1 ∷ 44 ∷ 76 ∷ 0 ∷ 0 ∷ 128 ∷ 0 ∷ 0 ∷ 0 ∷ 0 ∷ 0 ∷ 0 ∷ 0 ∷ 0 ∷ 0 ∷ 0 ∷ 3 ∷ 1 ∷
+    1 ∷ 0 ∷ 0 ∷ 0 ∷ 0 ∷ 0 ∷ 0 ∷ 0 ∷ 3 ∷ 0 ∷ 0 ∷ 0 ∷ 3 ∷ 0 ∷ 0 ∷ 0 ∷ 0 ∷ 0 ∷ 1 ∷ 0 ∷ 0 ∷ 0 ∷ 0 ∷ 0 ∷
+    2 ∷ 0 ∷ 1 ∷ 3 ∷ 0 ∷ 0 ∷ 0 ∷ 0 ∷ 0 ∷ 0 ∷
+    3 ∷ 0 ∷ 0 ∷ 0 ∷ 0 ∷ 0 ∷
+    4 ∷ 2 ∷ 0 ∷ 0 ∷ 0 ∷ 0 ∷ 0 ∷ 0 ∷ 0 ∷ 0 ∷ 0 ∷ 0 ∷ 0 ∷
+    5 ∷ 0 ∷ 0 ∷ 0 ∷ 0 ∷ []
+
+-- calls 3882 to 3907
+calls-3882 :
+    outcomes none
+    (read-line plenty image-3882
+    ∷ call-line plenty (mark-as-writing 0 0 (some 0) (words 4352 []))
+    ∷ call-line plenty (mark-as-canceled 0 0 (some 3) (words 5000 []))
+    ∷ call-line plenty (pick-pieces (asking 30144 2 2047 300 none 1 (64 ∷ []) []) 4351 (words 5000 (2211150002 ∷ [])))
+    ∷ call-line plenty (set-piece-priority 0 1 (words 5000 []))
+    ∷ call-line plenty (mark-as-canceled 0 0 none (words 4352 []))
+    ∷ call-line plenty (pick-pieces (asking 176 13 0 300 none 1 (255 ∷ []) (0 ∷ [])) 4351 (words 4352 []))
+    ∷ call-line plenty (inc-refcount 0 (words 4352 []))
+    ∷ call-line plenty (piece-passed 0)
+    ∷ call-line plenty (mark-as-downloading 0 0 (some 2) 128 (words 4352 []))
+    ∷ call-line plenty (question (listOfPiece get-downloaders 0 1000000))
+    ∷ call-line plenty (piece-passed 0)
+    ∷ call-line plenty (set-piece-priority 0 0 (words 4352 []))
+    ∷ call-line plenty (pick-pieces (asking 35 2 2 0 (some 2) 1 (212 ∷ []) []) 4351 (words 4352 []))
+    ∷ call-line plenty (question (partial-at 0))
+    ∷ call-line plenty (question (listOfPiece blocks-for-piece 0 1000000))
+    ∷ call-line plenty (question (listOfPicker get-download-queue 1000000))
+    ∷ call-line plenty (mark-as-writing 0 0 (some 2) (words 4352 []))
+    ∷ call-line plenty dec-refcount-all
+    ∷ call-line plenty (mark-as-writing 0 0 none (words 4352 []))
+    ∷ call-line plenty (piece-passed 0)
+    ∷ call-line plenty (question (listOfPiece blocks-for-piece 0 1000000))
+    ∷ call-line plenty (pick-pieces (asking 3 3 3 300 (some 0) 1 (225 ∷ []) []) 4351 (words 4352 []))
+    ∷ call-line plenty (mark-as-canceled 0 0 (some 18446744073709551615) (words 4352 []))
+    ∷ call-line plenty (mark-as-writing 0 0 none (words 5000 []))
+    ∷ call-line plenty (question (ofPiece locked? 2))
+    ∷ [])
+    ≡ outcome stands image-3882
+    ∷ outcome (answered (said true 0)) image-3883
+    ∷ outcome (answered (done 0)) image-3884
+    ∷ outcome (answered (picked [] 10240 (0 ∷ 0 ∷ 0 ∷ 0 ∷ 1 ∷ 0 ∷ 0 ∷ []) 1)) image-3884
+    ∷ outcome (answered (said true 0)) image-3886
+    ∷ outcome (answered (done 0)) image-3886
+    ∷ outcome (answered (picked ((pieceBlock 0 0) ∷ []) 73768 (0 ∷ 1 ∷ 0 ∷ 1 ∷ 0 ∷ 0 ∷ 0 ∷ []) 0)) image-3886
+    ∷ outcome (answered (done 0)) image-3889
+    ∷ outcome (answered (done 0)) image-3889
+    ∷ outcome (answered (said true 0)) image-3891
+    ∷ outcome (answered (replied (numbers ((some 2) ∷ [])))) image-3891
+    ∷ outcome (answered (done 0)) image-3893
+    ∷ outcome (answered (said true 0)) image-3894
+    ∷ outcome (answered (picked [] 10240 (0 ∷ 0 ∷ 0 ∷ 0 ∷ 0 ∷ 0 ∷ 0 ∷ []) 0)) image-3894
+    ∷ outcome (answered (replied (numbers ((some 0) ∷ [])))) image-3894
+    ∷ outcome (answered (replied (numbers ((some 1) ∷ (some 1) ∷ (some 2) ∷ [])))) image-3894
+    ∷ outcome (answered (replied (numbers ((some 0) ∷ (some 0) ∷ (some 1) ∷ (some 0) ∷ (some 0) ∷ (some 1) ∷ (some 0) ∷ [])))) image-3894
+    ∷ outcome (answered (said true 0)) image-3899
+    ∷ outcome (answered (done 0)) image-3900
+    ∷ outcome (answered (said false 0)) image-3901
+    ∷ outcome (answered (done 0)) image-3901
+    ∷ outcome (answered (replied (numbers ((some 2) ∷ (some 0) ∷ none ∷ [])))) image-3901
+    ∷ outcome (answered (picked [] 10240 (0 ∷ 0 ∷ 0 ∷ 0 ∷ 0 ∷ 0 ∷ 0 ∷ []) 0)) image-3904
+    ∷ outcome (answered (done 0)) image-3905
+    ∷ outcome (answered (said true 0)) image-3906
+    ∷ outcome (answered (refused OutOfRange)) image-3906
+    ∷ []
+unfolding replaying
+calls-3882 = refl
+
+abbrev image-3912 : List ℕ
+image-3912 =
+    1 ∷ 0 ∷ 0 ∷ 0 ∷ 0 ∷ 0 ∷ 3 ∷ 0 ∷ 0 ∷ 0 ∷ 1 ∷ 0 ∷ 0 ∷ 0 ∷ 0 ∷ 0 ∷ 0 ∷ 0 ∷ 0 ∷ 0 ∷ 0 ∷ 0 ∷ 3 ∷ 1 ∷
     2 ∷ 0 ∷ 0 ∷ 4 ∷ 4 ∷ 0 ∷ 0 ∷ 0 ∷ 0 ∷ 0 ∷
     2 ∷ 0 ∷ 0 ∷ 4 ∷ 4 ∷ 0 ∷ 0 ∷ 0 ∷ 0 ∷ 0 ∷
     2 ∷ 0 ∷ 0 ∷ 4 ∷ 4 ∷ 0 ∷ 0 ∷ 0 ∷ 0 ∷ 0 ∷ []
 
-abbrev image-3909 : List ℕ
-image-3909 =
-    1 ∷ 0 ∷ 0 ∷ 0 ∷ 0 ∷ 0 ∷ 1 ∷ 44 ∷ 76 ∷ 0 ∷ 0 ∷ 128 ∷ 0 ∷ 0 ∷ 0 ∷ 0 ∷ 0 ∷ 0 ∷ 0 ∷ 0 ∷ 0 ∷ 0 ∷ 3 ∷ 1 ∷
-    2 ∷ 0 ∷ 0 ∷ 4 ∷ 4 ∷ 0 ∷ 0 ∷ 0 ∷ 0 ∷ 0 ∷
-    2 ∷ 0 ∷ 0 ∷ 4 ∷ 4 ∷ 0 ∷ 0 ∷ 0 ∷ 0 ∷ 0 ∷
-    2 ∷ 0 ∷ 1 ∷ 4 ∷ 4 ∷ 0 ∷ 0 ∷ 0 ∷ 0 ∷ 0 ∷ []
-
-abbrev image-3911 : List ℕ
-image-3911 =
-    1 ∷ 0 ∷ 0 ∷ 0 ∷ 0 ∷ 0 ∷ 1 ∷ 44 ∷ 76 ∷ 0 ∷ 0 ∷ 128 ∷ 0 ∷ 0 ∷ 0 ∷ 0 ∷ 0 ∷ 0 ∷ 0 ∷ 0 ∷ 0 ∷ 0 ∷ 3 ∷ 1 ∷
-    2 ∷ 0 ∷ 1 ∷ 4 ∷ 4 ∷ 0 ∷ 0 ∷ 0 ∷ 0 ∷ 0 ∷
-    2 ∷ 0 ∷ 0 ∷ 4 ∷ 4 ∷ 0 ∷ 0 ∷ 0 ∷ 0 ∷ 0 ∷
-    2 ∷ 0 ∷ 1 ∷ 4 ∷ 4 ∷ 0 ∷ 0 ∷ 0 ∷ 0 ∷ 0 ∷ []
-
-abbrev image-3915 : List ℕ
-image-3915 =
-    1 ∷ 0 ∷ 0 ∷ 0 ∷ 0 ∷ 0 ∷ 1 ∷ 44 ∷ 76 ∷ 0 ∷ 0 ∷ 128 ∷ 0 ∷ 0 ∷ 0 ∷ 0 ∷ 0 ∷ 0 ∷ 0 ∷ 0 ∷ 0 ∷ 0 ∷ 3 ∷ 1 ∷
-    2 ∷ 0 ∷ 1 ∷ 4 ∷ 4 ∷ 0 ∷ 0 ∷ 0 ∷ 0 ∷ 0 ∷
-    2 ∷ 0 ∷ 0 ∷ 4 ∷ 4 ∷ 0 ∷ 0 ∷ 0 ∷ 0 ∷ 0 ∷
-    2 ∷ 0 ∷ 1 ∷ 2 ∷ 4 ∷ 0 ∷ 0 ∷ 0 ∷ 0 ∷ 0 ∷
-    3 ∷ 0 ∷ 0 ∷ 0 ∷ 2 ∷ 0 ∷
-    4 ∷ 3 ∷ 0 ∷ 0 ∷ 1 ∷ 0 ∷ 0 ∷ 0 ∷ 0 ∷ 0 ∷ 0 ∷ 0 ∷ 0 ∷ []
-
-abbrev image-3925 : List ℕ
-image-3925 =
-    1 ∷ 0 ∷ 0 ∷ 0 ∷ 0 ∷ 0 ∷ 1 ∷ 44 ∷ 76 ∷ 0 ∷ 0 ∷ 128 ∷ 0 ∷ 0 ∷ 0 ∷ 0 ∷ 0 ∷ 0 ∷ 0 ∷ 0 ∷ 0 ∷ 0 ∷ 3 ∷ 1 ∷
-    2 ∷ 0 ∷ 1 ∷ 4 ∷ 4 ∷ 0 ∷ 0 ∷ 0 ∷ 0 ∷ 0 ∷
-    2 ∷ 0 ∷ 0 ∷ 4 ∷ 4 ∷ 0 ∷ 0 ∷ 0 ∷ 0 ∷ 0 ∷
-    2 ∷ 0 ∷ 0 ∷ 2 ∷ 4 ∷ 0 ∷ 0 ∷ 0 ∷ 0 ∷ 0 ∷
-    3 ∷ 0 ∷ 0 ∷ 0 ∷ 2 ∷ 0 ∷
-    4 ∷ 3 ∷ 0 ∷ 0 ∷ 1 ∷ 0 ∷ 0 ∷ 0 ∷ 0 ∷ 0 ∷ 0 ∷ 0 ∷ 0 ∷ []
-
-abbrev image-3926 : List ℕ
-image-3926 =
-    1 ∷ 0 ∷ 0 ∷ 0 ∷ 0 ∷ 0 ∷ 1 ∷ 44 ∷ 76 ∷ 0 ∷ 0 ∷ 128 ∷ 0 ∷ 0 ∷ 0 ∷ 0 ∷ 0 ∷ 0 ∷ 0 ∷ 0 ∷ 0 ∷ 0 ∷ 3 ∷ 0 ∷
-    2 ∷ 0 ∷ 1 ∷ 4 ∷ 4 ∷ 0 ∷ 0 ∷ 0 ∷ 0 ∷ 0 ∷
-    2 ∷ 0 ∷ 0 ∷ 4 ∷ 4 ∷ 0 ∷ 0 ∷ 0 ∷ 0 ∷ 0 ∷
-    2 ∷ 0 ∷ 0 ∷ 2 ∷ 4 ∷ 0 ∷ 0 ∷ 0 ∷ 0 ∷ 0 ∷
-    3 ∷ 0 ∷ 0 ∷ 0 ∷ 2 ∷ 0 ∷
-    4 ∷ 3 ∷ 0 ∷ 0 ∷ 1 ∷ 0 ∷ 0 ∷ 0 ∷ 0 ∷ 0 ∷ 0 ∷ 0 ∷ 0 ∷
-    6 ∷ 0 ∷ 0 ∷ 0 ∷ 0 ∷ []
-
-abbrev image-3927 : List ℕ
-image-3927 =
-    1 ∷ 0 ∷ 0 ∷ 0 ∷ 0 ∷ 0 ∷ 1 ∷ 44 ∷ 76 ∷ 0 ∷ 0 ∷ 128 ∷ 0 ∷ 0 ∷ 0 ∷ 0 ∷ 0 ∷ 0 ∷ 0 ∷ 0 ∷ 0 ∷ 0 ∷ 3 ∷ 0 ∷
-    2 ∷ 0 ∷ 2 ∷ 4 ∷ 4 ∷ 0 ∷ 0 ∷ 0 ∷ 0 ∷ 0 ∷
-    2 ∷ 0 ∷ 0 ∷ 4 ∷ 4 ∷ 0 ∷ 0 ∷ 0 ∷ 0 ∷ 0 ∷
-    2 ∷ 0 ∷ 0 ∷ 2 ∷ 4 ∷ 0 ∷ 0 ∷ 0 ∷ 0 ∷ 0 ∷
-    3 ∷ 0 ∷ 0 ∷ 0 ∷ 2 ∷ 0 ∷
-    4 ∷ 3 ∷ 0 ∷ 0 ∷ 1 ∷ 0 ∷ 0 ∷ 0 ∷ 0 ∷ 0 ∷ 0 ∷ 0 ∷ 0 ∷
-    6 ∷ 0 ∷ 0 ∷ 0 ∷ 0 ∷ []
-
--- calls 3906 to 3930
-calls-3906 :
+-- calls 3912 to 3913
+calls-3912 :
     outcomes none
-    (new-line 1000000 76876 32768
-    ∷ call-line 1000000 dec-refcount-all
-    ∷ call-line 1000000 (inc-refcount 2 (words 4352 []))
-    ∷ call-line 1000000 (pick-pieces (asking 54861 5 2048 2 (some 2) 3 (255 ∷ []) (1 ∷ 2 ∷ [])) 4351 (words 4352 []))
-    ∷ call-line 1000000 (inc-refcount 0 (words 4352 []))
-    ∷ call-line 1000000 (question (listOfPicker piece-priorities 1))
-    ∷ call-line 1000000 (abort-download 0 0 (some 3) (words 4352 []))
-    ∷ call-line 1000000 (set-piece-priority 1 4 (words 4352 []))
-    ∷ call-line 1000000 (mark-as-finished 2 0 (some 0) (words 4352 []))
-    ∷ call-line 1000000 (pick-pieces (asking 231 1 0 300 (some 3) 3 (255 ∷ []) (0 ∷ 0 ∷ 1 ∷ 0 ∷ 2 ∷ [])) 4351 (words 4352 []))
-    ∷ call-line 1000000 (pick-pieces (asking 36202 5 2047 1000 (some 1) 3 (210 ∷ []) []) 4351 (words 4352 (2911700864 ∷ [])))
-    ∷ call-line 1000000 (mark-as-downloading 2 0 (some 1) 130 (words 4352 []))
-    ∷ call-line 1000000 (piece-passed 1)
-    ∷ call-line 1000000 (mark-as-writing 2 1 (some 3) (words 4352 []))
-    ∷ call-line 1000000 (mark-as-downloading 2 0 (some 18446744073709551615) 2 (words 4352 []))
-    ∷ call-line 1000000 (mark-as-downloading 2 0 (some 3) 22736 (words 4352 []))
-    ∷ call-line 1000000 (question (ofPiece piece-info 2))
-    ∷ call-line 1000000 (dec-refcount 2 (words 4352 []))
-    ∷ call-line 1000000 (pick-pieces (asking 73 1 2047 3 (some 1) 3 (127 ∷ []) []) 4351 (words 4352 []))
-    ∷ call-line 1000000 (inc-refcount 0 (words 5000 []))
-    ∷ call-line 1000000 (mark-as-canceled 0 0 none (words 5000 []))
-    ∷ call-line 1000000 (question (listOfPiece get-downloaders 0 1000000))
-    ∷ call-line 1000000 (question (ofPiece pad-bytes-in-piece 9223372036854775807))
+    (new-line plenty 196608 65536
+    ∷ call-line plenty (question (ofPiece hashing? 1))
     ∷ [])
-    ≡ outcome stands image-3906
-    ∷ outcome (answered (refused NoPeerToTake)) image-3906
-    ∷ outcome (answered (done 0)) image-3909
-    ∷ outcome (answered (picked ((pieceBlock 0 0) ∷ (pieceBlock 0 1) ∷ (pieceBlock 1 0) ∷ (pieceBlock 1 1) ∷ (pieceBlock 2 0) ∷ []) 2080 (0 ∷ 1 ∷ 0 ∷ 0 ∷ 0 ∷ 0 ∷ 0 ∷ []) 0)) image-3909
-    ∷ outcome (answered (done 0)) image-3911
-    ∷ outcome (answered (refused ShortMemory)) image-3911
-    ∷ outcome (answered (done 0)) image-3911
-    ∷ outcome (answered (said false 0)) image-3911
-    ∷ outcome (answered (done 0)) image-3915
-    ∷ outcome (answered (picked ((pieceBlock 0 0) ∷ []) 32 (0 ∷ 1 ∷ 0 ∷ 0 ∷ 0 ∷ 0 ∷ 0 ∷ []) 0)) image-3915
-    ∷ outcome (answered (picked ((pieceBlock 0 0) ∷ (pieceBlock 0 1) ∷ (pieceBlock 1 0) ∷ (pieceBlock 1 1) ∷ []) 11264 (0 ∷ 0 ∷ 0 ∷ 0 ∷ 1 ∷ 4 ∷ 0 ∷ []) 1)) image-3915
-    ∷ outcome (answered (said false 0)) image-3915
-    ∷ outcome (answered (done 0)) image-3915
-    ∷ outcome (answered (refused OutOfRange)) image-3915
-    ∷ outcome (answered (said false 0)) image-3915
-    ∷ outcome (answered (said false 0)) image-3915
-    ∷ outcome (answered (replied (numbers ((some 2) ∷ (some 1) ∷ (some 0) ∷ (some 0) ∷ (some 0) ∷ (some 0) ∷ (some 0) ∷ [])))) image-3915
-    ∷ outcome (answered (done 0)) image-3925
-    ∷ outcome (answered (picked [] 10244 (0 ∷ 0 ∷ 0 ∷ 1 ∷ 0 ∷ 0 ∷ 0 ∷ []) 0)) image-3926
-    ∷ outcome (answered (done 0)) image-3927
-    ∷ outcome (answered (done 0)) image-3927
-    ∷ outcome (answered (replied (numbers (none ∷ none ∷ [])))) image-3927
-    ∷ outcome (answered (refused OutOfRange)) image-3927
+    ≡ outcome stands image-3912
+    ∷ outcome (answered (replied nothing)) image-3912
     ∷ []
 unfolding replaying
-calls-3906 = refl
+calls-3912 = refl
 
-abbrev image-4026 : List ℕ
-image-4026 =
-    1 ∷ 0 ∷ 0 ∷ 0 ∷ 0 ∷ 0 ∷ 0 ∷ 64 ∷ 0 ∷ 0 ∷ 0 ∷ 64 ∷ 0 ∷ 0 ∷ 0 ∷ 0 ∷ 0 ∷ 0 ∷ 0 ∷ 0 ∷ 0 ∷ 0 ∷ 1 ∷ 1 ∷
-    2 ∷ 0 ∷ 0 ∷ 4 ∷ 4 ∷ 0 ∷ 0 ∷ 0 ∷ 0 ∷ 0 ∷ []
-
-abbrev image-4029 : List ℕ
-image-4029 =
-    1 ∷ 0 ∷ 0 ∷ 0 ∷ 0 ∷ 0 ∷ 0 ∷ 64 ∷ 0 ∷ 0 ∷ 0 ∷ 64 ∷ 0 ∷ 0 ∷ 0 ∷ 0 ∷ 0 ∷ 0 ∷ 0 ∷ 0 ∷ 0 ∷ 0 ∷ 1 ∷ 1 ∷
-    2 ∷ 0 ∷ 0 ∷ 2 ∷ 4 ∷ 0 ∷ 0 ∷ 0 ∷ 0 ∷ 0 ∷
-    3 ∷ 0 ∷ 0 ∷ 0 ∷ 0 ∷ 0 ∷
-    4 ∷ 2 ∷ 0 ∷ 0 ∷ 1 ∷ 255 ∷ 255 ∷ 255 ∷ 255 ∷ 255 ∷ 255 ∷ 255 ∷ 255 ∷ []
-
-abbrev image-4033 : List ℕ
-image-4033 =
-    1 ∷ 0 ∷ 0 ∷ 0 ∷ 0 ∷ 0 ∷ 0 ∷ 64 ∷ 0 ∷ 0 ∷ 0 ∷ 64 ∷ 0 ∷ 0 ∷ 0 ∷ 0 ∷ 0 ∷ 0 ∷ 0 ∷ 0 ∷ 0 ∷ 0 ∷ 1 ∷ 0 ∷
-    2 ∷ 0 ∷ 0 ∷ 2 ∷ 4 ∷ 0 ∷ 0 ∷ 0 ∷ 0 ∷ 0 ∷
-    3 ∷ 0 ∷ 0 ∷ 0 ∷ 0 ∷ 0 ∷
-    4 ∷ 2 ∷ 0 ∷ 0 ∷ 1 ∷ 255 ∷ 255 ∷ 255 ∷ 255 ∷ 255 ∷ 255 ∷ 255 ∷ 255 ∷ []
-
--- calls 4026 to 4034
-calls-4026 :
-    outcomes none
-    (new-line 1000000 16384 16384
-    ∷ call-line 15 (pick-pieces (asking 36 1 5 3 (some 1) 1 (255 ∷ []) []) 4351 (words 4352 []))
-    ∷ call-line 1000000 (pick-pieces (asking 4578 40 1 1000 (some 2) 1 (249 ∷ []) []) 4351 (words 4352 (1297661925 ∷ [])))
-    ∷ call-line 1000000 (mark-as-writing 0 0 (some 18446744073709551615) (words 4352 []))
-    ∷ call-line 1000000 (dec-refcount 0 (words 4352 []))
-    ∷ call-line 1000000 (abort-download 0 0 (some 3) (words 4352 []))
-    ∷ call-line 1000000 (mark-as-downloading 0 0 (some 1) 128 (words 4352 []))
-    ∷ call-line 1000000 (pick-pieces (asking 528 8 0 0 (some 3) 1 (255 ∷ []) []) 4351 (words 5000 []))
-    ∷ call-line 16 (question (ofBlock block-num-peers 0 0))
-    ∷ [])
-    ≡ outcome stands image-4026
-    ∷ outcome (answered (refused ShortMemory)) image-4026
-    ∷ outcome (answered (picked ((pieceBlock 0 0) ∷ []) 11264 (0 ∷ 0 ∷ 0 ∷ 0 ∷ 0 ∷ 0 ∷ 0 ∷ []) 1)) image-4026
-    ∷ outcome (answered (said true 0)) image-4029
-    ∷ outcome (answered (refused NoPeerToTake)) image-4029
-    ∷ outcome (answered (done 0)) image-4029
-    ∷ outcome (answered (said false 0)) image-4029
-    ∷ outcome (answered (picked [] 8320 (0 ∷ 0 ∷ 0 ∷ 0 ∷ 0 ∷ 0 ∷ 0 ∷ []) 0)) image-4033
-    ∷ outcome (answered (refused ShortMemory)) image-4033
-    ∷ []
-unfolding replaying
-calls-4026 = refl
-
-abbrev image-4056 : List ℕ
-image-4056 =
-    1 ∷ 0 ∷ 0 ∷ 0 ∷ 0 ∷ 0 ∷ 4 ∷ 0 ∷ 1 ∷ 0 ∷ 1 ∷ 0 ∷ 0 ∷ 0 ∷ 0 ∷ 0 ∷ 0 ∷ 0 ∷ 5 ∷ 0 ∷ 0 ∷ 0 ∷ 1 ∷ 1 ∷
-    2 ∷ 3 ∷ 231 ∷ 4 ∷ 1 ∷ 0 ∷ 0 ∷ 0 ∷ 0 ∷ 0 ∷
-    2 ∷ 0 ∷ 1 ∷ 2 ∷ 4 ∷ 0 ∷ 0 ∷ 0 ∷ 0 ∷ 0 ∷
-    2 ∷ 0 ∷ 1 ∷ 4 ∷ 4 ∷ 0 ∷ 0 ∷ 0 ∷ 0 ∷ 0 ∷
-    2 ∷ 0 ∷ 3 ∷ 2 ∷ 7 ∷ 0 ∷ 0 ∷ 0 ∷ 0 ∷ 1 ∷
-    2 ∷ 0 ∷ 1 ∷ 2 ∷ 7 ∷ 0 ∷ 0 ∷ 0 ∷ 0 ∷ 0 ∷
-    3 ∷ 0 ∷ 0 ∷ 0 ∷ 1 ∷ 0 ∷
-    4 ∷ 3 ∷ 0 ∷ 2 ∷ 0 ∷ 0 ∷ 0 ∷ 0 ∷ 0 ∷ 0 ∷ 0 ∷ 0 ∷ 0 ∷
-    4 ∷ 3 ∷ 0 ∷ 2 ∷ 1 ∷ 0 ∷ 0 ∷ 0 ∷ 0 ∷ 0 ∷ 0 ∷ 0 ∷ 0 ∷
-    4 ∷ 3 ∷ 0 ∷ 1 ∷ 1 ∷ 255 ∷ 255 ∷ 255 ∷ 255 ∷ 255 ∷ 255 ∷ 255 ∷ 255 ∷
-    4 ∷ 3 ∷ 0 ∷ 0 ∷ 1 ∷ 0 ∷ 0 ∷ 0 ∷ 0 ∷ 0 ∷ 0 ∷ 0 ∷ 0 ∷
-    3 ∷ 0 ∷ 0 ∷ 0 ∷ 3 ∷ 2 ∷
-    4 ∷ 3 ∷ 0 ∷ 0 ∷ 1 ∷ 0 ∷ 0 ∷ 0 ∷ 0 ∷ 0 ∷ 0 ∷ 0 ∷ 2 ∷
-    4 ∷ 2 ∷ 0 ∷ 0 ∷ 1 ∷ 0 ∷ 0 ∷ 0 ∷ 0 ∷ 0 ∷ 0 ∷ 0 ∷ 2 ∷
-    4 ∷ 3 ∷ 0 ∷ 1 ∷ 0 ∷ 0 ∷ 0 ∷ 0 ∷ 0 ∷ 0 ∷ 0 ∷ 0 ∷ 0 ∷
-    4 ∷ 2 ∷ 0 ∷ 1 ∷ 1 ∷ 0 ∷ 0 ∷ 0 ∷ 0 ∷ 0 ∷ 0 ∷ 0 ∷ 1 ∷
-    3 ∷ 0 ∷ 0 ∷ 0 ∷ 4 ∷ 4 ∷
-    4 ∷ 3 ∷ 0 ∷ 0 ∷ 0 ∷ 0 ∷ 0 ∷ 0 ∷ 0 ∷ 0 ∷ 0 ∷ 0 ∷ 0 ∷
-    5 ∷ 0 ∷ 0 ∷ 0 ∷ 0 ∷ []
-
--- calls 4056 to 4058
-calls-4056 :
-    outcomes none
-    (read-line 1000000 image-4056
-    ∷ call-line 1000000 (question (ofPiece piece-size 1))
-    ∷ call-line 1000000 (pick-pieces (asking 168 8 8 3 (some 18446744073709551615) 5 (156 ∷ []) []) 270 (words 5000 []))
-    ∷ [])
-    ≡ outcome stands image-4056
-    ∷ outcome (answered (replied (numbers ((some 65536) ∷ [])))) image-4056
-    ∷ outcome (answered (refused ShortOutput)) image-4056
-    ∷ []
-unfolding replaying
-calls-4056 = refl
-
-abbrev image-4062 : List ℕ
-image-4062 =
-    1 ∷ 0 ∷ 0 ∷ 0 ∷ 0 ∷ 0 ∷ 2 ∷ 0 ∷ 1 ∷ 0 ∷ 0 ∷ 128 ∷ 0 ∷ 0 ∷ 2 ∷ 0 ∷ 0 ∷ 0 ∷ 5 ∷ 0 ∷ 0 ∷ 0 ∷ 1 ∷ 0 ∷
-    2 ∷ 0 ∷ 1 ∷ 0 ∷ 4 ∷ 0 ∷ 0 ∷ 0 ∷ 0 ∷ 0 ∷
-    2 ∷ 0 ∷ 3 ∷ 4 ∷ 4 ∷ 0 ∷ 0 ∷ 0 ∷ 64 ∷ 1 ∷
-    2 ∷ 0 ∷ 3 ∷ 2 ∷ 1 ∷ 0 ∷ 0 ∷ 0 ∷ 0 ∷ 0 ∷
-    2 ∷ 0 ∷ 1 ∷ 4 ∷ 4 ∷ 0 ∷ 0 ∷ 0 ∷ 0 ∷ 0 ∷
-    2 ∷ 0 ∷ 0 ∷ 4 ∷ 7 ∷ 0 ∷ 0 ∷ 0 ∷ 0 ∷ 0 ∷
-    3 ∷ 0 ∷ 0 ∷ 0 ∷ 0 ∷ 5 ∷
-    4 ∷ 0 ∷ 0 ∷ 1 ∷ 1 ∷ 0 ∷ 0 ∷ 0 ∷ 0 ∷ 0 ∷ 0 ∷ 0 ∷ 2 ∷
-    4 ∷ 0 ∷ 0 ∷ 0 ∷ 1 ∷ 0 ∷ 0 ∷ 0 ∷ 0 ∷ 0 ∷ 0 ∷ 0 ∷ 2 ∷
-    3 ∷ 0 ∷ 0 ∷ 0 ∷ 2 ∷ 0 ∷
-    4 ∷ 0 ∷ 0 ∷ 0 ∷ 1 ∷ 255 ∷ 255 ∷ 255 ∷ 255 ∷ 255 ∷ 255 ∷ 255 ∷ 255 ∷
-    4 ∷ 0 ∷ 0 ∷ 1 ∷ 1 ∷ 255 ∷ 255 ∷ 255 ∷ 255 ∷ 255 ∷ 255 ∷ 255 ∷ 255 ∷
-    6 ∷ 0 ∷ 0 ∷ 0 ∷ 4 ∷
-    6 ∷ 0 ∷ 0 ∷ 0 ∷ 0 ∷
-    6 ∷ 0 ∷ 0 ∷ 0 ∷ 3 ∷
-    6 ∷ 0 ∷ 0 ∷ 0 ∷ 1 ∷ []
-
--- calls 4062 to 4063
-calls-4062 :
-    outcomes none
-    (read-line 1000000 image-4062
-    ∷ call-line 1000000 (mark-as-writing 9223372036854775807 0 none (words 4352 []))
-    ∷ [])
-    ≡ outcome stands image-4062
-    ∷ outcome (answered (refused OutOfRange)) image-4062
-    ∷ []
-unfolding replaying
-calls-4062 = refl
-
-abbrev image-4116 : List ℕ
-image-4116 =
-    1 ∷ 0 ∷ 0 ∷ 0 ∷ 0 ∷ 0 ∷ 0 ∷ 228 ∷ 238 ∷ 0 ∷ 0 ∷ 128 ∷ 0 ∷ 0 ∷ 1 ∷ 0 ∷ 0 ∷ 0 ∷ 2 ∷ 0 ∷ 0 ∷ 0 ∷ 1 ∷ 1 ∷
-    2 ∷ 0 ∷ 3 ∷ 4 ∷ 4 ∷ 1 ∷ 0 ∷ 0 ∷ 0 ∷ 1 ∷
-    2 ∷ 0 ∷ 0 ∷ 4 ∷ 6 ∷ 0 ∷ 0 ∷ 0 ∷ 0 ∷ 0 ∷
-    5 ∷ 0 ∷ 0 ∷ 0 ∷ 0 ∷ []
-
-abbrev image-4117 : List ℕ
-image-4117 =
-    1 ∷ 0 ∷ 0 ∷ 0 ∷ 0 ∷ 0 ∷ 0 ∷ 228 ∷ 238 ∷ 0 ∷ 0 ∷ 128 ∷ 0 ∷ 0 ∷ 1 ∷ 0 ∷ 0 ∷ 0 ∷ 2 ∷ 0 ∷ 0 ∷ 0 ∷ 1 ∷ 1 ∷
-    2 ∷ 0 ∷ 4 ∷ 4 ∷ 4 ∷ 1 ∷ 0 ∷ 0 ∷ 0 ∷ 1 ∷
-    2 ∷ 0 ∷ 0 ∷ 4 ∷ 6 ∷ 0 ∷ 0 ∷ 0 ∷ 0 ∷ 0 ∷
-    5 ∷ 0 ∷ 0 ∷ 0 ∷ 0 ∷ []
-
-abbrev image-4118 : List ℕ
-image-4118 =
-    1 ∷ 0 ∷ 0 ∷ 0 ∷ 0 ∷ 0 ∷ 0 ∷ 228 ∷ 238 ∷ 0 ∷ 0 ∷ 128 ∷ 0 ∷ 0 ∷ 1 ∷ 0 ∷ 0 ∷ 0 ∷ 2 ∷ 0 ∷ 0 ∷ 0 ∷ 1 ∷ 1 ∷
-    2 ∷ 0 ∷ 4 ∷ 4 ∷ 4 ∷ 1 ∷ 0 ∷ 0 ∷ 0 ∷ 1 ∷
-    2 ∷ 0 ∷ 0 ∷ 4 ∷ 0 ∷ 0 ∷ 0 ∷ 0 ∷ 0 ∷ 0 ∷
-    5 ∷ 0 ∷ 0 ∷ 0 ∷ 0 ∷ []
-
--- calls 4116 to 4119
-calls-4116 :
-    outcomes none
-    (read-line 1000000 image-4116
-    ∷ call-line 1000000 (inc-refcount 0 (words 4352 []))
-    ∷ call-line 1000000 (set-piece-priority 1 0 (words 5000 []))
-    ∷ call-line 1000000 (question (ofBlock is-downloaded 1 1))
-    ∷ [])
-    ≡ outcome stands image-4116
-    ∷ outcome (answered (done 0)) image-4117
-    ∷ outcome (answered (said true 0)) image-4118
-    ∷ outcome (answered (replied (numbers ((some 0) ∷ [])))) image-4118
-    ∷ []
-unfolding replaying
-calls-4116 = refl
-
-abbrev image-4176 : List ℕ
-image-4176 =
-    1 ∷ 0 ∷ 0 ∷ 0 ∷ 0 ∷ 0 ∷ 0 ∷ 0 ∷ 1 ∷ 0 ∷ 0 ∷ 0 ∷ 3 ∷ 1 ∷ 190 ∷ 0 ∷ 0 ∷ 0 ∷ 0 ∷ 0 ∷ 0 ∷ 0 ∷ 1 ∷ 0 ∷
-    2 ∷ 0 ∷ 1 ∷ 1 ∷ 7 ∷ 0 ∷ 0 ∷ 0 ∷ 0 ∷ 1 ∷
-    3 ∷ 0 ∷ 0 ∷ 0 ∷ 0 ∷ 0 ∷
-    4 ∷ 1 ∷ 0 ∷ 1 ∷ 1 ∷ 255 ∷ 255 ∷ 255 ∷ 255 ∷ 255 ∷ 255 ∷ 255 ∷ 255 ∷
-    5 ∷ 0 ∷ 0 ∷ 0 ∷ 0 ∷ []
-
-abbrev image-4177 : List ℕ
-image-4177 =
-    1 ∷ 0 ∷ 0 ∷ 0 ∷ 0 ∷ 0 ∷ 0 ∷ 0 ∷ 1 ∷ 0 ∷ 0 ∷ 0 ∷ 3 ∷ 1 ∷ 190 ∷ 0 ∷ 0 ∷ 0 ∷ 0 ∷ 0 ∷ 0 ∷ 0 ∷ 1 ∷ 0 ∷
-    2 ∷ 0 ∷ 1 ∷ 2 ∷ 7 ∷ 0 ∷ 0 ∷ 0 ∷ 0 ∷ 1 ∷
-    3 ∷ 0 ∷ 0 ∷ 0 ∷ 0 ∷ 0 ∷
-    4 ∷ 2 ∷ 0 ∷ 0 ∷ 1 ∷ 0 ∷ 0 ∷ 0 ∷ 0 ∷ 0 ∷ 0 ∷ 0 ∷ 1 ∷
-    5 ∷ 0 ∷ 0 ∷ 0 ∷ 0 ∷ []
-
-abbrev image-4178 : List ℕ
-image-4178 =
-    1 ∷ 0 ∷ 0 ∷ 0 ∷ 0 ∷ 0 ∷ 0 ∷ 0 ∷ 1 ∷ 0 ∷ 0 ∷ 0 ∷ 3 ∷ 1 ∷ 190 ∷ 0 ∷ 0 ∷ 0 ∷ 0 ∷ 0 ∷ 0 ∷ 0 ∷ 1 ∷ 0 ∷
-    2 ∷ 0 ∷ 1 ∷ 2 ∷ 7 ∷ 0 ∷ 0 ∷ 0 ∷ 0 ∷ 1 ∷
-    3 ∷ 0 ∷ 0 ∷ 0 ∷ 0 ∷ 0 ∷
-    4 ∷ 2 ∷ 0 ∷ 0 ∷ 1 ∷ 0 ∷ 0 ∷ 0 ∷ 0 ∷ 0 ∷ 0 ∷ 0 ∷ 2 ∷
-    5 ∷ 0 ∷ 0 ∷ 0 ∷ 0 ∷ []
-
--- calls 4176 to 4179
-calls-4176 :
-    outcomes none
-    (read-line 1000000 image-4176
-    ∷ call-line 1000000 (mark-as-writing 0 0 (some 1) (words 4352 []))
-    ∷ call-line 1000000 (mark-as-writing 0 0 (some 2) (words 4352 []))
-    ∷ call-line 1000000 (question (ofBlock is-finished-block 0 0))
-    ∷ [])
-    ≡ outcome stands image-4176
-    ∷ outcome (answered (said true 0)) image-4177
-    ∷ outcome (answered (said false 0)) image-4178
-    ∷ outcome (answered (replied (numbers ((some 0) ∷ [])))) image-4178
-    ∷ []
-unfolding replaying
-calls-4176 = refl
-
-abbrev image-4266 : List ℕ
-image-4266 =
-    1 ∷ 0 ∷ 0 ∷ 0 ∷ 0 ∷ 0 ∷ 3 ∷ 0 ∷ 0 ∷ 0 ∷ 1 ∷ 0 ∷ 0 ∷ 0 ∷ 0 ∷ 0 ∷ 0 ∷ 0 ∷ 1 ∷ 0 ∷ 0 ∷ 0 ∷ 2 ∷ 1 ∷
-    2 ∷ 3 ∷ 231 ∷ 6 ∷ 4 ∷ 0 ∷ 0 ∷ 0 ∷ 0 ∷ 0 ∷
-    2 ∷ 0 ∷ 1 ∷ 0 ∷ 4 ∷ 0 ∷ 0 ∷ 0 ∷ 64 ∷ 1 ∷
-    2 ∷ 0 ∷ 2 ∷ 0 ∷ 4 ∷ 0 ∷ 0 ∷ 0 ∷ 0 ∷ 0 ∷
-    3 ∷ 0 ∷ 0 ∷ 0 ∷ 0 ∷ 1 ∷
-    4 ∷ 1 ∷ 0 ∷ 1 ∷ 0 ∷ 0 ∷ 0 ∷ 0 ∷ 0 ∷ 0 ∷ 0 ∷ 0 ∷ 0 ∷
-    4 ∷ 1 ∷ 0 ∷ 1 ∷ 0 ∷ 0 ∷ 0 ∷ 0 ∷ 0 ∷ 0 ∷ 0 ∷ 0 ∷ 0 ∷
-    4 ∷ 1 ∷ 0 ∷ 1 ∷ 0 ∷ 0 ∷ 0 ∷ 0 ∷ 0 ∷ 0 ∷ 0 ∷ 0 ∷ 0 ∷
-    4 ∷ 1 ∷ 0 ∷ 1 ∷ 0 ∷ 0 ∷ 0 ∷ 0 ∷ 0 ∷ 0 ∷ 0 ∷ 0 ∷ 0 ∷
-    3 ∷ 0 ∷ 0 ∷ 0 ∷ 1 ∷ 1 ∷
-    4 ∷ 1 ∷ 3 ∷ 232 ∷ 1 ∷ 0 ∷ 0 ∷ 0 ∷ 0 ∷ 0 ∷ 0 ∷ 0 ∷ 3 ∷
-    4 ∷ 0 ∷ 0 ∷ 0 ∷ 1 ∷ 0 ∷ 0 ∷ 0 ∷ 0 ∷ 0 ∷ 0 ∷ 0 ∷ 0 ∷
-    4 ∷ 1 ∷ 0 ∷ 1 ∷ 1 ∷ 0 ∷ 0 ∷ 0 ∷ 0 ∷ 0 ∷ 0 ∷ 0 ∷ 3 ∷
-    4 ∷ 2 ∷ 3 ∷ 232 ∷ 1 ∷ 0 ∷ 0 ∷ 0 ∷ 0 ∷ 0 ∷ 0 ∷ 0 ∷ 1 ∷
-    3 ∷ 0 ∷ 0 ∷ 0 ∷ 2 ∷ 0 ∷
-    4 ∷ 3 ∷ 0 ∷ 0 ∷ 1 ∷ 0 ∷ 0 ∷ 0 ∷ 0 ∷ 0 ∷ 0 ∷ 0 ∷ 0 ∷
-    4 ∷ 0 ∷ 0 ∷ 2 ∷ 1 ∷ 0 ∷ 0 ∷ 0 ∷ 0 ∷ 0 ∷ 0 ∷ 0 ∷ 2 ∷
-    4 ∷ 2 ∷ 0 ∷ 0 ∷ 1 ∷ 0 ∷ 0 ∷ 0 ∷ 0 ∷ 0 ∷ 0 ∷ 0 ∷ 1 ∷
-    4 ∷ 3 ∷ 0 ∷ 2 ∷ 1 ∷ 0 ∷ 0 ∷ 0 ∷ 0 ∷ 0 ∷ 0 ∷ 0 ∷ 1 ∷
-    5 ∷ 0 ∷ 0 ∷ 0 ∷ 0 ∷ []
-
-abbrev image-4268 : List ℕ
-image-4268 =
-    1 ∷ 0 ∷ 0 ∷ 0 ∷ 0 ∷ 0 ∷ 3 ∷ 0 ∷ 0 ∷ 0 ∷ 1 ∷ 0 ∷ 0 ∷ 0 ∷ 0 ∷ 0 ∷ 0 ∷ 0 ∷ 1 ∷ 0 ∷ 0 ∷ 0 ∷ 2 ∷ 1 ∷
-    2 ∷ 3 ∷ 231 ∷ 6 ∷ 4 ∷ 0 ∷ 0 ∷ 0 ∷ 0 ∷ 0 ∷
-    2 ∷ 0 ∷ 0 ∷ 0 ∷ 4 ∷ 0 ∷ 0 ∷ 0 ∷ 64 ∷ 1 ∷
-    2 ∷ 0 ∷ 2 ∷ 0 ∷ 4 ∷ 0 ∷ 0 ∷ 0 ∷ 0 ∷ 0 ∷
-    3 ∷ 0 ∷ 0 ∷ 0 ∷ 0 ∷ 1 ∷
-    4 ∷ 1 ∷ 0 ∷ 1 ∷ 0 ∷ 0 ∷ 0 ∷ 0 ∷ 0 ∷ 0 ∷ 0 ∷ 0 ∷ 0 ∷
-    4 ∷ 1 ∷ 0 ∷ 1 ∷ 0 ∷ 0 ∷ 0 ∷ 0 ∷ 0 ∷ 0 ∷ 0 ∷ 0 ∷ 0 ∷
-    4 ∷ 1 ∷ 0 ∷ 1 ∷ 0 ∷ 0 ∷ 0 ∷ 0 ∷ 0 ∷ 0 ∷ 0 ∷ 0 ∷ 0 ∷
-    4 ∷ 1 ∷ 0 ∷ 1 ∷ 0 ∷ 0 ∷ 0 ∷ 0 ∷ 0 ∷ 0 ∷ 0 ∷ 0 ∷ 0 ∷
-    3 ∷ 0 ∷ 0 ∷ 0 ∷ 1 ∷ 1 ∷
-    4 ∷ 1 ∷ 3 ∷ 232 ∷ 1 ∷ 0 ∷ 0 ∷ 0 ∷ 0 ∷ 0 ∷ 0 ∷ 0 ∷ 3 ∷
-    4 ∷ 0 ∷ 0 ∷ 0 ∷ 1 ∷ 0 ∷ 0 ∷ 0 ∷ 0 ∷ 0 ∷ 0 ∷ 0 ∷ 0 ∷
-    4 ∷ 1 ∷ 0 ∷ 1 ∷ 1 ∷ 0 ∷ 0 ∷ 0 ∷ 0 ∷ 0 ∷ 0 ∷ 0 ∷ 3 ∷
-    4 ∷ 2 ∷ 3 ∷ 232 ∷ 1 ∷ 0 ∷ 0 ∷ 0 ∷ 0 ∷ 0 ∷ 0 ∷ 0 ∷ 1 ∷
-    3 ∷ 0 ∷ 0 ∷ 0 ∷ 2 ∷ 0 ∷
-    4 ∷ 3 ∷ 0 ∷ 0 ∷ 1 ∷ 0 ∷ 0 ∷ 0 ∷ 0 ∷ 0 ∷ 0 ∷ 0 ∷ 0 ∷
-    4 ∷ 0 ∷ 0 ∷ 2 ∷ 1 ∷ 0 ∷ 0 ∷ 0 ∷ 0 ∷ 0 ∷ 0 ∷ 0 ∷ 2 ∷
-    4 ∷ 2 ∷ 0 ∷ 0 ∷ 1 ∷ 0 ∷ 0 ∷ 0 ∷ 0 ∷ 0 ∷ 0 ∷ 0 ∷ 1 ∷
-    4 ∷ 3 ∷ 0 ∷ 2 ∷ 1 ∷ 0 ∷ 0 ∷ 0 ∷ 0 ∷ 0 ∷ 0 ∷ 0 ∷ 1 ∷
-    5 ∷ 0 ∷ 0 ∷ 0 ∷ 0 ∷ []
-
-abbrev image-4271 : List ℕ
-image-4271 =
-    1 ∷ 0 ∷ 0 ∷ 0 ∷ 0 ∷ 0 ∷ 3 ∷ 0 ∷ 0 ∷ 0 ∷ 1 ∷ 0 ∷ 0 ∷ 0 ∷ 0 ∷ 0 ∷ 0 ∷ 0 ∷ 1 ∷ 0 ∷ 0 ∷ 0 ∷ 2 ∷ 1 ∷
-    2 ∷ 3 ∷ 231 ∷ 6 ∷ 6 ∷ 0 ∷ 0 ∷ 0 ∷ 0 ∷ 0 ∷
-    2 ∷ 0 ∷ 0 ∷ 0 ∷ 4 ∷ 0 ∷ 0 ∷ 0 ∷ 64 ∷ 1 ∷
-    2 ∷ 0 ∷ 2 ∷ 0 ∷ 4 ∷ 0 ∷ 0 ∷ 0 ∷ 0 ∷ 0 ∷
-    3 ∷ 0 ∷ 0 ∷ 0 ∷ 0 ∷ 1 ∷
-    4 ∷ 1 ∷ 0 ∷ 1 ∷ 0 ∷ 0 ∷ 0 ∷ 0 ∷ 0 ∷ 0 ∷ 0 ∷ 0 ∷ 0 ∷
-    4 ∷ 1 ∷ 0 ∷ 1 ∷ 0 ∷ 0 ∷ 0 ∷ 0 ∷ 0 ∷ 0 ∷ 0 ∷ 0 ∷ 0 ∷
-    4 ∷ 1 ∷ 0 ∷ 1 ∷ 0 ∷ 0 ∷ 0 ∷ 0 ∷ 0 ∷ 0 ∷ 0 ∷ 0 ∷ 0 ∷
-    4 ∷ 1 ∷ 0 ∷ 1 ∷ 0 ∷ 0 ∷ 0 ∷ 0 ∷ 0 ∷ 0 ∷ 0 ∷ 0 ∷ 0 ∷
-    3 ∷ 0 ∷ 0 ∷ 0 ∷ 1 ∷ 1 ∷
-    4 ∷ 1 ∷ 3 ∷ 232 ∷ 1 ∷ 0 ∷ 0 ∷ 0 ∷ 0 ∷ 0 ∷ 0 ∷ 0 ∷ 3 ∷
-    4 ∷ 0 ∷ 0 ∷ 0 ∷ 1 ∷ 0 ∷ 0 ∷ 0 ∷ 0 ∷ 0 ∷ 0 ∷ 0 ∷ 0 ∷
-    4 ∷ 1 ∷ 0 ∷ 1 ∷ 1 ∷ 0 ∷ 0 ∷ 0 ∷ 0 ∷ 0 ∷ 0 ∷ 0 ∷ 3 ∷
-    4 ∷ 2 ∷ 3 ∷ 232 ∷ 1 ∷ 0 ∷ 0 ∷ 0 ∷ 0 ∷ 0 ∷ 0 ∷ 0 ∷ 1 ∷
-    3 ∷ 0 ∷ 0 ∷ 0 ∷ 2 ∷ 0 ∷
-    4 ∷ 3 ∷ 0 ∷ 0 ∷ 1 ∷ 0 ∷ 0 ∷ 0 ∷ 0 ∷ 0 ∷ 0 ∷ 0 ∷ 0 ∷
-    4 ∷ 0 ∷ 0 ∷ 2 ∷ 1 ∷ 0 ∷ 0 ∷ 0 ∷ 0 ∷ 0 ∷ 0 ∷ 0 ∷ 2 ∷
-    4 ∷ 2 ∷ 0 ∷ 0 ∷ 1 ∷ 0 ∷ 0 ∷ 0 ∷ 0 ∷ 0 ∷ 0 ∷ 0 ∷ 1 ∷
-    4 ∷ 3 ∷ 0 ∷ 2 ∷ 1 ∷ 0 ∷ 0 ∷ 0 ∷ 0 ∷ 0 ∷ 0 ∷ 0 ∷ 1 ∷
-    5 ∷ 0 ∷ 0 ∷ 0 ∷ 0 ∷ []
-
-abbrev image-4279 : List ℕ
-image-4279 =
-    1 ∷ 0 ∷ 0 ∷ 0 ∷ 0 ∷ 0 ∷ 3 ∷ 0 ∷ 0 ∷ 0 ∷ 1 ∷ 0 ∷ 0 ∷ 0 ∷ 0 ∷ 0 ∷ 0 ∷ 0 ∷ 1 ∷ 0 ∷ 0 ∷ 0 ∷ 2 ∷ 0 ∷
-    2 ∷ 3 ∷ 231 ∷ 6 ∷ 6 ∷ 0 ∷ 0 ∷ 0 ∷ 0 ∷ 0 ∷
-    2 ∷ 0 ∷ 0 ∷ 0 ∷ 4 ∷ 0 ∷ 0 ∷ 0 ∷ 64 ∷ 1 ∷
-    2 ∷ 0 ∷ 2 ∷ 0 ∷ 4 ∷ 0 ∷ 0 ∷ 0 ∷ 0 ∷ 0 ∷
-    3 ∷ 0 ∷ 0 ∷ 0 ∷ 0 ∷ 1 ∷
-    4 ∷ 1 ∷ 0 ∷ 1 ∷ 0 ∷ 0 ∷ 0 ∷ 0 ∷ 0 ∷ 0 ∷ 0 ∷ 0 ∷ 0 ∷
-    4 ∷ 1 ∷ 0 ∷ 1 ∷ 0 ∷ 0 ∷ 0 ∷ 0 ∷ 0 ∷ 0 ∷ 0 ∷ 0 ∷ 0 ∷
-    4 ∷ 1 ∷ 0 ∷ 1 ∷ 0 ∷ 0 ∷ 0 ∷ 0 ∷ 0 ∷ 0 ∷ 0 ∷ 0 ∷ 0 ∷
-    4 ∷ 1 ∷ 0 ∷ 1 ∷ 0 ∷ 0 ∷ 0 ∷ 0 ∷ 0 ∷ 0 ∷ 0 ∷ 0 ∷ 0 ∷
-    3 ∷ 0 ∷ 0 ∷ 0 ∷ 1 ∷ 1 ∷
-    4 ∷ 1 ∷ 3 ∷ 232 ∷ 1 ∷ 0 ∷ 0 ∷ 0 ∷ 0 ∷ 0 ∷ 0 ∷ 0 ∷ 3 ∷
-    4 ∷ 0 ∷ 0 ∷ 0 ∷ 1 ∷ 0 ∷ 0 ∷ 0 ∷ 0 ∷ 0 ∷ 0 ∷ 0 ∷ 0 ∷
-    4 ∷ 1 ∷ 0 ∷ 1 ∷ 1 ∷ 0 ∷ 0 ∷ 0 ∷ 0 ∷ 0 ∷ 0 ∷ 0 ∷ 3 ∷
-    4 ∷ 2 ∷ 3 ∷ 232 ∷ 1 ∷ 0 ∷ 0 ∷ 0 ∷ 0 ∷ 0 ∷ 0 ∷ 0 ∷ 1 ∷
-    3 ∷ 0 ∷ 0 ∷ 0 ∷ 2 ∷ 0 ∷
-    4 ∷ 3 ∷ 0 ∷ 0 ∷ 1 ∷ 0 ∷ 0 ∷ 0 ∷ 0 ∷ 0 ∷ 0 ∷ 0 ∷ 0 ∷
-    4 ∷ 0 ∷ 0 ∷ 2 ∷ 1 ∷ 0 ∷ 0 ∷ 0 ∷ 0 ∷ 0 ∷ 0 ∷ 0 ∷ 2 ∷
-    4 ∷ 2 ∷ 0 ∷ 0 ∷ 1 ∷ 0 ∷ 0 ∷ 0 ∷ 0 ∷ 0 ∷ 0 ∷ 0 ∷ 1 ∷
-    4 ∷ 3 ∷ 0 ∷ 2 ∷ 1 ∷ 0 ∷ 0 ∷ 0 ∷ 0 ∷ 0 ∷ 0 ∷ 0 ∷ 1 ∷
-    5 ∷ 0 ∷ 0 ∷ 0 ∷ 0 ∷
-    6 ∷ 0 ∷ 0 ∷ 0 ∷ 2 ∷
-    6 ∷ 0 ∷ 0 ∷ 0 ∷ 0 ∷ []
-
--- calls 4266 to 4281
-calls-4266 :
-    outcomes none
-    (read-line 1000000 image-4266
-    ∷ call-line 1000000 (abort-download 2147483648 0 (some 2) (words 4352 []))
-    ∷ call-line 1000000 (dec-refcount 1 (words 4352 []))
-    ∷ call-line 1000000 (pick-pieces (asking 120 1099511627776 0 5 none 3 (255 ∷ []) (2 ∷ 1 ∷ [])) 1099511628031 (words 4352 []))
-    ∷ call-line 1000000 (question (ofBlock is-finished-block 2 1))
-    ∷ call-line 1000000 (set-piece-priority 0 6 (words 4352 []))
-    ∷ call-line 1000000 (question (ofBlock is-finished-block 1 1))
-    ∷ call-line 1000000 (dec-refcount 0 (words 4351 []))
-    ∷ call-line 1000000 (question (ofPiece piece-priority 0))
-    ∷ call-line 1000000 (set-piece-priority 1 4 (words 4352 []))
-    ∷ call-line 1000000 (pick-pieces (asking 226 1 5 10 (some 2) 3 (255 ∷ []) (0 ∷ 0 ∷ 0 ∷ [])) 4351 (words 4352 (4294967295 ∷ [])))
-    ∷ call-line 1000000 (question (listOfPiece get-downloaders 4294967296 1000000))
-    ∷ call-line 1000000 (mark-as-finished 1 0 (some 0) (words 4352 []))
-    ∷ call-line 1000000 (pick-pieces (asking 52 2 8 10 (some 2) 3 (211 ∷ []) (2 ∷ 1 ∷ [])) 4351 (words 5000 []))
-    ∷ call-line 1000000 (pick-pieces (asking 204 8 20 1000 (some 3) 3 (255 ∷ []) (1 ∷ 1 ∷ 1 ∷ 0 ∷ 1 ∷ 0 ∷ 0 ∷ 3 ∷ 0 ∷ 1 ∷ 2 ∷ 0 ∷ 0 ∷ 1 ∷ 1 ∷ 0 ∷ 2 ∷ 1 ∷ 2 ∷ 1 ∷ [])) 4351 (words 0 []))
-    ∷ call-line 1000000 (question (ofPiece locked? 3))
-    ∷ [])
-    ≡ outcome stands image-4266
-    ∷ outcome (answered (refused OutOfRange)) image-4266
-    ∷ outcome (answered (done 0)) image-4268
-    ∷ outcome (answered (refused PickArguments)) image-4268
-    ∷ outcome (answered (replied (numbers ((some 0) ∷ [])))) image-4268
-    ∷ outcome (answered (said false 0)) image-4271
-    ∷ outcome (answered (replied (numbers ((some 0) ∷ [])))) image-4271
-    ∷ outcome (answered (refused FewDraws)) image-4271
-    ∷ outcome (answered (replied (numbers ((some 6) ∷ [])))) image-4271
-    ∷ outcome (answered (said false 0)) image-4271
-    ∷ outcome (answered (picked ((pieceBlock 2 1) ∷ []) 3104 (0 ∷ 3 ∷ 0 ∷ 0 ∷ 1 ∷ 0 ∷ 0 ∷ []) 1)) image-4271
-    ∷ outcome (answered (refused OutOfRange)) image-4271
-    ∷ outcome (answered (refused NotWriting)) image-4271
-    ∷ outcome (answered (picked [] 10408 (0 ∷ 2 ∷ 0 ∷ 2 ∷ 0 ∷ 0 ∷ 0 ∷ []) 0)) image-4279
-    ∷ outcome (answered (refused FewDraws)) image-4279
-    ∷ outcome (answered (refused OutOfRange)) image-4279
-    ∷ []
-unfolding replaying
-calls-4266 = refl
-
-abbrev image-4307 : List ℕ
-image-4307 =
+abbrev image-4043 : List ℕ
+image-4043 =
     1 ∷ 0 ∷ 0 ∷ 0 ∷ 0 ∷ 0 ∷ 3 ∷ 0 ∷ 1 ∷ 0 ∷ 1 ∷ 0 ∷ 0 ∷ 0 ∷ 0 ∷ 0 ∷ 0 ∷ 0 ∷ 4 ∷ 0 ∷ 0 ∷ 0 ∷ 1 ∷ 1 ∷
     2 ∷ 0 ∷ 1 ∷ 1 ∷ 7 ∷ 0 ∷ 0 ∷ 0 ∷ 0 ∷ 0 ∷
     2 ∷ 0 ∷ 2 ∷ 5 ∷ 4 ∷ 0 ∷ 0 ∷ 0 ∷ 0 ∷ 0 ∷
@@ -1744,292 +1795,123 @@ image-4307 =
     4 ∷ 1 ∷ 0 ∷ 0 ∷ 1 ∷ 0 ∷ 0 ∷ 0 ∷ 0 ∷ 0 ∷ 0 ∷ 0 ∷ 3 ∷
     4 ∷ 2 ∷ 0 ∷ 0 ∷ 1 ∷ 0 ∷ 0 ∷ 0 ∷ 0 ∷ 0 ∷ 0 ∷ 0 ∷ 1 ∷ []
 
-abbrev image-4311 : List ℕ
-image-4311 =
-    1 ∷ 0 ∷ 0 ∷ 0 ∷ 0 ∷ 0 ∷ 3 ∷ 0 ∷ 1 ∷ 0 ∷ 1 ∷ 0 ∷ 0 ∷ 0 ∷ 1 ∷ 0 ∷ 0 ∷ 0 ∷ 4 ∷ 0 ∷ 0 ∷ 0 ∷ 1 ∷ 1 ∷
-    2 ∷ 0 ∷ 1 ∷ 1 ∷ 7 ∷ 0 ∷ 0 ∷ 0 ∷ 0 ∷ 0 ∷
-    2 ∷ 0 ∷ 2 ∷ 5 ∷ 4 ∷ 0 ∷ 0 ∷ 0 ∷ 0 ∷ 0 ∷
-    2 ∷ 0 ∷ 0 ∷ 6 ∷ 7 ∷ 0 ∷ 0 ∷ 1 ∷ 0 ∷ 0 ∷
-    2 ∷ 0 ∷ 2 ∷ 4 ∷ 0 ∷ 0 ∷ 0 ∷ 0 ∷ 0 ∷ 1 ∷
-    3 ∷ 0 ∷ 0 ∷ 0 ∷ 0 ∷ 0 ∷
-    4 ∷ 1 ∷ 0 ∷ 2 ∷ 1 ∷ 0 ∷ 0 ∷ 0 ∷ 0 ∷ 0 ∷ 0 ∷ 0 ∷ 0 ∷
-    4 ∷ 1 ∷ 0 ∷ 2 ∷ 1 ∷ 0 ∷ 0 ∷ 0 ∷ 0 ∷ 0 ∷ 0 ∷ 0 ∷ 0 ∷
-    4 ∷ 1 ∷ 0 ∷ 2 ∷ 1 ∷ 0 ∷ 0 ∷ 0 ∷ 0 ∷ 0 ∷ 0 ∷ 0 ∷ 0 ∷
-    4 ∷ 1 ∷ 0 ∷ 2 ∷ 1 ∷ 0 ∷ 0 ∷ 0 ∷ 0 ∷ 0 ∷ 0 ∷ 0 ∷ 0 ∷
-    3 ∷ 0 ∷ 0 ∷ 0 ∷ 1 ∷ 4 ∷
-    4 ∷ 0 ∷ 0 ∷ 0 ∷ 1 ∷ 0 ∷ 0 ∷ 0 ∷ 0 ∷ 0 ∷ 0 ∷ 0 ∷ 2 ∷
-    4 ∷ 2 ∷ 0 ∷ 0 ∷ 1 ∷ 0 ∷ 0 ∷ 0 ∷ 0 ∷ 0 ∷ 0 ∷ 0 ∷ 3 ∷
-    4 ∷ 0 ∷ 0 ∷ 0 ∷ 1 ∷ 255 ∷ 255 ∷ 255 ∷ 255 ∷ 255 ∷ 255 ∷ 255 ∷ 255 ∷
-    4 ∷ 0 ∷ 0 ∷ 0 ∷ 1 ∷ 255 ∷ 255 ∷ 255 ∷ 255 ∷ 255 ∷ 255 ∷ 255 ∷ 255 ∷
-    3 ∷ 0 ∷ 0 ∷ 0 ∷ 2 ∷ 2 ∷
-    4 ∷ 1 ∷ 0 ∷ 2 ∷ 1 ∷ 255 ∷ 255 ∷ 255 ∷ 255 ∷ 255 ∷ 255 ∷ 255 ∷ 255 ∷
-    4 ∷ 3 ∷ 0 ∷ 0 ∷ 1 ∷ 0 ∷ 0 ∷ 0 ∷ 0 ∷ 0 ∷ 0 ∷ 0 ∷ 3 ∷
-    4 ∷ 1 ∷ 0 ∷ 0 ∷ 1 ∷ 0 ∷ 0 ∷ 0 ∷ 0 ∷ 0 ∷ 0 ∷ 0 ∷ 3 ∷
-    4 ∷ 2 ∷ 0 ∷ 0 ∷ 1 ∷ 0 ∷ 0 ∷ 0 ∷ 0 ∷ 0 ∷ 0 ∷ 0 ∷ 1 ∷ []
-
-abbrev image-4312 : List ℕ
-image-4312 =
-    1 ∷ 0 ∷ 0 ∷ 0 ∷ 0 ∷ 0 ∷ 3 ∷ 0 ∷ 1 ∷ 0 ∷ 1 ∷ 0 ∷ 0 ∷ 0 ∷ 1 ∷ 0 ∷ 0 ∷ 0 ∷ 4 ∷ 0 ∷ 0 ∷ 0 ∷ 1 ∷ 1 ∷
-    2 ∷ 0 ∷ 1 ∷ 1 ∷ 7 ∷ 0 ∷ 0 ∷ 0 ∷ 0 ∷ 0 ∷
-    2 ∷ 0 ∷ 2 ∷ 5 ∷ 4 ∷ 0 ∷ 0 ∷ 0 ∷ 0 ∷ 0 ∷
-    2 ∷ 0 ∷ 0 ∷ 6 ∷ 7 ∷ 0 ∷ 0 ∷ 1 ∷ 0 ∷ 0 ∷
-    2 ∷ 0 ∷ 2 ∷ 4 ∷ 0 ∷ 0 ∷ 0 ∷ 0 ∷ 0 ∷ 1 ∷
-    3 ∷ 0 ∷ 0 ∷ 0 ∷ 0 ∷ 0 ∷
-    4 ∷ 1 ∷ 0 ∷ 2 ∷ 1 ∷ 0 ∷ 0 ∷ 0 ∷ 0 ∷ 0 ∷ 0 ∷ 0 ∷ 0 ∷
-    4 ∷ 2 ∷ 0 ∷ 0 ∷ 1 ∷ 0 ∷ 0 ∷ 0 ∷ 0 ∷ 0 ∷ 0 ∷ 0 ∷ 1 ∷
-    4 ∷ 1 ∷ 0 ∷ 2 ∷ 1 ∷ 0 ∷ 0 ∷ 0 ∷ 0 ∷ 0 ∷ 0 ∷ 0 ∷ 0 ∷
-    4 ∷ 1 ∷ 0 ∷ 2 ∷ 1 ∷ 0 ∷ 0 ∷ 0 ∷ 0 ∷ 0 ∷ 0 ∷ 0 ∷ 0 ∷
-    3 ∷ 0 ∷ 0 ∷ 0 ∷ 1 ∷ 4 ∷
-    4 ∷ 0 ∷ 0 ∷ 0 ∷ 1 ∷ 0 ∷ 0 ∷ 0 ∷ 0 ∷ 0 ∷ 0 ∷ 0 ∷ 2 ∷
-    4 ∷ 2 ∷ 0 ∷ 0 ∷ 1 ∷ 0 ∷ 0 ∷ 0 ∷ 0 ∷ 0 ∷ 0 ∷ 0 ∷ 3 ∷
-    4 ∷ 0 ∷ 0 ∷ 0 ∷ 1 ∷ 255 ∷ 255 ∷ 255 ∷ 255 ∷ 255 ∷ 255 ∷ 255 ∷ 255 ∷
-    4 ∷ 0 ∷ 0 ∷ 0 ∷ 1 ∷ 255 ∷ 255 ∷ 255 ∷ 255 ∷ 255 ∷ 255 ∷ 255 ∷ 255 ∷
-    3 ∷ 0 ∷ 0 ∷ 0 ∷ 2 ∷ 2 ∷
-    4 ∷ 1 ∷ 0 ∷ 2 ∷ 1 ∷ 255 ∷ 255 ∷ 255 ∷ 255 ∷ 255 ∷ 255 ∷ 255 ∷ 255 ∷
-    4 ∷ 3 ∷ 0 ∷ 0 ∷ 1 ∷ 0 ∷ 0 ∷ 0 ∷ 0 ∷ 0 ∷ 0 ∷ 0 ∷ 3 ∷
-    4 ∷ 1 ∷ 0 ∷ 0 ∷ 1 ∷ 0 ∷ 0 ∷ 0 ∷ 0 ∷ 0 ∷ 0 ∷ 0 ∷ 3 ∷
-    4 ∷ 2 ∷ 0 ∷ 0 ∷ 1 ∷ 0 ∷ 0 ∷ 0 ∷ 0 ∷ 0 ∷ 0 ∷ 0 ∷ 1 ∷ []
-
-abbrev image-4313 : List ℕ
-image-4313 =
-    1 ∷ 0 ∷ 0 ∷ 0 ∷ 0 ∷ 0 ∷ 3 ∷ 0 ∷ 1 ∷ 0 ∷ 1 ∷ 0 ∷ 0 ∷ 0 ∷ 1 ∷ 0 ∷ 0 ∷ 0 ∷ 4 ∷ 0 ∷ 0 ∷ 0 ∷ 1 ∷ 1 ∷
-    2 ∷ 0 ∷ 1 ∷ 1 ∷ 7 ∷ 0 ∷ 0 ∷ 0 ∷ 0 ∷ 0 ∷
-    2 ∷ 0 ∷ 2 ∷ 5 ∷ 4 ∷ 0 ∷ 0 ∷ 0 ∷ 0 ∷ 0 ∷
-    2 ∷ 0 ∷ 0 ∷ 6 ∷ 7 ∷ 0 ∷ 0 ∷ 1 ∷ 0 ∷ 0 ∷
-    2 ∷ 0 ∷ 2 ∷ 4 ∷ 0 ∷ 0 ∷ 0 ∷ 0 ∷ 0 ∷ 1 ∷
-    3 ∷ 0 ∷ 0 ∷ 0 ∷ 0 ∷ 0 ∷
-    4 ∷ 1 ∷ 0 ∷ 2 ∷ 1 ∷ 0 ∷ 0 ∷ 0 ∷ 0 ∷ 0 ∷ 0 ∷ 0 ∷ 0 ∷
-    4 ∷ 2 ∷ 0 ∷ 0 ∷ 1 ∷ 0 ∷ 0 ∷ 0 ∷ 0 ∷ 0 ∷ 0 ∷ 0 ∷ 1 ∷
-    4 ∷ 1 ∷ 0 ∷ 2 ∷ 1 ∷ 0 ∷ 0 ∷ 0 ∷ 0 ∷ 0 ∷ 0 ∷ 0 ∷ 0 ∷
-    4 ∷ 1 ∷ 0 ∷ 2 ∷ 1 ∷ 0 ∷ 0 ∷ 0 ∷ 0 ∷ 0 ∷ 0 ∷ 0 ∷ 0 ∷
-    3 ∷ 0 ∷ 0 ∷ 0 ∷ 1 ∷ 5 ∷
-    4 ∷ 0 ∷ 0 ∷ 0 ∷ 1 ∷ 0 ∷ 0 ∷ 0 ∷ 0 ∷ 0 ∷ 0 ∷ 0 ∷ 2 ∷
-    4 ∷ 2 ∷ 0 ∷ 0 ∷ 1 ∷ 0 ∷ 0 ∷ 0 ∷ 0 ∷ 0 ∷ 0 ∷ 0 ∷ 3 ∷
-    4 ∷ 0 ∷ 0 ∷ 0 ∷ 1 ∷ 255 ∷ 255 ∷ 255 ∷ 255 ∷ 255 ∷ 255 ∷ 255 ∷ 255 ∷
-    4 ∷ 0 ∷ 0 ∷ 0 ∷ 1 ∷ 255 ∷ 255 ∷ 255 ∷ 255 ∷ 255 ∷ 255 ∷ 255 ∷ 255 ∷
-    3 ∷ 0 ∷ 0 ∷ 0 ∷ 2 ∷ 2 ∷
-    4 ∷ 1 ∷ 0 ∷ 2 ∷ 1 ∷ 255 ∷ 255 ∷ 255 ∷ 255 ∷ 255 ∷ 255 ∷ 255 ∷ 255 ∷
-    4 ∷ 3 ∷ 0 ∷ 0 ∷ 1 ∷ 0 ∷ 0 ∷ 0 ∷ 0 ∷ 0 ∷ 0 ∷ 0 ∷ 3 ∷
-    4 ∷ 1 ∷ 0 ∷ 0 ∷ 1 ∷ 0 ∷ 0 ∷ 0 ∷ 0 ∷ 0 ∷ 0 ∷ 0 ∷ 3 ∷
-    4 ∷ 2 ∷ 0 ∷ 0 ∷ 1 ∷ 0 ∷ 0 ∷ 0 ∷ 0 ∷ 0 ∷ 0 ∷ 0 ∷ 1 ∷ []
-
-abbrev image-4314 : List ℕ
-image-4314 =
-    1 ∷ 0 ∷ 0 ∷ 0 ∷ 0 ∷ 0 ∷ 3 ∷ 0 ∷ 1 ∷ 0 ∷ 1 ∷ 0 ∷ 0 ∷ 0 ∷ 2 ∷ 0 ∷ 0 ∷ 0 ∷ 4 ∷ 0 ∷ 0 ∷ 0 ∷ 1 ∷ 1 ∷
-    2 ∷ 0 ∷ 1 ∷ 1 ∷ 7 ∷ 0 ∷ 0 ∷ 0 ∷ 0 ∷ 0 ∷
-    2 ∷ 0 ∷ 2 ∷ 5 ∷ 4 ∷ 0 ∷ 0 ∷ 0 ∷ 0 ∷ 0 ∷
-    2 ∷ 0 ∷ 0 ∷ 6 ∷ 7 ∷ 0 ∷ 0 ∷ 1 ∷ 0 ∷ 0 ∷
-    2 ∷ 0 ∷ 2 ∷ 4 ∷ 0 ∷ 0 ∷ 0 ∷ 0 ∷ 0 ∷ 1 ∷
-    3 ∷ 0 ∷ 0 ∷ 0 ∷ 0 ∷ 0 ∷
-    4 ∷ 1 ∷ 0 ∷ 2 ∷ 1 ∷ 0 ∷ 0 ∷ 0 ∷ 0 ∷ 0 ∷ 0 ∷ 0 ∷ 0 ∷
-    4 ∷ 2 ∷ 0 ∷ 0 ∷ 1 ∷ 0 ∷ 0 ∷ 0 ∷ 0 ∷ 0 ∷ 0 ∷ 0 ∷ 1 ∷
-    4 ∷ 1 ∷ 0 ∷ 2 ∷ 1 ∷ 0 ∷ 0 ∷ 0 ∷ 0 ∷ 0 ∷ 0 ∷ 0 ∷ 0 ∷
-    4 ∷ 1 ∷ 0 ∷ 2 ∷ 1 ∷ 0 ∷ 0 ∷ 0 ∷ 0 ∷ 0 ∷ 0 ∷ 0 ∷ 0 ∷
-    3 ∷ 0 ∷ 0 ∷ 0 ∷ 1 ∷ 5 ∷
-    4 ∷ 0 ∷ 0 ∷ 0 ∷ 1 ∷ 0 ∷ 0 ∷ 0 ∷ 0 ∷ 0 ∷ 0 ∷ 0 ∷ 2 ∷
-    4 ∷ 2 ∷ 0 ∷ 0 ∷ 1 ∷ 0 ∷ 0 ∷ 0 ∷ 0 ∷ 0 ∷ 0 ∷ 0 ∷ 3 ∷
-    4 ∷ 0 ∷ 0 ∷ 0 ∷ 1 ∷ 255 ∷ 255 ∷ 255 ∷ 255 ∷ 255 ∷ 255 ∷ 255 ∷ 255 ∷
-    4 ∷ 0 ∷ 0 ∷ 0 ∷ 1 ∷ 255 ∷ 255 ∷ 255 ∷ 255 ∷ 255 ∷ 255 ∷ 255 ∷ 255 ∷
-    3 ∷ 0 ∷ 0 ∷ 0 ∷ 2 ∷ 2 ∷
-    4 ∷ 1 ∷ 0 ∷ 2 ∷ 1 ∷ 255 ∷ 255 ∷ 255 ∷ 255 ∷ 255 ∷ 255 ∷ 255 ∷ 255 ∷
-    4 ∷ 3 ∷ 0 ∷ 0 ∷ 1 ∷ 0 ∷ 0 ∷ 0 ∷ 0 ∷ 0 ∷ 0 ∷ 0 ∷ 3 ∷
-    4 ∷ 1 ∷ 0 ∷ 0 ∷ 1 ∷ 0 ∷ 0 ∷ 0 ∷ 0 ∷ 0 ∷ 0 ∷ 0 ∷ 3 ∷
-    4 ∷ 2 ∷ 0 ∷ 0 ∷ 1 ∷ 0 ∷ 0 ∷ 0 ∷ 0 ∷ 0 ∷ 0 ∷ 0 ∷ 1 ∷ []
-
--- calls 4307 to 4317
-calls-4307 :
+-- calls 4043 to 4045
+calls-4043 :
     outcomes none
-    (read-line 1000000 image-4307
-    ∷ call-line 1000000 (mark-as-downloading 5 0 none 128 (words 5000 []))
-    ∷ call-line 1000000 (inc-refcount 1 (words 4351 []))
-    ∷ call-line 1000000 (pick-pieces (asking 98 3 1 1 (some 18446744073709551615) 4 (255 ∷ []) []) 4351 (words 4352 (2115268340 ∷ [])))
-    ∷ call-line 1000000 inc-refcount-all
-    ∷ call-line 1000000 (mark-as-writing 0 1 (some 1) (words 4352 []))
-    ∷ call-line 1000000 (piece-passed 1)
-    ∷ call-line 1000000 inc-refcount-all
-    ∷ call-line 1000000 (pick-pieces (asking 106 3 0 5 (some 3) 4 (255 ∷ []) (1 ∷ 3 ∷ [])) 4351 (words 4352 []))
-    ∷ call-line 1000000 (mark-as-writing 1 3 (some 3) (words 0 []))
-    ∷ call-line 1000000 (question (ofBlock get-downloader 9223372036854775807 0))
+    (read-line plenty image-4043
+    ∷ call-line plenty (mark-as-downloading 5 0 none 128 (words 5000 []))
+    ∷ call-line plenty (inc-refcount 1 (words 4351 []))
     ∷ [])
-    ≡ outcome stands image-4307
-    ∷ outcome (answered (refused OutOfRange)) image-4307
-    ∷ outcome (answered (refused FewDraws)) image-4307
-    ∷ outcome (answered (picked ((pieceBlock 1 2) ∷ (pieceBlock 1 3) ∷ (pieceBlock 1 0) ∷ []) 3072 (0 ∷ 0 ∷ 0 ∷ 0 ∷ 0 ∷ 0 ∷ 0 ∷ []) 1)) image-4307
-    ∷ outcome (answered (done 0)) image-4311
-    ∷ outcome (answered (said true 0)) image-4312
-    ∷ outcome (answered (done 0)) image-4313
-    ∷ outcome (answered (done 0)) image-4314
-    ∷ outcome (answered (picked ((pieceBlock 1 0) ∷ (pieceBlock 1 2) ∷ (pieceBlock 1 3) ∷ []) 2 (1 ∷ 0 ∷ 0 ∷ 0 ∷ 0 ∷ 0 ∷ 0 ∷ []) 0)) image-4314
-    ∷ outcome (answered (refused FewDraws)) image-4314
-    ∷ outcome (answered (refused OutOfRange)) image-4314
+    ≡ outcome stands image-4043
+    ∷ outcome (answered (refused OutOfRange)) image-4043
+    ∷ outcome (answered (refused FewDraws)) image-4043
     ∷ []
 unfolding replaying
-calls-4307 = refl
+calls-4043 = refl
 
-abbrev image-4386 : List ℕ
-image-4386 =
-    1 ∷ 0 ∷ 0 ∷ 0 ∷ 0 ∷ 0 ∷ 0 ∷ 0 ∷ 9 ∷ 0 ∷ 0 ∷ 0 ∷ 3 ∷ 0 ∷ 0 ∷ 0 ∷ 0 ∷ 0 ∷ 2 ∷ 0 ∷ 0 ∷ 0 ∷ 2 ∷ 1 ∷
-    2 ∷ 0 ∷ 0 ∷ 4 ∷ 4 ∷ 0 ∷ 0 ∷ 0 ∷ 0 ∷ 3 ∷
-    2 ∷ 0 ∷ 1 ∷ 4 ∷ 7 ∷ 1 ∷ 0 ∷ 0 ∷ 0 ∷ 3 ∷
-    2 ∷ 0 ∷ 5 ∷ 4 ∷ 7 ∷ 0 ∷ 0 ∷ 0 ∷ 0 ∷ 3 ∷
-    5 ∷ 0 ∷ 0 ∷ 0 ∷ 0 ∷ []
+abbrev image-4052 : List ℕ
+image-4052 =
+    1 ∷ 0 ∷ 0 ∷ 0 ∷ 0 ∷ 0 ∷ 0 ∷ 64 ∷ 1 ∷ 0 ∷ 0 ∷ 64 ∷ 0 ∷ 0 ∷ 0 ∷ 0 ∷ 0 ∷ 0 ∷ 2 ∷ 0 ∷ 0 ∷ 0 ∷ 2 ∷ 0 ∷
+    2 ∷ 0 ∷ 9 ∷ 4 ∷ 1 ∷ 0 ∷ 0 ∷ 0 ∷ 64 ∷ 0 ∷
+    2 ∷ 0 ∷ 0 ∷ 4 ∷ 6 ∷ 1 ∷ 0 ∷ 0 ∷ 0 ∷ 0 ∷
+    5 ∷ 0 ∷ 0 ∷ 0 ∷ 0 ∷
+    6 ∷ 0 ∷ 0 ∷ 0 ∷ 0 ∷ []
 
--- calls 4386 to 4391
-calls-4386 :
+-- calls 4052 to 4057
+calls-4052 :
     outcomes none
-    (read-line 1000000 image-4386
-    ∷ call-line 1000000 (question (ofBlock is-requested 0 0))
-    ∷ call-line 1000000 (question (ofBlock block-state 4 1))
-    ∷ call-line 1000000 (pick-pieces (asking 190 0 2 5 none 2 (255 ∷ []) (0 ∷ [])) 4351 (words 4352 []))
-    ∷ call-line 1000000 (piece-passed 2)
-    ∷ call-line 1000000 (question (listOfPiece get-downloaders 2 1000000))
+    (read-line plenty image-4052
+    ∷ call-line plenty (question (ofPiece piece-info 0))
+    ∷ call-line plenty (mark-as-finished 1 0 (some 2) (words 4352 []))
+    ∷ call-line plenty (question (partial-at 0))
+    ∷ call-line plenty (mark-as-downloading 0 4294967296 (some 18446744073709551615) 130 (words 5000 []))
+    ∷ call-line plenty (mark-as-writing 1 0 (some 0) (words 4352 []))
     ∷ [])
-    ≡ outcome stands image-4386
-    ∷ outcome (answered (replied (numbers ((some 0) ∷ [])))) image-4386
-    ∷ outcome (answered (refused OutOfRange)) image-4386
-    ∷ outcome (answered (refused PickArguments)) image-4386
-    ∷ outcome (answered (done 0)) image-4386
-    ∷ outcome (answered (replied (numbers (none ∷ [])))) image-4386
+    ≡ outcome stands image-4052
+    ∷ outcome (answered (replied (numbers ((some 0) ∷ (some 0) ∷ (some 0) ∷ (some 0) ∷ (some 0) ∷ (some 0) ∷ (some 0) ∷ [])))) image-4052
+    ∷ outcome (answered (done 0)) image-4052
+    ∷ outcome (answered (replied nothing)) image-4052
+    ∷ outcome (answered (refused OutOfRange)) image-4052
+    ∷ outcome (answered (said false 0)) image-4052
     ∷ []
 unfolding replaying
-calls-4386 = refl
+calls-4052 = refl
 
-abbrev image-4806 : List ℕ
-image-4806 =
-    1 ∷ 0 ∷ 0 ∷ 0 ∷ 0 ∷ 0 ∷ 2 ∷ 0 ∷ 0 ∷ 0 ∷ 0 ∷ 128 ∷ 0 ∷ 0 ∷ 1 ∷ 0 ∷ 0 ∷ 0 ∷ 0 ∷ 0 ∷ 0 ∷ 0 ∷ 0 ∷ 1 ∷
-    2 ∷ 0 ∷ 1 ∷ 4 ∷ 4 ∷ 0 ∷ 0 ∷ 0 ∷ 0 ∷ 0 ∷
-    2 ∷ 0 ∷ 3 ∷ 0 ∷ 6 ∷ 0 ∷ 0 ∷ 0 ∷ 0 ∷ 0 ∷
-    2 ∷ 3 ∷ 230 ∷ 4 ∷ 4 ∷ 0 ∷ 0 ∷ 0 ∷ 0 ∷ 0 ∷
-    2 ∷ 0 ∷ 0 ∷ 1 ∷ 7 ∷ 0 ∷ 0 ∷ 0 ∷ 0 ∷ 0 ∷
+abbrev image-4446 : List ℕ
+image-4446 =
+    1 ∷ 0 ∷ 0 ∷ 0 ∷ 0 ∷ 0 ∷ 0 ∷ 192 ∷ 1 ∷ 0 ∷ 0 ∷ 64 ∷ 0 ∷ 0 ∷ 0 ∷ 0 ∷ 0 ∷ 0 ∷ 3 ∷ 0 ∷ 0 ∷ 0 ∷ 0 ∷ 0 ∷
+    2 ∷ 0 ∷ 2 ∷ 6 ∷ 6 ∷ 0 ∷ 0 ∷ 0 ∷ 64 ∷ 0 ∷
+    2 ∷ 3 ∷ 232 ∷ 2 ∷ 7 ∷ 0 ∷ 0 ∷ 0 ∷ 0 ∷ 0 ∷
+    2 ∷ 0 ∷ 1 ∷ 6 ∷ 7 ∷ 0 ∷ 0 ∷ 0 ∷ 0 ∷ 0 ∷
+    2 ∷ 0 ∷ 2 ∷ 2 ∷ 4 ∷ 0 ∷ 0 ∷ 0 ∷ 0 ∷ 0 ∷
+    3 ∷ 0 ∷ 0 ∷ 0 ∷ 0 ∷ 5 ∷
+    4 ∷ 1 ∷ 0 ∷ 3 ∷ 1 ∷ 0 ∷ 0 ∷ 0 ∷ 0 ∷ 0 ∷ 0 ∷ 0 ∷ 3 ∷
     3 ∷ 0 ∷ 0 ∷ 0 ∷ 1 ∷ 0 ∷
-    4 ∷ 0 ∷ 0 ∷ 0 ∷ 1 ∷ 0 ∷ 0 ∷ 0 ∷ 0 ∷ 0 ∷ 0 ∷ 0 ∷ 2 ∷
-    4 ∷ 1 ∷ 3 ∷ 231 ∷ 1 ∷ 0 ∷ 0 ∷ 0 ∷ 0 ∷ 0 ∷ 0 ∷ 0 ∷ 1 ∷
-    3 ∷ 0 ∷ 0 ∷ 0 ∷ 3 ∷ 0 ∷
-    4 ∷ 1 ∷ 0 ∷ 2 ∷ 1 ∷ 0 ∷ 0 ∷ 0 ∷ 0 ∷ 0 ∷ 0 ∷ 0 ∷ 2 ∷
-    4 ∷ 1 ∷ 0 ∷ 2 ∷ 1 ∷ 0 ∷ 0 ∷ 0 ∷ 0 ∷ 0 ∷ 0 ∷ 0 ∷ 2 ∷ []
+    4 ∷ 3 ∷ 0 ∷ 1 ∷ 1 ∷ 0 ∷ 0 ∷ 0 ∷ 0 ∷ 0 ∷ 0 ∷ 0 ∷ 2 ∷
+    3 ∷ 0 ∷ 0 ∷ 0 ∷ 2 ∷ 1 ∷
+    4 ∷ 0 ∷ 3 ∷ 231 ∷ 1 ∷ 0 ∷ 0 ∷ 0 ∷ 0 ∷ 0 ∷ 0 ∷ 0 ∷ 3 ∷
+    3 ∷ 0 ∷ 0 ∷ 0 ∷ 3 ∷ 4 ∷
+    4 ∷ 2 ∷ 0 ∷ 0 ∷ 1 ∷ 0 ∷ 0 ∷ 0 ∷ 0 ∷ 0 ∷ 0 ∷ 0 ∷ 1 ∷
+    6 ∷ 0 ∷ 0 ∷ 0 ∷ 2 ∷
+    6 ∷ 0 ∷ 0 ∷ 0 ∷ 0 ∷ []
 
-abbrev image-4808 : List ℕ
-image-4808 =
-    1 ∷ 0 ∷ 0 ∷ 0 ∷ 0 ∷ 0 ∷ 2 ∷ 0 ∷ 0 ∷ 0 ∷ 0 ∷ 128 ∷ 0 ∷ 0 ∷ 1 ∷ 0 ∷ 0 ∷ 0 ∷ 0 ∷ 0 ∷ 0 ∷ 0 ∷ 0 ∷ 1 ∷
-    2 ∷ 0 ∷ 1 ∷ 4 ∷ 4 ∷ 0 ∷ 0 ∷ 0 ∷ 0 ∷ 0 ∷
-    2 ∷ 0 ∷ 2 ∷ 0 ∷ 6 ∷ 0 ∷ 0 ∷ 0 ∷ 0 ∷ 0 ∷
-    2 ∷ 3 ∷ 230 ∷ 4 ∷ 4 ∷ 0 ∷ 0 ∷ 0 ∷ 0 ∷ 0 ∷
-    2 ∷ 0 ∷ 0 ∷ 1 ∷ 7 ∷ 0 ∷ 0 ∷ 0 ∷ 0 ∷ 0 ∷
-    3 ∷ 0 ∷ 0 ∷ 0 ∷ 1 ∷ 0 ∷
-    4 ∷ 0 ∷ 0 ∷ 0 ∷ 1 ∷ 0 ∷ 0 ∷ 0 ∷ 0 ∷ 0 ∷ 0 ∷ 0 ∷ 2 ∷
-    4 ∷ 1 ∷ 3 ∷ 231 ∷ 1 ∷ 0 ∷ 0 ∷ 0 ∷ 0 ∷ 0 ∷ 0 ∷ 0 ∷ 1 ∷
-    3 ∷ 0 ∷ 0 ∷ 0 ∷ 3 ∷ 0 ∷
-    4 ∷ 1 ∷ 0 ∷ 2 ∷ 1 ∷ 0 ∷ 0 ∷ 0 ∷ 0 ∷ 0 ∷ 0 ∷ 0 ∷ 2 ∷
-    4 ∷ 1 ∷ 0 ∷ 2 ∷ 1 ∷ 0 ∷ 0 ∷ 0 ∷ 0 ∷ 0 ∷ 0 ∷ 0 ∷ 2 ∷ []
-
-abbrev image-4809 : List ℕ
-image-4809 =
-    1 ∷ 0 ∷ 0 ∷ 0 ∷ 0 ∷ 0 ∷ 2 ∷ 0 ∷ 0 ∷ 0 ∷ 0 ∷ 128 ∷ 0 ∷ 0 ∷ 1 ∷ 0 ∷ 0 ∷ 0 ∷ 0 ∷ 0 ∷ 0 ∷ 0 ∷ 0 ∷ 1 ∷
-    2 ∷ 0 ∷ 1 ∷ 4 ∷ 4 ∷ 0 ∷ 0 ∷ 0 ∷ 0 ∷ 0 ∷
-    2 ∷ 0 ∷ 2 ∷ 0 ∷ 6 ∷ 0 ∷ 0 ∷ 0 ∷ 0 ∷ 0 ∷
-    2 ∷ 3 ∷ 230 ∷ 4 ∷ 4 ∷ 0 ∷ 0 ∷ 0 ∷ 0 ∷ 0 ∷
-    2 ∷ 0 ∷ 0 ∷ 3 ∷ 0 ∷ 0 ∷ 0 ∷ 0 ∷ 0 ∷ 0 ∷
-    3 ∷ 0 ∷ 0 ∷ 0 ∷ 1 ∷ 0 ∷
-    4 ∷ 0 ∷ 0 ∷ 0 ∷ 1 ∷ 0 ∷ 0 ∷ 0 ∷ 0 ∷ 0 ∷ 0 ∷ 0 ∷ 2 ∷
-    4 ∷ 1 ∷ 3 ∷ 231 ∷ 1 ∷ 0 ∷ 0 ∷ 0 ∷ 0 ∷ 0 ∷ 0 ∷ 0 ∷ 1 ∷
-    3 ∷ 0 ∷ 0 ∷ 0 ∷ 3 ∷ 0 ∷
-    4 ∷ 1 ∷ 0 ∷ 2 ∷ 1 ∷ 0 ∷ 0 ∷ 0 ∷ 0 ∷ 0 ∷ 0 ∷ 0 ∷ 2 ∷
-    4 ∷ 1 ∷ 0 ∷ 2 ∷ 1 ∷ 0 ∷ 0 ∷ 0 ∷ 0 ∷ 0 ∷ 0 ∷ 0 ∷ 2 ∷ []
-
--- calls 4806 to 4810
-calls-4806 :
+-- calls 4446 to 4447
+calls-4446 :
     outcomes none
-    (read-line 1000000 image-4806
-    ∷ call-line 1000000 (pick-pieces (asking 40964 8 2047 10 (some 3) 4 (255 ∷ []) (3 ∷ 0 ∷ 0 ∷ 3 ∷ 3 ∷ 3 ∷ 0 ∷ 1 ∷ 3 ∷ 2 ∷ 2 ∷ 1 ∷ 1 ∷ 2 ∷ 3 ∷ 0 ∷ 3 ∷ 2 ∷ 1 ∷ 1 ∷ [])) 4351 (words 4352 (193617407 ∷ [])))
-    ∷ call-line 1000000 (dec-refcount 1 (words 5000 []))
-    ∷ call-line 1000000 (set-piece-priority 3 0 (words 4352 []))
-    ∷ call-line 1000000 (question (ofPiece locked? 0))
+    (read-line plenty image-4446
+    ∷ call-line plenty (question (ofPiece passed-hash-check 2))
     ∷ [])
-    ≡ outcome stands image-4806
-    ∷ outcome (answered (picked ((pieceBlock 0 0) ∷ (pieceBlock 0 1) ∷ (pieceBlock 2 0) ∷ (pieceBlock 2 1) ∷ []) 10272 (0 ∷ 20 ∷ 0 ∷ 0 ∷ 4 ∷ 0 ∷ 0 ∷ []) 1)) image-4806
-    ∷ outcome (answered (done 0)) image-4808
-    ∷ outcome (answered (said true 0)) image-4809
-    ∷ outcome (answered (replied nothing)) image-4809
+    ≡ outcome stands image-4446
+    ∷ outcome (answered (replied (numbers ((some 1) ∷ [])))) image-4446
     ∷ []
 unfolding replaying
-calls-4806 = refl
+calls-4446 = refl
 
-abbrev image-4866 : List ℕ
-image-4866 =
-    1 ∷ 0 ∷ 0 ∷ 0 ∷ 0 ∷ 0 ∷ 0 ∷ 128 ∷ 1 ∷ 0 ∷ 0 ∷ 128 ∷ 0 ∷ 0 ∷ 0 ∷ 0 ∷ 0 ∷ 0 ∷ 0 ∷ 0 ∷ 0 ∷ 0 ∷ 2 ∷ 1 ∷
-    2 ∷ 0 ∷ 0 ∷ 4 ∷ 4 ∷ 0 ∷ 0 ∷ 0 ∷ 0 ∷ 0 ∷
-    2 ∷ 0 ∷ 0 ∷ 4 ∷ 4 ∷ 0 ∷ 0 ∷ 0 ∷ 0 ∷ 0 ∷ []
+abbrev image-4482 : List ℕ
+image-4482 =
+    1 ∷ 0 ∷ 0 ∷ 0 ∷ 0 ∷ 0 ∷ 0 ∷ 0 ∷ 1 ∷ 0 ∷ 0 ∷ 0 ∷ 3 ∷ 0 ∷ 0 ∷ 0 ∷ 0 ∷ 0 ∷ 1 ∷ 0 ∷ 0 ∷ 0 ∷ 1 ∷ 1 ∷
+    2 ∷ 0 ∷ 3 ∷ 3 ∷ 0 ∷ 0 ∷ 0 ∷ 0 ∷ 0 ∷ 0 ∷
+    3 ∷ 0 ∷ 0 ∷ 0 ∷ 0 ∷ 0 ∷
+    4 ∷ 0 ∷ 3 ∷ 231 ∷ 1 ∷ 255 ∷ 255 ∷ 255 ∷ 255 ∷ 255 ∷ 255 ∷ 255 ∷ 255 ∷ []
 
--- calls 4866 to 4867
-calls-4866 :
+-- calls 4482 to 4483
+calls-4482 :
     outcomes none
-    (new-line 1000000 32769 32768
-    ∷ call-line 1000000 (pick-pieces (asking 130 3 0 3 (some 3) 3 (255 ∷ []) []) 4351 (words 4351 []))
+    (read-line plenty image-4482
+    ∷ call-line (lending 1000000 0 1000000) (piece-passed 0)
     ∷ [])
-    ≡ outcome stands image-4866
-    ∷ outcome (answered (refused FewDraws)) image-4866
+    ≡ outcome stands image-4482
+    ∷ outcome (answered (refused ShortMemory)) image-4482
     ∷ []
 unfolding replaying
-calls-4866 = refl
+calls-4482 = refl
 
-abbrev image-4896 : List ℕ
-image-4896 =
-    1 ∷ 0 ∷ 0 ∷ 0 ∷ 0 ∷ 0 ∷ 1 ∷ 31 ∷ 3 ∷ 0 ∷ 0 ∷ 64 ∷ 0 ∷ 0 ∷ 0 ∷ 0 ∷ 0 ∷ 0 ∷ 0 ∷ 0 ∷ 0 ∷ 0 ∷ 5 ∷ 1 ∷
-    2 ∷ 0 ∷ 0 ∷ 4 ∷ 4 ∷ 0 ∷ 0 ∷ 0 ∷ 0 ∷ 0 ∷
-    2 ∷ 0 ∷ 0 ∷ 4 ∷ 4 ∷ 0 ∷ 0 ∷ 0 ∷ 0 ∷ 0 ∷
-    2 ∷ 0 ∷ 0 ∷ 4 ∷ 4 ∷ 0 ∷ 0 ∷ 0 ∷ 0 ∷ 0 ∷
-    2 ∷ 0 ∷ 0 ∷ 4 ∷ 4 ∷ 0 ∷ 0 ∷ 0 ∷ 0 ∷ 0 ∷
-    2 ∷ 0 ∷ 0 ∷ 4 ∷ 4 ∷ 0 ∷ 0 ∷ 0 ∷ 0 ∷ 0 ∷ []
+abbrev image-4602 : List ℕ
+image-4602 =
+    1 ∷ 0 ∷ 0 ∷ 0 ∷ 0 ∷ 0 ∷ 2 ∷ 244 ∷ 113 ∷ 0 ∷ 1 ∷ 0 ∷ 0 ∷ 0 ∷ 0 ∷ 0 ∷ 0 ∷ 0 ∷ 2 ∷ 0 ∷ 0 ∷ 0 ∷ 3 ∷ 0 ∷
+    2 ∷ 0 ∷ 1 ∷ 4 ∷ 7 ∷ 0 ∷ 0 ∷ 0 ∷ 0 ∷ 0 ∷
+    2 ∷ 0 ∷ 0 ∷ 4 ∷ 6 ∷ 1 ∷ 0 ∷ 0 ∷ 0 ∷ 0 ∷
+    2 ∷ 0 ∷ 3 ∷ 1 ∷ 4 ∷ 0 ∷ 0 ∷ 0 ∷ 31 ∷ 242 ∷
+    3 ∷ 0 ∷ 0 ∷ 0 ∷ 2 ∷ 0 ∷
+    4 ∷ 1 ∷ 0 ∷ 1 ∷ 1 ∷ 255 ∷ 255 ∷ 255 ∷ 255 ∷ 255 ∷ 255 ∷ 255 ∷ 255 ∷
+    4 ∷ 2 ∷ 3 ∷ 231 ∷ 1 ∷ 0 ∷ 0 ∷ 0 ∷ 0 ∷ 0 ∷ 0 ∷ 0 ∷ 3 ∷
+    4 ∷ 3 ∷ 0 ∷ 0 ∷ 1 ∷ 0 ∷ 0 ∷ 0 ∷ 0 ∷ 0 ∷ 0 ∷ 0 ∷ 1 ∷
+    4 ∷ 3 ∷ 0 ∷ 3 ∷ 1 ∷ 255 ∷ 255 ∷ 255 ∷ 255 ∷ 255 ∷ 255 ∷ 255 ∷ 255 ∷
+    5 ∷ 0 ∷ 0 ∷ 0 ∷ 0 ∷
+    6 ∷ 0 ∷ 0 ∷ 0 ∷ 0 ∷ []
 
-abbrev image-4901 : List ℕ
-image-4901 =
-    1 ∷ 0 ∷ 0 ∷ 0 ∷ 0 ∷ 0 ∷ 1 ∷ 31 ∷ 3 ∷ 0 ∷ 0 ∷ 64 ∷ 0 ∷ 0 ∷ 0 ∷ 0 ∷ 0 ∷ 0 ∷ 0 ∷ 0 ∷ 0 ∷ 0 ∷ 5 ∷ 1 ∷
-    2 ∷ 0 ∷ 0 ∷ 4 ∷ 4 ∷ 0 ∷ 0 ∷ 0 ∷ 0 ∷ 0 ∷
-    2 ∷ 0 ∷ 1 ∷ 4 ∷ 4 ∷ 0 ∷ 0 ∷ 0 ∷ 0 ∷ 0 ∷
-    2 ∷ 0 ∷ 0 ∷ 4 ∷ 4 ∷ 0 ∷ 0 ∷ 0 ∷ 0 ∷ 0 ∷
-    2 ∷ 0 ∷ 0 ∷ 4 ∷ 4 ∷ 0 ∷ 0 ∷ 0 ∷ 0 ∷ 0 ∷
-    2 ∷ 0 ∷ 0 ∷ 4 ∷ 4 ∷ 0 ∷ 0 ∷ 0 ∷ 0 ∷ 0 ∷ []
-
-abbrev image-4902 : List ℕ
-image-4902 =
-    1 ∷ 0 ∷ 0 ∷ 0 ∷ 0 ∷ 0 ∷ 1 ∷ 31 ∷ 3 ∷ 0 ∷ 0 ∷ 64 ∷ 0 ∷ 0 ∷ 0 ∷ 0 ∷ 0 ∷ 0 ∷ 0 ∷ 0 ∷ 0 ∷ 0 ∷ 5 ∷ 1 ∷
-    2 ∷ 0 ∷ 1 ∷ 4 ∷ 4 ∷ 0 ∷ 0 ∷ 0 ∷ 0 ∷ 0 ∷
-    2 ∷ 0 ∷ 1 ∷ 4 ∷ 4 ∷ 0 ∷ 0 ∷ 0 ∷ 0 ∷ 0 ∷
-    2 ∷ 0 ∷ 0 ∷ 4 ∷ 4 ∷ 0 ∷ 0 ∷ 0 ∷ 0 ∷ 0 ∷
-    2 ∷ 0 ∷ 0 ∷ 4 ∷ 4 ∷ 0 ∷ 0 ∷ 0 ∷ 0 ∷ 0 ∷
-    2 ∷ 0 ∷ 0 ∷ 4 ∷ 4 ∷ 0 ∷ 0 ∷ 0 ∷ 0 ∷ 0 ∷ []
-
-abbrev image-4903 : List ℕ
-image-4903 =
-    1 ∷ 0 ∷ 0 ∷ 0 ∷ 0 ∷ 0 ∷ 1 ∷ 31 ∷ 3 ∷ 0 ∷ 0 ∷ 64 ∷ 0 ∷ 0 ∷ 1 ∷ 0 ∷ 0 ∷ 0 ∷ 0 ∷ 0 ∷ 0 ∷ 0 ∷ 5 ∷ 1 ∷
-    2 ∷ 0 ∷ 1 ∷ 4 ∷ 4 ∷ 0 ∷ 0 ∷ 0 ∷ 0 ∷ 0 ∷
-    2 ∷ 0 ∷ 1 ∷ 4 ∷ 4 ∷ 0 ∷ 0 ∷ 0 ∷ 0 ∷ 0 ∷
-    2 ∷ 0 ∷ 0 ∷ 4 ∷ 4 ∷ 0 ∷ 0 ∷ 0 ∷ 0 ∷ 0 ∷
-    2 ∷ 0 ∷ 0 ∷ 4 ∷ 4 ∷ 0 ∷ 0 ∷ 0 ∷ 0 ∷ 0 ∷
-    2 ∷ 0 ∷ 0 ∷ 4 ∷ 4 ∷ 0 ∷ 0 ∷ 0 ∷ 0 ∷ 0 ∷ []
-
--- calls 4896 to 4904
-calls-4896 :
+-- calls 4602 to 4605
+calls-4602 :
     outcomes none
-    (new-line 1000000 73475 16384
-    ∷ call-line 1000000 (piece-passed 2)
-    ∷ call-line 1000000 (pick-pieces (asking 194 2048 0 10 (some 1) 5 (245 ∷ []) (3 ∷ 4 ∷ [])) 4351 (words 4352 (1712160077 ∷ [])))
-    ∷ call-line 1000000 (abort-download 3 0 (some 18446744073709551615) (words 0 []))
-    ∷ call-line 1000000 (question (list-place 0))
-    ∷ call-line 1000000 (inc-refcount 1 (words 5000 []))
-    ∷ call-line 1000000 (inc-refcount 0 (words 4352 []))
-    ∷ call-line 1000000 inc-refcount-all
-    ∷ call-line 1000000 (set-piece-priority 3 7 (words 4351 []))
+    (read-line plenty image-4602
+    ∷ call-line plenty (pick-pieces (asking 198 1 5 5 (some 2) 3 (255 ∷ []) []) 4351 (words 4352 (10990043 ∷ [])))
+    ∷ call-line plenty (mark-as-finished 2 0 none (words 4352 []))
+    ∷ call-line plenty (set-piece-priority 3 4 (words 1 []))
     ∷ [])
-    ≡ outcome stands image-4896
-    ∷ outcome (answered (done 0)) image-4896
-    ∷ outcome (answered (picked ((pieceBlock 3 0) ∷ (pieceBlock 2 0) ∷ (pieceBlock 0 0) ∷ (pieceBlock 1 0) ∷ []) 9248 (0 ∷ 2 ∷ 0 ∷ 0 ∷ 2 ∷ 0 ∷ 0 ∷ []) 1)) image-4896
-    ∷ outcome (answered (refused FewDraws)) image-4896
-    ∷ outcome (answered (replied staleList)) image-4896
-    ∷ outcome (answered (done 0)) image-4901
-    ∷ outcome (answered (done 0)) image-4902
-    ∷ outcome (answered (done 0)) image-4903
-    ∷ outcome (answered (refused FewDraws)) image-4903
+    ≡ outcome stands image-4602
+    ∷ outcome (answered (picked ((pieceBlock 0 0) ∷ (pieceBlock 0 1) ∷ (pieceBlock 0 2) ∷ (pieceBlock 0 3) ∷ []) 3072 (0 ∷ 0 ∷ 0 ∷ 0 ∷ 0 ∷ 4 ∷ 0 ∷ []) 1)) image-4602
+    ∷ outcome (answered (refused NotWriting)) image-4602
+    ∷ outcome (answered (refused FewDraws)) image-4602
     ∷ []
 unfolding replaying
-calls-4896 = refl
+calls-4602 = refl

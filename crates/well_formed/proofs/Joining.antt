@@ -8,7 +8,7 @@ use lib.ListN.{length, getD}
 use borrow.Author.Tests.{le-leb, lt-leb}
 use Rattle.model.specs.Bep3.{numPieces, wholePieceBlocks}
 use Rattle.model.specs.State.{validGeometry}
-use Rattle.model.specs.Calls.{wordsNeeded}
+use Rattle.layout.specs.Needs.{wordsNeeded}
 use Rattle.layout.specs.Layout.{headWord, piecesOn, blocksOn}
 use Rattle.piece_rows.specs.Memory.{roomy}
 

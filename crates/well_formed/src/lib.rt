@@ -3,9 +3,9 @@
 use geometry::blocks_per_piece;
 use geometry::num_pieces;
 use geometry::valid_geometry;
-use geometry::words_needed;
 use layout::Shape;
 use layout::shape_of;
+use layout::words_needed;
 use partial_rows::partials_ok;
 use piece_rows::extents_ok;
 use piece_rows::head_ok;

@@ -10,7 +10,6 @@ use Rattle.well_formed.proofs.fits.Tie as tie
 use Rattle.well_formed.proofs.fits.Reads as reads
 use Rattle.well_formed.proofs.fits.Lts as lts
 use Rattle.geometry.proofs.blocks_per_piece.Reads as blocks-per-piece-reads
-use Rattle.geometry.proofs.words_needed.Reads as words-needed-reads
 use Rattle.geometry.proofs.num_pieces.Reads as num-pieces-reads
 use Rattle.geometry.proofs.valid_geometry.Reads as valid-geometry-reads
 
