@@ -36,10 +36,12 @@ pub record Term3 : Type 0 where
   -- a picker read from an accepted image has that image
   pub imageKept : (lent : Memory) (bytes : List ℕ) (s : Picker) → readPicker lent bytes ≡ made s → image s ≡ bytes
   -- the image of a picker is accepted, given memory enough, and gives that picker
-  pub imageAccepted : (s : Picker) → Reached s → (lent : Memory) → isShort lent (memoryNeeded s) ≡ false → readPicker lent (image s) ≡ made s
+  pub imageAccepted :
+      (s : Picker) → Reached s → (lent : Memory) → isShort lent (memoryNeeded s) ≡ false → readPicker lent (image s) ≡ made s
   -- taking the image gives it, where memory and room are enough, and never anything else
   pub imageTaken :
-      (s : Picker) (lent : Memory) (room : ℕ) → isShort lent (memoryNeeded s) ≡ false → len (image s) ≤ room → takeImage s lent room ≡ taken (image s)
+      (s : Picker) (lent : Memory) (room : ℕ) → isShort lent (memoryNeeded s) ≡ false → len (image s) ≤ room
+      → takeImage s lent room ≡ taken (image s)
   pub takenImage : (s : Picker) (lent : Memory) (room : ℕ) (bytes : List ℕ) → takeImage s lent room ≡ taken bytes → bytes ≡ image s
   -- calls lead from a picker that is reached to one that is, and the memory needed does not change on the way
   pub reachedStays : (s : Picker) → Reached s → (calls : List Call) → Reached (run s calls)

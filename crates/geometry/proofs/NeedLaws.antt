@@ -8,7 +8,7 @@ use Rattle.model.specs.Lists.{least}
 use Rattle.model.specs.Bep3.{numPieces, wholePieceBlocks}
 use Rattle.model.specs.State.{validGeometry}
 use Rattle.model.specs.Memory.{Memory, partialsNeeded, wordsNeeded, cellsNeeded, memoryFor}
-use Rattle.geometry.specs.Needs.{Small, Parts, largestImage, noMemory, memoryOf, bytesFor}
+use Rattle.geometry.specs.Needs.{Small, Parts, largestImage, noMemory, memoryOf, Lengths, bytesFor}
 use Rattle.geometry.proofs.PartLaws.{least-le}
 
 -- ---- as many partials as there can be
@@ -35,24 +35,22 @@ held-most n b small is = blocks-most n b small is
 
 -- ---- of a geometry
 module _ (totalSize pieceSize : ℕ) where
-  pub memory-valid : validGeometry totalSize pieceSize ≡ true → memoryFor (numPieces totalSize pieceSize) (wholePieceBlocks pieceSize) ≡ memoryOf totalSize pieceSize
+  pub memory-valid : validGeometry totalSize pieceSize ≡ true
+      → memoryFor (numPieces totalSize pieceSize) (wholePieceBlocks pieceSize) ≡ memoryOf totalSize pieceSize
   unfolding memoryOf
   memory-valid h = rw h
 
   -- each length by itself
-  abbrev Lengths : (words cells partials : ℕ) → Type 0
-  Lengths words cells partials =
-      (words ≡ memoryOf totalSize pieceSize .words) × (cells ≡ memoryOf totalSize pieceSize .cells) × (partials ≡ memoryOf totalSize pieceSize .partials)
-
   pub lengths-valid : validGeometry totalSize pieceSize ≡ true → {n b words cells partials : ℕ} → n ≡ numPieces totalSize pieceSize
       → b ≡ wholePieceBlocks pieceSize → words ≡ wordsNeeded n b → cells ≡ cellsNeeded n b → partials ≡ partialsNeeded n
-      → Lengths words cells partials
+      → Lengths (memoryOf totalSize pieceSize) words cells partials
   unfolding memoryOf memoryFor
-  lengths-valid h e f w c p = (rw (h, w, e, f), rw (h, c, e, f), rw (h, p, e))
+  lengths-valid h e f w c p =
+      record { words-same = rw (h, w, e, f); cells-same = rw (h, c, e, f); partials-same = rw (h, p, e) }
 
-  pub lengths-none : validGeometry totalSize pieceSize ≡ false → Lengths 0 0 0
+  pub lengths-none : validGeometry totalSize pieceSize ≡ false → Lengths (memoryOf totalSize pieceSize) 0 0 0
   unfolding memoryOf noMemory
-  lengths-none h = (rw h, rw h, rw h)
+  lengths-none h = record { words-same = rw h; cells-same = rw h; partials-same = rw h }
 
   pub bytes-valid : validGeometry totalSize pieceSize ≡ true → largestImage (numPieces totalSize pieceSize) (wholePieceBlocks pieceSize) ≡ bytesFor totalSize pieceSize
   unfolding bytesFor

@@ -1,5 +1,6 @@
 -- What a picker needs of memory, and how long its image is. Assumes nothing.
 -- `n` is the number of pieces, `b` the number of blocks of a whole piece.
+use mathlib.Core.Path.{_≡_}
 use mathlib.Core.Bool.{cond}
 use mathlib.Core.List.{List, [], _∷_}
 use Prim.Native.Nat.{ℕ, _+_, _*_, _≤_}
@@ -64,6 +65,12 @@ noMemory = record { words = 0; cells = 0; partials = 0 }
 unfoldable pub memoryOf : (totalSize pieceSize : ℕ) → Memory
 memoryOf totalSize pieceSize =
     cond (validGeometry totalSize pieceSize) (memoryFor (numPieces totalSize pieceSize) (wholePieceBlocks pieceSize)) noMemory
+
+-- these are its lengths
+pub record Lengths (memory : Memory) (words cells partials : ℕ) : Type 0 where
+  pub words-same : words ≡ memory .words
+  pub cells-same : cells ≡ memory .cells
+  pub partials-same : partials ≡ memory .partials
 
 -- the bytes of an image
 unfoldable pub bytesFor : (totalSize pieceSize : ℕ) → ℕ

@@ -7,7 +7,7 @@ use types::MAX_EXTENTS;
 use types::MAX_PARTIALS;
 ghost use mathlib.Core.Path.{_≡_};
 ghost use Rattle.model.specs.Memory.{partialsNeeded, wordsNeeded, cellsNeeded};
-ghost use Rattle.geometry.specs.Needs.{Small, Parts, imageLength, largestImage, memoryOf, bytesFor};
+ghost use Rattle.geometry.specs.Needs.{Small, Parts, imageLength, largestImage, memoryOf, Lengths, bytesFor};
 
 // Words of the head, and of each piece; a block of a partial has one.
 const HEAD_WORDS: u64 = 16;
@@ -86,7 +86,7 @@ pub fn largest_image(n: u64, b: u64) -> u64
 
 // All three for a picker of this geometry; 0 each where it is not valid.
 pub fn memory_needed(total: u64, size: u64) -> Memory
-    ensures { λ r. ⌜ (r .words ≡ memoryOf total size .words) × (r .cells ≡ memoryOf total size .cells) × (r .partials ≡ memoryOf total size .partials) ⌝ }
+    ensures { λ r. ⌜ Lengths (memoryOf total size) (r .words) (r .cells) (r .partials) ⌝ }
 {
     if valid_geometry(total, size) {
         let n = num_pieces(total, size);

@@ -26,9 +26,10 @@ enough-long lent need e = rw (
 pub long-enough : (lent need : Memory) → isShort lent need ≡ false → Enough lent need
 unfolding isShort
 long-enough lent need h =
+    let first = or-no-left _ (ltb (lent .cells) (need .cells) || ltb (lent .partials) (need .partials)) h in
     let more = or-no-right (ltb (lent .words) (need .words)) _ h in
     record {
-      words = ltb-false (lent .words) (need .words) (or-no-left _ (ltb (lent .cells) (need .cells) || ltb (lent .partials) (need .partials)) h);
+      words = ltb-false (lent .words) (need .words) first;
       cells = ltb-false (lent .cells) (need .cells) (or-no-left _ (ltb (lent .partials) (need .partials)) more);
       partials = ltb-false (lent .partials) (need .partials) (or-no-right (ltb (lent .cells) (need .cells)) _ more);
     }

@@ -28,7 +28,8 @@ partials-needed-requires c κs = search needs
 
 returns : tie.Need-returns
 returns c = lengths-valid _ _
-    (sym (c .before .before .before .before .before .before .valid-geometry .ensures) ∙ c .before .before .before .before .before .if1 .taken)
+    (sym (c .before .before .before .before .before .before .valid-geometry .ensures)
+    ∙ c .before .before .before .before .before .if1 .taken)
     (c .before .before .before .before .num-pieces .ensures) (c .before .before .before .blocks-per-piece .ensures)
     (c .before .before .words-needed .ensures) (c .before .cells-needed .ensures) (c .partials-needed .ensures)
 
