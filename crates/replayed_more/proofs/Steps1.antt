@@ -1,14 +1,14 @@
--- Recorded calls 3 to 298, those that are replayed, computed. Written by compare/steps.py: not to be edited.
+-- Recorded calls 3 to 300, those that are replayed, computed. Written by compare/steps.py: not to be edited.
 use mathlib.Core.Path.{_≡_, refl}
 use mathlib.Core.Bool.{true, false}
 use Prim.Native.Nat.{ℕ}
 use mathlib.Core.List.{List, [], _∷_}
 use mathlib.Core.Option.{none, some}
 use Rattle.model.specs.Calls.{abort-download, dec-refcount, dec-refcount-all, done, inc-refcount, inc-refcount-all, lock-piece, mark-as-canceled, mark-as-downloading, mark-as-finished, mark-as-writing, pick-pieces, picked, piece-passed, question, refused, replied, said, set-piece-priority}
-use Rattle.model.specs.ask.Questions.{block-num-peers, blocks-for-piece, blocks-per-piece, get-availability-vec, get-download-queue, get-downloader, get-downloaders, is-downloaded, is-downloading, is-finished-block, is-requested, is-seeding, list-place, listOfPicker, listOfPiece, locked?, nothing, num-have-filtered, num-peers-block, numbers, ofBlock, ofPicker, ofPiece, pad-bytes-in-piece, partial-at, payload-blocks-in-piece, piece-priorities, piece-priority, recent-extent}
+use Rattle.model.specs.ask.Questions.{all-pieces, block-num-peers, block-peer, blocks-for-piece, blocks-per-piece, get-availability-vec, get-download-queue, get-download-queue-size, get-downloader, get-downloaders, is-downloaded, is-downloading, is-finished-block, is-requested, is-seeding, list-place, listOfPicker, listOfPiece, nothing, num-have-filtered, num-peers-block, num-seeds, numbers, ofBlock, ofPicker, ofPiece, pad-bytes-in-piece, partial-at, piece-priorities, piece-stats, recent-extent}
 use Rattle.model.specs.pick.Blocks.{pieceBlock}
 use Rattle.replayed.proofs.Replaying.{replaying}
-use Rattle.replayed.specs.Replay.{answered, asking, bytesTaken, call-line, image-line, lending, new-line, notDone, outcome, outcomes, plenty, read-line, stands, words}
+use Rattle.replayed.specs.Replay.{answered, asking, call-line, lending, new-line, outcome, outcomes, plenty, read-line, stands, words}
 use Rattle.types.specs.declared.refusal.Refusal.the-variants.{FewDraws, HavePiece, NoPeerToTake, NotWriting, OutOfRange, PickArguments, ShortMemory, TooManyPeers}
 
 abbrev image-3 : List ℕ
@@ -535,17 +535,11 @@ image-86 =
 abbrev image-87 : List ℕ
 image-87 =
     1 ∷ 0 ∷ 0 ∷ 0 ∷ 0 ∷ 0 ∷ 0 ∷ 166 ∷ 29 ∷ 0 ∷ 0 ∷ 128 ∷ 0 ∷ 2 ∷ 70 ∷ 0 ∷ 0 ∷ 0 ∷ 1 ∷ 0 ∷ 0 ∷ 0 ∷ 1 ∷ 0 ∷
-    2 ∷ 0 ∷ 0 ∷ 4 ∷ 4 ∷ 0 ∷ 0 ∷ 0 ∷ 0 ∷ 0 ∷
-    2 ∷ 0 ∷ 9 ∷ 4 ∷ 7 ∷ 0 ∷ 0 ∷ 0 ∷ 38 ∷ 29 ∷
-    5 ∷ 0 ∷ 0 ∷ 0 ∷ 0 ∷
-    6 ∷ 0 ∷ 0 ∷ 0 ∷ 0 ∷
-    6 ∷ 0 ∷ 0 ∷ 0 ∷ 1 ∷ []
-
-abbrev image-88 : List ℕ
-image-88 =
-    1 ∷ 0 ∷ 0 ∷ 0 ∷ 0 ∷ 0 ∷ 0 ∷ 166 ∷ 29 ∷ 0 ∷ 0 ∷ 128 ∷ 0 ∷ 2 ∷ 70 ∷ 0 ∷ 0 ∷ 0 ∷ 1 ∷ 0 ∷ 0 ∷ 0 ∷ 1 ∷ 0 ∷
-    2 ∷ 0 ∷ 1 ∷ 4 ∷ 4 ∷ 0 ∷ 0 ∷ 0 ∷ 0 ∷ 0 ∷
-    2 ∷ 0 ∷ 9 ∷ 4 ∷ 7 ∷ 0 ∷ 0 ∷ 0 ∷ 38 ∷ 29 ∷
+    2 ∷ 0 ∷ 0 ∷ 0 ∷ 4 ∷ 0 ∷ 0 ∷ 0 ∷ 0 ∷ 0 ∷
+    2 ∷ 0 ∷ 9 ∷ 4 ∷ 4 ∷ 0 ∷ 0 ∷ 0 ∷ 38 ∷ 29 ∷
+    3 ∷ 0 ∷ 0 ∷ 0 ∷ 0 ∷ 0 ∷
+    4 ∷ 1 ∷ 0 ∷ 1 ∷ 1 ∷ 255 ∷ 255 ∷ 255 ∷ 255 ∷ 255 ∷ 255 ∷ 255 ∷ 255 ∷
+    4 ∷ 0 ∷ 0 ∷ 0 ∷ 0 ∷ 0 ∷ 0 ∷ 0 ∷ 0 ∷ 0 ∷ 0 ∷ 0 ∷ 0 ∷
     5 ∷ 0 ∷ 0 ∷ 0 ∷ 0 ∷
     6 ∷ 0 ∷ 0 ∷ 0 ∷ 0 ∷
     6 ∷ 0 ∷ 0 ∷ 0 ∷ 1 ∷ []
@@ -553,619 +547,474 @@ image-88 =
 abbrev image-89 : List ℕ
 image-89 =
     1 ∷ 0 ∷ 0 ∷ 0 ∷ 0 ∷ 0 ∷ 0 ∷ 166 ∷ 29 ∷ 0 ∷ 0 ∷ 128 ∷ 0 ∷ 2 ∷ 70 ∷ 0 ∷ 0 ∷ 0 ∷ 1 ∷ 0 ∷ 0 ∷ 0 ∷ 1 ∷ 0 ∷
-    2 ∷ 0 ∷ 2 ∷ 4 ∷ 4 ∷ 0 ∷ 0 ∷ 0 ∷ 0 ∷ 0 ∷
-    2 ∷ 0 ∷ 9 ∷ 4 ∷ 7 ∷ 0 ∷ 0 ∷ 0 ∷ 38 ∷ 29 ∷
+    2 ∷ 0 ∷ 0 ∷ 1 ∷ 4 ∷ 0 ∷ 0 ∷ 0 ∷ 0 ∷ 0 ∷
+    2 ∷ 0 ∷ 9 ∷ 4 ∷ 4 ∷ 0 ∷ 0 ∷ 0 ∷ 38 ∷ 29 ∷
+    3 ∷ 0 ∷ 0 ∷ 0 ∷ 0 ∷ 0 ∷
+    4 ∷ 1 ∷ 0 ∷ 1 ∷ 1 ∷ 255 ∷ 255 ∷ 255 ∷ 255 ∷ 255 ∷ 255 ∷ 255 ∷ 255 ∷
+    4 ∷ 1 ∷ 0 ∷ 1 ∷ 1 ∷ 0 ∷ 0 ∷ 0 ∷ 0 ∷ 0 ∷ 0 ∷ 0 ∷ 2 ∷
     5 ∷ 0 ∷ 0 ∷ 0 ∷ 0 ∷
-    6 ∷ 0 ∷ 0 ∷ 0 ∷ 1 ∷
-    6 ∷ 0 ∷ 0 ∷ 0 ∷ 0 ∷ []
+    6 ∷ 0 ∷ 0 ∷ 0 ∷ 1 ∷ []
 
 -- calls 86 to 90
 calls-86 :
     outcomes none
     (read-line plenty image-86
-    ∷ call-line plenty (set-piece-priority 1 7 (words 4352 []))
-    ∷ call-line plenty (inc-refcount 0 (words 4352 []))
-    ∷ call-line plenty (inc-refcount 0 (words 4352 []))
-    ∷ call-line plenty (mark-as-downloading 0 2 (some 1) 155 (words 5000 []))
+    ∷ call-line plenty (mark-as-downloading 0 0 (some 18446744073709551615) 128 (words 4352 []))
+    ∷ call-line plenty (pick-pieces (asking 64 8 3 3 (some 3) 2 (255 ∷ []) []) 4351 (words 4352 (1671247581 ∷ [])))
+    ∷ call-line plenty (mark-as-downloading 0 1 (some 2) 23 (words 5000 []))
+    ∷ call-line plenty (pick-pieces (asking 40 40 4 2 (some 2) 2 (32 ∷ []) []) 4351 (words 4352 (1698288966 ∷ [])))
     ∷ [])
     ≡ outcome stands image-86
-    ∷ outcome (answered (said false 0)) image-87
-    ∷ outcome (answered (done 0)) image-88
-    ∷ outcome (answered (done 0)) image-89
-    ∷ outcome (answered (refused OutOfRange)) image-89
+    ∷ outcome (answered (said true 0)) image-87
+    ∷ outcome (answered (picked ((pieceBlock 1 0) ∷ (pieceBlock 0 1) ∷ []) 11264 (0 ∷ 0 ∷ 0 ∷ 0 ∷ 0 ∷ 1 ∷ 0 ∷ []) 1)) image-87
+    ∷ outcome (answered (said true 0)) image-89
+    ∷ outcome (answered (picked [] 10240 (0 ∷ 0 ∷ 0 ∷ 0 ∷ 2 ∷ 0 ∷ 0 ∷ []) 1)) image-89
     ∷ []
 unfolding replaying
 calls-86 = refl
 
 abbrev image-92 : List ℕ
 image-92 =
-    1 ∷ 0 ∷ 0 ∷ 0 ∷ 0 ∷ 0 ∷ 2 ∷ 0 ∷ 1 ∷ 0 ∷ 1 ∷ 0 ∷ 0 ∷ 0 ∷ 0 ∷ 0 ∷ 0 ∷ 0 ∷ 0 ∷ 0 ∷ 0 ∷ 0 ∷ 3 ∷ 1 ∷
-    2 ∷ 0 ∷ 0 ∷ 4 ∷ 4 ∷ 0 ∷ 0 ∷ 0 ∷ 0 ∷ 0 ∷
-    2 ∷ 0 ∷ 0 ∷ 4 ∷ 4 ∷ 0 ∷ 0 ∷ 0 ∷ 0 ∷ 0 ∷
-    2 ∷ 0 ∷ 0 ∷ 4 ∷ 4 ∷ 0 ∷ 0 ∷ 0 ∷ 0 ∷ 0 ∷ []
+    1 ∷ 0 ∷ 0 ∷ 0 ∷ 0 ∷ 0 ∷ 0 ∷ 68 ∷ 182 ∷ 0 ∷ 0 ∷ 64 ∷ 0 ∷ 0 ∷ 2 ∷ 0 ∷ 0 ∷ 0 ∷ 1 ∷ 0 ∷ 0 ∷ 0 ∷ 0 ∷ 1 ∷
+    2 ∷ 0 ∷ 2 ∷ 1 ∷ 4 ∷ 0 ∷ 0 ∷ 0 ∷ 0 ∷ 0 ∷
+    2 ∷ 0 ∷ 1 ∷ 1 ∷ 7 ∷ 0 ∷ 0 ∷ 0 ∷ 4 ∷ 32 ∷
+    3 ∷ 0 ∷ 0 ∷ 0 ∷ 0 ∷ 1 ∷
+    4 ∷ 1 ∷ 0 ∷ 0 ∷ 1 ∷ 0 ∷ 0 ∷ 0 ∷ 0 ∷ 0 ∷ 0 ∷ 0 ∷ 0 ∷
+    3 ∷ 0 ∷ 0 ∷ 0 ∷ 1 ∷ 0 ∷
+    4 ∷ 0 ∷ 0 ∷ 0 ∷ 0 ∷ 0 ∷ 0 ∷ 0 ∷ 0 ∷ 0 ∷ 0 ∷ 0 ∷ 0 ∷ []
 
 abbrev image-94 : List ℕ
 image-94 =
-    1 ∷ 0 ∷ 0 ∷ 0 ∷ 0 ∷ 0 ∷ 2 ∷ 0 ∷ 1 ∷ 0 ∷ 1 ∷ 0 ∷ 0 ∷ 0 ∷ 0 ∷ 0 ∷ 0 ∷ 0 ∷ 0 ∷ 0 ∷ 0 ∷ 0 ∷ 3 ∷ 1 ∷
-    2 ∷ 0 ∷ 0 ∷ 5 ∷ 4 ∷ 0 ∷ 0 ∷ 0 ∷ 0 ∷ 0 ∷
-    2 ∷ 0 ∷ 0 ∷ 4 ∷ 4 ∷ 0 ∷ 0 ∷ 0 ∷ 0 ∷ 0 ∷
-    2 ∷ 0 ∷ 0 ∷ 4 ∷ 4 ∷ 0 ∷ 0 ∷ 0 ∷ 0 ∷ 0 ∷
-    3 ∷ 0 ∷ 0 ∷ 0 ∷ 0 ∷ 0 ∷
-    4 ∷ 0 ∷ 0 ∷ 0 ∷ 0 ∷ 0 ∷ 0 ∷ 0 ∷ 0 ∷ 0 ∷ 0 ∷ 0 ∷ 0 ∷
-    4 ∷ 0 ∷ 0 ∷ 0 ∷ 0 ∷ 0 ∷ 0 ∷ 0 ∷ 0 ∷ 0 ∷ 0 ∷ 0 ∷ 0 ∷
-    4 ∷ 0 ∷ 0 ∷ 0 ∷ 0 ∷ 0 ∷ 0 ∷ 0 ∷ 0 ∷ 0 ∷ 0 ∷ 0 ∷ 0 ∷
-    4 ∷ 1 ∷ 0 ∷ 1 ∷ 1 ∷ 0 ∷ 0 ∷ 0 ∷ 0 ∷ 0 ∷ 0 ∷ 0 ∷ 2 ∷
-    5 ∷ 0 ∷ 0 ∷ 0 ∷ 0 ∷ []
+    1 ∷ 0 ∷ 0 ∷ 0 ∷ 0 ∷ 0 ∷ 0 ∷ 68 ∷ 182 ∷ 0 ∷ 0 ∷ 64 ∷ 0 ∷ 0 ∷ 2 ∷ 0 ∷ 0 ∷ 0 ∷ 1 ∷ 0 ∷ 0 ∷ 0 ∷ 0 ∷ 1 ∷
+    2 ∷ 0 ∷ 2 ∷ 1 ∷ 4 ∷ 0 ∷ 0 ∷ 0 ∷ 0 ∷ 0 ∷
+    2 ∷ 0 ∷ 1 ∷ 1 ∷ 7 ∷ 0 ∷ 0 ∷ 0 ∷ 4 ∷ 32 ∷
+    3 ∷ 0 ∷ 0 ∷ 0 ∷ 0 ∷ 1 ∷
+    4 ∷ 1 ∷ 0 ∷ 0 ∷ 1 ∷ 0 ∷ 0 ∷ 0 ∷ 0 ∷ 0 ∷ 0 ∷ 0 ∷ 0 ∷
+    3 ∷ 0 ∷ 0 ∷ 0 ∷ 1 ∷ 1 ∷
+    4 ∷ 0 ∷ 0 ∷ 0 ∷ 0 ∷ 0 ∷ 0 ∷ 0 ∷ 0 ∷ 0 ∷ 0 ∷ 0 ∷ 0 ∷ []
 
 abbrev image-95 : List ℕ
 image-95 =
-    1 ∷ 0 ∷ 0 ∷ 0 ∷ 0 ∷ 0 ∷ 2 ∷ 0 ∷ 1 ∷ 0 ∷ 1 ∷ 0 ∷ 0 ∷ 0 ∷ 0 ∷ 0 ∷ 0 ∷ 0 ∷ 0 ∷ 0 ∷ 0 ∷ 0 ∷ 3 ∷ 1 ∷
-    2 ∷ 0 ∷ 0 ∷ 5 ∷ 4 ∷ 0 ∷ 0 ∷ 0 ∷ 0 ∷ 0 ∷
-    2 ∷ 0 ∷ 0 ∷ 0 ∷ 4 ∷ 0 ∷ 0 ∷ 0 ∷ 0 ∷ 0 ∷
-    2 ∷ 0 ∷ 0 ∷ 4 ∷ 4 ∷ 0 ∷ 0 ∷ 0 ∷ 0 ∷ 0 ∷
+    1 ∷ 0 ∷ 0 ∷ 0 ∷ 0 ∷ 0 ∷ 0 ∷ 68 ∷ 182 ∷ 0 ∷ 0 ∷ 64 ∷ 0 ∷ 0 ∷ 2 ∷ 0 ∷ 0 ∷ 0 ∷ 1 ∷ 0 ∷ 0 ∷ 0 ∷ 0 ∷ 1 ∷
+    2 ∷ 0 ∷ 2 ∷ 4 ∷ 4 ∷ 0 ∷ 0 ∷ 0 ∷ 0 ∷ 0 ∷
+    2 ∷ 0 ∷ 1 ∷ 1 ∷ 7 ∷ 0 ∷ 0 ∷ 0 ∷ 4 ∷ 32 ∷
+    3 ∷ 0 ∷ 0 ∷ 0 ∷ 1 ∷ 1 ∷
+    4 ∷ 0 ∷ 0 ∷ 0 ∷ 0 ∷ 0 ∷ 0 ∷ 0 ∷ 0 ∷ 0 ∷ 0 ∷ 0 ∷ 0 ∷ []
+
+abbrev image-97 : List ℕ
+image-97 =
+    1 ∷ 0 ∷ 0 ∷ 0 ∷ 0 ∷ 0 ∷ 0 ∷ 68 ∷ 182 ∷ 0 ∷ 0 ∷ 64 ∷ 0 ∷ 0 ∷ 2 ∷ 0 ∷ 0 ∷ 0 ∷ 1 ∷ 0 ∷ 0 ∷ 0 ∷ 0 ∷ 1 ∷
+    2 ∷ 0 ∷ 2 ∷ 4 ∷ 4 ∷ 0 ∷ 0 ∷ 0 ∷ 0 ∷ 0 ∷
+    2 ∷ 0 ∷ 0 ∷ 1 ∷ 7 ∷ 0 ∷ 0 ∷ 0 ∷ 4 ∷ 32 ∷
+    3 ∷ 0 ∷ 0 ∷ 0 ∷ 1 ∷ 1 ∷
+    4 ∷ 0 ∷ 0 ∷ 0 ∷ 0 ∷ 0 ∷ 0 ∷ 0 ∷ 0 ∷ 0 ∷ 0 ∷ 0 ∷ 0 ∷ []
+
+abbrev image-98 : List ℕ
+image-98 =
+    1 ∷ 0 ∷ 0 ∷ 0 ∷ 0 ∷ 0 ∷ 0 ∷ 68 ∷ 182 ∷ 0 ∷ 0 ∷ 64 ∷ 0 ∷ 0 ∷ 2 ∷ 0 ∷ 0 ∷ 0 ∷ 1 ∷ 0 ∷ 0 ∷ 0 ∷ 0 ∷ 1 ∷
+    2 ∷ 0 ∷ 2 ∷ 4 ∷ 4 ∷ 0 ∷ 0 ∷ 0 ∷ 0 ∷ 0 ∷
+    2 ∷ 0 ∷ 1 ∷ 1 ∷ 7 ∷ 0 ∷ 0 ∷ 0 ∷ 4 ∷ 32 ∷
+    3 ∷ 0 ∷ 0 ∷ 0 ∷ 1 ∷ 1 ∷
+    4 ∷ 0 ∷ 0 ∷ 0 ∷ 0 ∷ 0 ∷ 0 ∷ 0 ∷ 0 ∷ 0 ∷ 0 ∷ 0 ∷ 0 ∷ []
+
+abbrev image-99 : List ℕ
+image-99 =
+    1 ∷ 0 ∷ 0 ∷ 0 ∷ 0 ∷ 0 ∷ 0 ∷ 68 ∷ 182 ∷ 0 ∷ 0 ∷ 64 ∷ 0 ∷ 0 ∷ 2 ∷ 0 ∷ 0 ∷ 0 ∷ 1 ∷ 0 ∷ 0 ∷ 0 ∷ 0 ∷ 1 ∷
+    2 ∷ 0 ∷ 2 ∷ 4 ∷ 4 ∷ 0 ∷ 0 ∷ 0 ∷ 0 ∷ 0 ∷
+    2 ∷ 0 ∷ 0 ∷ 1 ∷ 7 ∷ 0 ∷ 0 ∷ 0 ∷ 4 ∷ 32 ∷
+    3 ∷ 0 ∷ 0 ∷ 0 ∷ 1 ∷ 1 ∷
+    4 ∷ 0 ∷ 0 ∷ 0 ∷ 0 ∷ 0 ∷ 0 ∷ 0 ∷ 0 ∷ 0 ∷ 0 ∷ 0 ∷ 0 ∷ []
+
+abbrev image-102 : List ℕ
+image-102 =
+    1 ∷ 0 ∷ 0 ∷ 0 ∷ 0 ∷ 0 ∷ 0 ∷ 68 ∷ 182 ∷ 0 ∷ 0 ∷ 64 ∷ 0 ∷ 0 ∷ 2 ∷ 0 ∷ 0 ∷ 0 ∷ 1 ∷ 0 ∷ 0 ∷ 0 ∷ 0 ∷ 1 ∷
+    2 ∷ 0 ∷ 2 ∷ 4 ∷ 4 ∷ 0 ∷ 0 ∷ 0 ∷ 0 ∷ 0 ∷
+    2 ∷ 0 ∷ 1 ∷ 1 ∷ 7 ∷ 0 ∷ 0 ∷ 0 ∷ 4 ∷ 32 ∷
+    3 ∷ 0 ∷ 0 ∷ 0 ∷ 1 ∷ 1 ∷
+    4 ∷ 0 ∷ 0 ∷ 0 ∷ 0 ∷ 0 ∷ 0 ∷ 0 ∷ 0 ∷ 0 ∷ 0 ∷ 0 ∷ 0 ∷ []
+
+abbrev image-103 : List ℕ
+image-103 =
+    1 ∷ 0 ∷ 0 ∷ 0 ∷ 0 ∷ 0 ∷ 0 ∷ 68 ∷ 182 ∷ 0 ∷ 0 ∷ 64 ∷ 0 ∷ 0 ∷ 2 ∷ 0 ∷ 0 ∷ 0 ∷ 1 ∷ 0 ∷ 0 ∷ 0 ∷ 0 ∷ 1 ∷
+    2 ∷ 0 ∷ 2 ∷ 1 ∷ 4 ∷ 0 ∷ 0 ∷ 0 ∷ 0 ∷ 0 ∷
+    2 ∷ 0 ∷ 1 ∷ 1 ∷ 7 ∷ 0 ∷ 0 ∷ 0 ∷ 4 ∷ 32 ∷
     3 ∷ 0 ∷ 0 ∷ 0 ∷ 0 ∷ 0 ∷
-    4 ∷ 0 ∷ 0 ∷ 0 ∷ 0 ∷ 0 ∷ 0 ∷ 0 ∷ 0 ∷ 0 ∷ 0 ∷ 0 ∷ 0 ∷
-    4 ∷ 0 ∷ 0 ∷ 0 ∷ 0 ∷ 0 ∷ 0 ∷ 0 ∷ 0 ∷ 0 ∷ 0 ∷ 0 ∷ 0 ∷
-    4 ∷ 0 ∷ 0 ∷ 0 ∷ 0 ∷ 0 ∷ 0 ∷ 0 ∷ 0 ∷ 0 ∷ 0 ∷ 0 ∷ 0 ∷
-    4 ∷ 1 ∷ 0 ∷ 1 ∷ 1 ∷ 0 ∷ 0 ∷ 0 ∷ 0 ∷ 0 ∷ 0 ∷ 0 ∷ 2 ∷
-    3 ∷ 0 ∷ 0 ∷ 0 ∷ 1 ∷ 0 ∷
-    4 ∷ 0 ∷ 0 ∷ 0 ∷ 0 ∷ 0 ∷ 0 ∷ 0 ∷ 0 ∷ 0 ∷ 0 ∷ 0 ∷ 0 ∷
-    4 ∷ 1 ∷ 0 ∷ 1 ∷ 0 ∷ 0 ∷ 0 ∷ 0 ∷ 0 ∷ 0 ∷ 0 ∷ 0 ∷ 0 ∷
-    4 ∷ 0 ∷ 0 ∷ 0 ∷ 0 ∷ 0 ∷ 0 ∷ 0 ∷ 0 ∷ 0 ∷ 0 ∷ 0 ∷ 0 ∷
-    4 ∷ 0 ∷ 0 ∷ 0 ∷ 0 ∷ 0 ∷ 0 ∷ 0 ∷ 0 ∷ 0 ∷ 0 ∷ 0 ∷ 0 ∷
-    5 ∷ 0 ∷ 0 ∷ 0 ∷ 0 ∷ []
+    4 ∷ 1 ∷ 0 ∷ 1 ∷ 1 ∷ 0 ∷ 0 ∷ 0 ∷ 0 ∷ 0 ∷ 0 ∷ 0 ∷ 0 ∷
+    3 ∷ 0 ∷ 0 ∷ 0 ∷ 1 ∷ 1 ∷
+    4 ∷ 0 ∷ 0 ∷ 0 ∷ 0 ∷ 0 ∷ 0 ∷ 0 ∷ 0 ∷ 0 ∷ 0 ∷ 0 ∷ 0 ∷ []
 
-abbrev image-96 : List ℕ
-image-96 =
-    1 ∷ 0 ∷ 0 ∷ 0 ∷ 0 ∷ 0 ∷ 2 ∷ 0 ∷ 1 ∷ 0 ∷ 1 ∷ 0 ∷ 0 ∷ 0 ∷ 0 ∷ 0 ∷ 0 ∷ 0 ∷ 0 ∷ 0 ∷ 0 ∷ 0 ∷ 3 ∷ 1 ∷
-    2 ∷ 0 ∷ 0 ∷ 5 ∷ 4 ∷ 0 ∷ 0 ∷ 0 ∷ 0 ∷ 0 ∷
-    2 ∷ 0 ∷ 0 ∷ 0 ∷ 4 ∷ 0 ∷ 0 ∷ 0 ∷ 0 ∷ 0 ∷
-    2 ∷ 0 ∷ 0 ∷ 4 ∷ 4 ∷ 0 ∷ 0 ∷ 0 ∷ 0 ∷ 0 ∷
-    3 ∷ 0 ∷ 0 ∷ 0 ∷ 0 ∷ 1 ∷
-    4 ∷ 0 ∷ 0 ∷ 0 ∷ 0 ∷ 0 ∷ 0 ∷ 0 ∷ 0 ∷ 0 ∷ 0 ∷ 0 ∷ 0 ∷
-    4 ∷ 0 ∷ 0 ∷ 0 ∷ 0 ∷ 0 ∷ 0 ∷ 0 ∷ 0 ∷ 0 ∷ 0 ∷ 0 ∷ 0 ∷
-    4 ∷ 0 ∷ 0 ∷ 0 ∷ 0 ∷ 0 ∷ 0 ∷ 0 ∷ 0 ∷ 0 ∷ 0 ∷ 0 ∷ 0 ∷
-    4 ∷ 1 ∷ 0 ∷ 1 ∷ 1 ∷ 0 ∷ 0 ∷ 0 ∷ 0 ∷ 0 ∷ 0 ∷ 0 ∷ 2 ∷
-    3 ∷ 0 ∷ 0 ∷ 0 ∷ 1 ∷ 0 ∷
-    4 ∷ 0 ∷ 0 ∷ 0 ∷ 0 ∷ 0 ∷ 0 ∷ 0 ∷ 0 ∷ 0 ∷ 0 ∷ 0 ∷ 0 ∷
-    4 ∷ 1 ∷ 0 ∷ 1 ∷ 0 ∷ 0 ∷ 0 ∷ 0 ∷ 0 ∷ 0 ∷ 0 ∷ 0 ∷ 0 ∷
-    4 ∷ 0 ∷ 0 ∷ 0 ∷ 0 ∷ 0 ∷ 0 ∷ 0 ∷ 0 ∷ 0 ∷ 0 ∷ 0 ∷ 0 ∷
-    4 ∷ 0 ∷ 0 ∷ 0 ∷ 0 ∷ 0 ∷ 0 ∷ 0 ∷ 0 ∷ 0 ∷ 0 ∷ 0 ∷ 0 ∷
-    5 ∷ 0 ∷ 0 ∷ 0 ∷ 0 ∷ []
-
-abbrev image-101 : List ℕ
-image-101 =
-    1 ∷ 0 ∷ 0 ∷ 0 ∷ 0 ∷ 0 ∷ 2 ∷ 0 ∷ 1 ∷ 0 ∷ 1 ∷ 0 ∷ 0 ∷ 0 ∷ 0 ∷ 0 ∷ 0 ∷ 0 ∷ 0 ∷ 0 ∷ 0 ∷ 0 ∷ 3 ∷ 1 ∷
-    2 ∷ 0 ∷ 1 ∷ 5 ∷ 4 ∷ 0 ∷ 0 ∷ 0 ∷ 0 ∷ 0 ∷
-    2 ∷ 0 ∷ 0 ∷ 0 ∷ 4 ∷ 0 ∷ 0 ∷ 0 ∷ 0 ∷ 0 ∷
-    2 ∷ 0 ∷ 0 ∷ 4 ∷ 4 ∷ 0 ∷ 0 ∷ 0 ∷ 0 ∷ 0 ∷
-    3 ∷ 0 ∷ 0 ∷ 0 ∷ 0 ∷ 1 ∷
-    4 ∷ 0 ∷ 0 ∷ 0 ∷ 0 ∷ 0 ∷ 0 ∷ 0 ∷ 0 ∷ 0 ∷ 0 ∷ 0 ∷ 0 ∷
-    4 ∷ 0 ∷ 0 ∷ 0 ∷ 0 ∷ 0 ∷ 0 ∷ 0 ∷ 0 ∷ 0 ∷ 0 ∷ 0 ∷ 0 ∷
-    4 ∷ 0 ∷ 0 ∷ 0 ∷ 0 ∷ 0 ∷ 0 ∷ 0 ∷ 0 ∷ 0 ∷ 0 ∷ 0 ∷ 0 ∷
-    4 ∷ 1 ∷ 0 ∷ 1 ∷ 1 ∷ 0 ∷ 0 ∷ 0 ∷ 0 ∷ 0 ∷ 0 ∷ 0 ∷ 2 ∷
-    3 ∷ 0 ∷ 0 ∷ 0 ∷ 1 ∷ 0 ∷
-    4 ∷ 0 ∷ 0 ∷ 0 ∷ 0 ∷ 0 ∷ 0 ∷ 0 ∷ 0 ∷ 0 ∷ 0 ∷ 0 ∷ 0 ∷
-    4 ∷ 1 ∷ 0 ∷ 1 ∷ 0 ∷ 0 ∷ 0 ∷ 0 ∷ 0 ∷ 0 ∷ 0 ∷ 0 ∷ 0 ∷
-    4 ∷ 0 ∷ 0 ∷ 0 ∷ 0 ∷ 0 ∷ 0 ∷ 0 ∷ 0 ∷ 0 ∷ 0 ∷ 0 ∷ 0 ∷
-    4 ∷ 0 ∷ 0 ∷ 0 ∷ 0 ∷ 0 ∷ 0 ∷ 0 ∷ 0 ∷ 0 ∷ 0 ∷ 0 ∷ 0 ∷
-    5 ∷ 0 ∷ 0 ∷ 0 ∷ 0 ∷ []
+abbrev image-104 : List ℕ
+image-104 =
+    1 ∷ 0 ∷ 0 ∷ 0 ∷ 0 ∷ 0 ∷ 0 ∷ 68 ∷ 182 ∷ 0 ∷ 0 ∷ 64 ∷ 0 ∷ 0 ∷ 2 ∷ 0 ∷ 0 ∷ 0 ∷ 1 ∷ 0 ∷ 0 ∷ 0 ∷ 0 ∷ 1 ∷
+    2 ∷ 0 ∷ 2 ∷ 1 ∷ 4 ∷ 0 ∷ 0 ∷ 0 ∷ 0 ∷ 0 ∷
+    2 ∷ 0 ∷ 1 ∷ 1 ∷ 7 ∷ 0 ∷ 0 ∷ 0 ∷ 4 ∷ 32 ∷
+    3 ∷ 0 ∷ 0 ∷ 0 ∷ 0 ∷ 0 ∷
+    4 ∷ 1 ∷ 0 ∷ 2 ∷ 0 ∷ 0 ∷ 0 ∷ 0 ∷ 0 ∷ 0 ∷ 0 ∷ 0 ∷ 0 ∷
+    3 ∷ 0 ∷ 0 ∷ 0 ∷ 1 ∷ 1 ∷
+    4 ∷ 0 ∷ 0 ∷ 0 ∷ 0 ∷ 0 ∷ 0 ∷ 0 ∷ 0 ∷ 0 ∷ 0 ∷ 0 ∷ 0 ∷ []
 
 abbrev image-105 : List ℕ
 image-105 =
-    1 ∷ 0 ∷ 0 ∷ 0 ∷ 0 ∷ 0 ∷ 2 ∷ 0 ∷ 1 ∷ 0 ∷ 1 ∷ 0 ∷ 0 ∷ 0 ∷ 1 ∷ 0 ∷ 0 ∷ 0 ∷ 0 ∷ 0 ∷ 0 ∷ 0 ∷ 3 ∷ 1 ∷
-    2 ∷ 0 ∷ 1 ∷ 5 ∷ 4 ∷ 0 ∷ 0 ∷ 0 ∷ 0 ∷ 0 ∷
-    2 ∷ 0 ∷ 0 ∷ 0 ∷ 4 ∷ 0 ∷ 0 ∷ 0 ∷ 0 ∷ 0 ∷
-    2 ∷ 0 ∷ 0 ∷ 4 ∷ 4 ∷ 0 ∷ 0 ∷ 0 ∷ 0 ∷ 0 ∷
-    3 ∷ 0 ∷ 0 ∷ 0 ∷ 0 ∷ 1 ∷
-    4 ∷ 0 ∷ 0 ∷ 0 ∷ 0 ∷ 0 ∷ 0 ∷ 0 ∷ 0 ∷ 0 ∷ 0 ∷ 0 ∷ 0 ∷
-    4 ∷ 0 ∷ 0 ∷ 0 ∷ 0 ∷ 0 ∷ 0 ∷ 0 ∷ 0 ∷ 0 ∷ 0 ∷ 0 ∷ 0 ∷
-    4 ∷ 0 ∷ 0 ∷ 0 ∷ 0 ∷ 0 ∷ 0 ∷ 0 ∷ 0 ∷ 0 ∷ 0 ∷ 0 ∷ 0 ∷
-    4 ∷ 1 ∷ 0 ∷ 1 ∷ 1 ∷ 0 ∷ 0 ∷ 0 ∷ 0 ∷ 0 ∷ 0 ∷ 0 ∷ 2 ∷
-    3 ∷ 0 ∷ 0 ∷ 0 ∷ 1 ∷ 0 ∷
-    4 ∷ 0 ∷ 0 ∷ 0 ∷ 0 ∷ 0 ∷ 0 ∷ 0 ∷ 0 ∷ 0 ∷ 0 ∷ 0 ∷ 0 ∷
+    1 ∷ 0 ∷ 0 ∷ 0 ∷ 0 ∷ 0 ∷ 0 ∷ 68 ∷ 182 ∷ 0 ∷ 0 ∷ 64 ∷ 0 ∷ 0 ∷ 2 ∷ 0 ∷ 0 ∷ 0 ∷ 1 ∷ 0 ∷ 0 ∷ 0 ∷ 0 ∷ 1 ∷
+    2 ∷ 0 ∷ 2 ∷ 1 ∷ 4 ∷ 0 ∷ 0 ∷ 0 ∷ 0 ∷ 0 ∷
+    2 ∷ 0 ∷ 1 ∷ 1 ∷ 7 ∷ 0 ∷ 0 ∷ 0 ∷ 4 ∷ 32 ∷
+    3 ∷ 0 ∷ 0 ∷ 0 ∷ 0 ∷ 0 ∷
     4 ∷ 1 ∷ 0 ∷ 1 ∷ 0 ∷ 0 ∷ 0 ∷ 0 ∷ 0 ∷ 0 ∷ 0 ∷ 0 ∷ 0 ∷
-    4 ∷ 0 ∷ 0 ∷ 0 ∷ 0 ∷ 0 ∷ 0 ∷ 0 ∷ 0 ∷ 0 ∷ 0 ∷ 0 ∷ 0 ∷
-    4 ∷ 0 ∷ 0 ∷ 0 ∷ 0 ∷ 0 ∷ 0 ∷ 0 ∷ 0 ∷ 0 ∷ 0 ∷ 0 ∷ 0 ∷
-    5 ∷ 0 ∷ 0 ∷ 0 ∷ 0 ∷ []
+    3 ∷ 0 ∷ 0 ∷ 0 ∷ 1 ∷ 1 ∷
+    4 ∷ 0 ∷ 0 ∷ 0 ∷ 0 ∷ 0 ∷ 0 ∷ 0 ∷ 0 ∷ 0 ∷ 0 ∷ 0 ∷ 0 ∷ []
 
 abbrev image-106 : List ℕ
 image-106 =
-    1 ∷ 0 ∷ 0 ∷ 0 ∷ 0 ∷ 0 ∷ 2 ∷ 0 ∷ 1 ∷ 0 ∷ 1 ∷ 0 ∷ 0 ∷ 0 ∷ 1 ∷ 0 ∷ 0 ∷ 0 ∷ 0 ∷ 0 ∷ 0 ∷ 0 ∷ 3 ∷ 1 ∷
-    2 ∷ 0 ∷ 1 ∷ 0 ∷ 4 ∷ 0 ∷ 0 ∷ 0 ∷ 0 ∷ 0 ∷
-    2 ∷ 0 ∷ 0 ∷ 0 ∷ 4 ∷ 0 ∷ 0 ∷ 0 ∷ 0 ∷ 0 ∷
-    2 ∷ 0 ∷ 0 ∷ 4 ∷ 4 ∷ 0 ∷ 0 ∷ 0 ∷ 0 ∷ 0 ∷
-    3 ∷ 0 ∷ 0 ∷ 0 ∷ 0 ∷ 1 ∷
-    4 ∷ 0 ∷ 0 ∷ 0 ∷ 0 ∷ 0 ∷ 0 ∷ 0 ∷ 0 ∷ 0 ∷ 0 ∷ 0 ∷ 0 ∷
-    4 ∷ 0 ∷ 0 ∷ 0 ∷ 0 ∷ 0 ∷ 0 ∷ 0 ∷ 0 ∷ 0 ∷ 0 ∷ 0 ∷ 0 ∷
-    4 ∷ 0 ∷ 0 ∷ 0 ∷ 0 ∷ 0 ∷ 0 ∷ 0 ∷ 0 ∷ 0 ∷ 0 ∷ 0 ∷ 0 ∷
-    4 ∷ 1 ∷ 0 ∷ 2 ∷ 0 ∷ 0 ∷ 0 ∷ 0 ∷ 0 ∷ 0 ∷ 0 ∷ 0 ∷ 0 ∷
-    3 ∷ 0 ∷ 0 ∷ 0 ∷ 1 ∷ 0 ∷
-    4 ∷ 0 ∷ 0 ∷ 0 ∷ 0 ∷ 0 ∷ 0 ∷ 0 ∷ 0 ∷ 0 ∷ 0 ∷ 0 ∷ 0 ∷
-    4 ∷ 1 ∷ 0 ∷ 1 ∷ 0 ∷ 0 ∷ 0 ∷ 0 ∷ 0 ∷ 0 ∷ 0 ∷ 0 ∷ 0 ∷
-    4 ∷ 0 ∷ 0 ∷ 0 ∷ 0 ∷ 0 ∷ 0 ∷ 0 ∷ 0 ∷ 0 ∷ 0 ∷ 0 ∷ 0 ∷
-    4 ∷ 0 ∷ 0 ∷ 0 ∷ 0 ∷ 0 ∷ 0 ∷ 0 ∷ 0 ∷ 0 ∷ 0 ∷ 0 ∷ 0 ∷
-    5 ∷ 0 ∷ 0 ∷ 0 ∷ 0 ∷ []
+    1 ∷ 0 ∷ 0 ∷ 0 ∷ 0 ∷ 0 ∷ 0 ∷ 68 ∷ 182 ∷ 0 ∷ 0 ∷ 64 ∷ 0 ∷ 0 ∷ 2 ∷ 0 ∷ 0 ∷ 0 ∷ 1 ∷ 0 ∷ 0 ∷ 0 ∷ 0 ∷ 1 ∷
+    2 ∷ 0 ∷ 2 ∷ 1 ∷ 4 ∷ 0 ∷ 0 ∷ 0 ∷ 0 ∷ 0 ∷
+    2 ∷ 0 ∷ 1 ∷ 1 ∷ 7 ∷ 0 ∷ 0 ∷ 0 ∷ 4 ∷ 32 ∷
+    3 ∷ 0 ∷ 0 ∷ 0 ∷ 0 ∷ 0 ∷
+    4 ∷ 1 ∷ 0 ∷ 1 ∷ 1 ∷ 0 ∷ 0 ∷ 0 ∷ 0 ∷ 0 ∷ 0 ∷ 0 ∷ 1 ∷
+    3 ∷ 0 ∷ 0 ∷ 0 ∷ 1 ∷ 1 ∷
+    4 ∷ 0 ∷ 0 ∷ 0 ∷ 0 ∷ 0 ∷ 0 ∷ 0 ∷ 0 ∷ 0 ∷ 0 ∷ 0 ∷ 0 ∷ []
 
-abbrev image-108 : List ℕ
-image-108 =
-    1 ∷ 0 ∷ 0 ∷ 0 ∷ 0 ∷ 0 ∷ 2 ∷ 0 ∷ 1 ∷ 0 ∷ 1 ∷ 0 ∷ 0 ∷ 0 ∷ 1 ∷ 0 ∷ 0 ∷ 0 ∷ 0 ∷ 0 ∷ 0 ∷ 0 ∷ 3 ∷ 1 ∷
-    2 ∷ 0 ∷ 1 ∷ 0 ∷ 4 ∷ 0 ∷ 0 ∷ 0 ∷ 0 ∷ 0 ∷
-    2 ∷ 0 ∷ 0 ∷ 0 ∷ 4 ∷ 0 ∷ 0 ∷ 0 ∷ 0 ∷ 0 ∷
-    2 ∷ 0 ∷ 0 ∷ 4 ∷ 4 ∷ 0 ∷ 0 ∷ 0 ∷ 0 ∷ 0 ∷
-    3 ∷ 0 ∷ 0 ∷ 0 ∷ 0 ∷ 1 ∷
-    4 ∷ 0 ∷ 0 ∷ 0 ∷ 1 ∷ 0 ∷ 0 ∷ 0 ∷ 0 ∷ 0 ∷ 0 ∷ 0 ∷ 1 ∷
-    4 ∷ 0 ∷ 0 ∷ 0 ∷ 0 ∷ 0 ∷ 0 ∷ 0 ∷ 0 ∷ 0 ∷ 0 ∷ 0 ∷ 0 ∷
-    4 ∷ 0 ∷ 0 ∷ 0 ∷ 0 ∷ 0 ∷ 0 ∷ 0 ∷ 0 ∷ 0 ∷ 0 ∷ 0 ∷ 0 ∷
-    4 ∷ 1 ∷ 0 ∷ 2 ∷ 0 ∷ 0 ∷ 0 ∷ 0 ∷ 0 ∷ 0 ∷ 0 ∷ 0 ∷ 0 ∷
-    3 ∷ 0 ∷ 0 ∷ 0 ∷ 1 ∷ 0 ∷
-    4 ∷ 0 ∷ 0 ∷ 0 ∷ 0 ∷ 0 ∷ 0 ∷ 0 ∷ 0 ∷ 0 ∷ 0 ∷ 0 ∷ 0 ∷
-    4 ∷ 1 ∷ 0 ∷ 1 ∷ 0 ∷ 0 ∷ 0 ∷ 0 ∷ 0 ∷ 0 ∷ 0 ∷ 0 ∷ 0 ∷
-    4 ∷ 0 ∷ 0 ∷ 0 ∷ 0 ∷ 0 ∷ 0 ∷ 0 ∷ 0 ∷ 0 ∷ 0 ∷ 0 ∷ 0 ∷
-    4 ∷ 0 ∷ 0 ∷ 0 ∷ 0 ∷ 0 ∷ 0 ∷ 0 ∷ 0 ∷ 0 ∷ 0 ∷ 0 ∷ 0 ∷
-    5 ∷ 0 ∷ 0 ∷ 0 ∷ 0 ∷ []
+abbrev image-109 : List ℕ
+image-109 =
+    1 ∷ 0 ∷ 0 ∷ 0 ∷ 0 ∷ 0 ∷ 0 ∷ 68 ∷ 182 ∷ 0 ∷ 0 ∷ 64 ∷ 0 ∷ 0 ∷ 2 ∷ 0 ∷ 0 ∷ 0 ∷ 2 ∷ 0 ∷ 0 ∷ 0 ∷ 0 ∷ 1 ∷
+    2 ∷ 0 ∷ 2 ∷ 1 ∷ 4 ∷ 0 ∷ 0 ∷ 0 ∷ 0 ∷ 0 ∷
+    2 ∷ 0 ∷ 1 ∷ 4 ∷ 7 ∷ 1 ∷ 0 ∷ 0 ∷ 4 ∷ 32 ∷
+    3 ∷ 0 ∷ 0 ∷ 0 ∷ 0 ∷ 0 ∷
+    4 ∷ 1 ∷ 0 ∷ 1 ∷ 1 ∷ 0 ∷ 0 ∷ 0 ∷ 0 ∷ 0 ∷ 0 ∷ 0 ∷ 1 ∷ []
 
 abbrev image-111 : List ℕ
 image-111 =
-    1 ∷ 0 ∷ 0 ∷ 0 ∷ 0 ∷ 0 ∷ 2 ∷ 0 ∷ 1 ∷ 0 ∷ 1 ∷ 0 ∷ 0 ∷ 0 ∷ 1 ∷ 0 ∷ 0 ∷ 0 ∷ 0 ∷ 0 ∷ 0 ∷ 0 ∷ 3 ∷ 1 ∷
-    2 ∷ 0 ∷ 1 ∷ 0 ∷ 4 ∷ 0 ∷ 0 ∷ 0 ∷ 0 ∷ 0 ∷
-    2 ∷ 0 ∷ 0 ∷ 0 ∷ 4 ∷ 0 ∷ 0 ∷ 0 ∷ 0 ∷ 0 ∷
-    2 ∷ 0 ∷ 0 ∷ 4 ∷ 4 ∷ 0 ∷ 0 ∷ 0 ∷ 0 ∷ 0 ∷
+    1 ∷ 0 ∷ 0 ∷ 0 ∷ 0 ∷ 0 ∷ 0 ∷ 68 ∷ 182 ∷ 0 ∷ 0 ∷ 64 ∷ 0 ∷ 0 ∷ 2 ∷ 0 ∷ 0 ∷ 0 ∷ 2 ∷ 0 ∷ 0 ∷ 0 ∷ 0 ∷ 1 ∷
+    2 ∷ 0 ∷ 2 ∷ 1 ∷ 4 ∷ 0 ∷ 0 ∷ 0 ∷ 0 ∷ 0 ∷
+    2 ∷ 0 ∷ 1 ∷ 4 ∷ 7 ∷ 1 ∷ 0 ∷ 0 ∷ 4 ∷ 32 ∷
     3 ∷ 0 ∷ 0 ∷ 0 ∷ 0 ∷ 1 ∷
-    4 ∷ 0 ∷ 0 ∷ 0 ∷ 1 ∷ 0 ∷ 0 ∷ 0 ∷ 0 ∷ 0 ∷ 0 ∷ 0 ∷ 1 ∷
-    4 ∷ 0 ∷ 0 ∷ 0 ∷ 0 ∷ 0 ∷ 0 ∷ 0 ∷ 0 ∷ 0 ∷ 0 ∷ 0 ∷ 0 ∷
-    4 ∷ 0 ∷ 0 ∷ 0 ∷ 0 ∷ 0 ∷ 0 ∷ 0 ∷ 0 ∷ 0 ∷ 0 ∷ 0 ∷ 0 ∷
-    4 ∷ 1 ∷ 0 ∷ 2 ∷ 0 ∷ 0 ∷ 0 ∷ 0 ∷ 0 ∷ 0 ∷ 0 ∷ 0 ∷ 0 ∷
-    3 ∷ 0 ∷ 0 ∷ 0 ∷ 1 ∷ 0 ∷
-    4 ∷ 0 ∷ 0 ∷ 0 ∷ 0 ∷ 0 ∷ 0 ∷ 0 ∷ 0 ∷ 0 ∷ 0 ∷ 0 ∷ 0 ∷
-    4 ∷ 1 ∷ 0 ∷ 1 ∷ 0 ∷ 0 ∷ 0 ∷ 0 ∷ 0 ∷ 0 ∷ 0 ∷ 0 ∷ 0 ∷
-    4 ∷ 3 ∷ 0 ∷ 0 ∷ 1 ∷ 0 ∷ 0 ∷ 0 ∷ 0 ∷ 0 ∷ 0 ∷ 0 ∷ 2 ∷
-    4 ∷ 0 ∷ 0 ∷ 0 ∷ 0 ∷ 0 ∷ 0 ∷ 0 ∷ 0 ∷ 0 ∷ 0 ∷ 0 ∷ 0 ∷
-    5 ∷ 0 ∷ 0 ∷ 0 ∷ 0 ∷ []
+    4 ∷ 1 ∷ 0 ∷ 1 ∷ 1 ∷ 0 ∷ 0 ∷ 0 ∷ 0 ∷ 0 ∷ 0 ∷ 0 ∷ 1 ∷ []
+
+abbrev image-112 : List ℕ
+image-112 =
+    1 ∷ 0 ∷ 0 ∷ 0 ∷ 0 ∷ 0 ∷ 0 ∷ 68 ∷ 182 ∷ 0 ∷ 0 ∷ 64 ∷ 0 ∷ 0 ∷ 2 ∷ 0 ∷ 0 ∷ 0 ∷ 2 ∷ 0 ∷ 0 ∷ 0 ∷ 0 ∷ 1 ∷
+    2 ∷ 0 ∷ 2 ∷ 1 ∷ 4 ∷ 0 ∷ 0 ∷ 0 ∷ 0 ∷ 0 ∷
+    2 ∷ 0 ∷ 1 ∷ 4 ∷ 7 ∷ 1 ∷ 0 ∷ 0 ∷ 4 ∷ 32 ∷
+    3 ∷ 0 ∷ 0 ∷ 0 ∷ 0 ∷ 1 ∷
+    4 ∷ 1 ∷ 0 ∷ 2 ∷ 1 ∷ 0 ∷ 0 ∷ 0 ∷ 0 ∷ 0 ∷ 0 ∷ 0 ∷ 1 ∷ []
 
 abbrev image-114 : List ℕ
 image-114 =
-    1 ∷ 0 ∷ 0 ∷ 0 ∷ 0 ∷ 0 ∷ 2 ∷ 0 ∷ 1 ∷ 0 ∷ 1 ∷ 0 ∷ 0 ∷ 0 ∷ 1 ∷ 0 ∷ 0 ∷ 0 ∷ 0 ∷ 0 ∷ 0 ∷ 0 ∷ 3 ∷ 1 ∷
-    2 ∷ 0 ∷ 1 ∷ 0 ∷ 4 ∷ 0 ∷ 0 ∷ 0 ∷ 0 ∷ 0 ∷
-    2 ∷ 0 ∷ 0 ∷ 0 ∷ 4 ∷ 0 ∷ 0 ∷ 0 ∷ 0 ∷ 0 ∷
-    2 ∷ 0 ∷ 0 ∷ 4 ∷ 4 ∷ 0 ∷ 0 ∷ 0 ∷ 0 ∷ 0 ∷
+    1 ∷ 0 ∷ 0 ∷ 0 ∷ 0 ∷ 0 ∷ 0 ∷ 68 ∷ 182 ∷ 0 ∷ 0 ∷ 64 ∷ 0 ∷ 0 ∷ 2 ∷ 0 ∷ 0 ∷ 0 ∷ 2 ∷ 0 ∷ 0 ∷ 0 ∷ 0 ∷ 1 ∷
+    2 ∷ 0 ∷ 2 ∷ 1 ∷ 4 ∷ 0 ∷ 0 ∷ 0 ∷ 0 ∷ 0 ∷
+    2 ∷ 0 ∷ 2 ∷ 4 ∷ 7 ∷ 1 ∷ 0 ∷ 0 ∷ 4 ∷ 32 ∷
     3 ∷ 0 ∷ 0 ∷ 0 ∷ 0 ∷ 1 ∷
-    4 ∷ 0 ∷ 0 ∷ 0 ∷ 1 ∷ 0 ∷ 0 ∷ 0 ∷ 0 ∷ 0 ∷ 0 ∷ 0 ∷ 1 ∷
-    4 ∷ 0 ∷ 0 ∷ 0 ∷ 0 ∷ 0 ∷ 0 ∷ 0 ∷ 0 ∷ 0 ∷ 0 ∷ 0 ∷ 0 ∷
-    4 ∷ 0 ∷ 0 ∷ 0 ∷ 0 ∷ 0 ∷ 0 ∷ 0 ∷ 0 ∷ 0 ∷ 0 ∷ 0 ∷ 0 ∷
-    4 ∷ 1 ∷ 0 ∷ 2 ∷ 0 ∷ 0 ∷ 0 ∷ 0 ∷ 0 ∷ 0 ∷ 0 ∷ 0 ∷ 0 ∷
-    3 ∷ 0 ∷ 0 ∷ 0 ∷ 1 ∷ 0 ∷
-    4 ∷ 1 ∷ 0 ∷ 1 ∷ 1 ∷ 0 ∷ 0 ∷ 0 ∷ 0 ∷ 0 ∷ 0 ∷ 0 ∷ 1 ∷
-    4 ∷ 1 ∷ 0 ∷ 1 ∷ 0 ∷ 0 ∷ 0 ∷ 0 ∷ 0 ∷ 0 ∷ 0 ∷ 0 ∷ 0 ∷
-    4 ∷ 3 ∷ 0 ∷ 0 ∷ 1 ∷ 0 ∷ 0 ∷ 0 ∷ 0 ∷ 0 ∷ 0 ∷ 0 ∷ 2 ∷
-    4 ∷ 0 ∷ 0 ∷ 0 ∷ 0 ∷ 0 ∷ 0 ∷ 0 ∷ 0 ∷ 0 ∷ 0 ∷ 0 ∷ 0 ∷
-    5 ∷ 0 ∷ 0 ∷ 0 ∷ 0 ∷ []
+    4 ∷ 1 ∷ 0 ∷ 2 ∷ 1 ∷ 0 ∷ 0 ∷ 0 ∷ 0 ∷ 0 ∷ 0 ∷ 0 ∷ 1 ∷ []
 
-abbrev image-115 : List ℕ
-image-115 =
-    1 ∷ 0 ∷ 0 ∷ 0 ∷ 0 ∷ 0 ∷ 2 ∷ 0 ∷ 1 ∷ 0 ∷ 1 ∷ 0 ∷ 0 ∷ 0 ∷ 1 ∷ 0 ∷ 0 ∷ 0 ∷ 0 ∷ 0 ∷ 0 ∷ 0 ∷ 3 ∷ 1 ∷
-    2 ∷ 0 ∷ 1 ∷ 0 ∷ 4 ∷ 0 ∷ 0 ∷ 0 ∷ 0 ∷ 0 ∷
-    2 ∷ 0 ∷ 0 ∷ 0 ∷ 4 ∷ 0 ∷ 0 ∷ 0 ∷ 0 ∷ 0 ∷
-    2 ∷ 0 ∷ 0 ∷ 4 ∷ 4 ∷ 0 ∷ 0 ∷ 0 ∷ 0 ∷ 0 ∷
-    3 ∷ 0 ∷ 0 ∷ 0 ∷ 0 ∷ 1 ∷
-    4 ∷ 0 ∷ 0 ∷ 0 ∷ 1 ∷ 0 ∷ 0 ∷ 0 ∷ 0 ∷ 0 ∷ 0 ∷ 0 ∷ 1 ∷
-    4 ∷ 0 ∷ 0 ∷ 0 ∷ 0 ∷ 0 ∷ 0 ∷ 0 ∷ 0 ∷ 0 ∷ 0 ∷ 0 ∷ 0 ∷
-    4 ∷ 0 ∷ 0 ∷ 0 ∷ 0 ∷ 0 ∷ 0 ∷ 0 ∷ 0 ∷ 0 ∷ 0 ∷ 0 ∷ 0 ∷
-    4 ∷ 1 ∷ 0 ∷ 2 ∷ 0 ∷ 0 ∷ 0 ∷ 0 ∷ 0 ∷ 0 ∷ 0 ∷ 0 ∷ 0 ∷
-    3 ∷ 0 ∷ 0 ∷ 0 ∷ 1 ∷ 0 ∷
-    4 ∷ 0 ∷ 0 ∷ 0 ∷ 0 ∷ 0 ∷ 0 ∷ 0 ∷ 0 ∷ 0 ∷ 0 ∷ 0 ∷ 0 ∷
-    4 ∷ 1 ∷ 0 ∷ 1 ∷ 0 ∷ 0 ∷ 0 ∷ 0 ∷ 0 ∷ 0 ∷ 0 ∷ 0 ∷ 0 ∷
-    4 ∷ 3 ∷ 0 ∷ 0 ∷ 1 ∷ 0 ∷ 0 ∷ 0 ∷ 0 ∷ 0 ∷ 0 ∷ 0 ∷ 2 ∷
-    4 ∷ 0 ∷ 0 ∷ 0 ∷ 0 ∷ 0 ∷ 0 ∷ 0 ∷ 0 ∷ 0 ∷ 0 ∷ 0 ∷ 0 ∷
-    5 ∷ 0 ∷ 0 ∷ 0 ∷ 0 ∷ []
-
-abbrev image-116 : List ℕ
-image-116 =
-    1 ∷ 0 ∷ 0 ∷ 0 ∷ 0 ∷ 0 ∷ 2 ∷ 0 ∷ 1 ∷ 0 ∷ 1 ∷ 0 ∷ 0 ∷ 0 ∷ 1 ∷ 0 ∷ 0 ∷ 0 ∷ 0 ∷ 0 ∷ 0 ∷ 0 ∷ 3 ∷ 1 ∷
-    2 ∷ 0 ∷ 1 ∷ 0 ∷ 4 ∷ 0 ∷ 0 ∷ 0 ∷ 0 ∷ 0 ∷
-    2 ∷ 0 ∷ 0 ∷ 0 ∷ 4 ∷ 0 ∷ 0 ∷ 0 ∷ 0 ∷ 0 ∷
-    2 ∷ 0 ∷ 1 ∷ 4 ∷ 4 ∷ 0 ∷ 0 ∷ 0 ∷ 0 ∷ 0 ∷
-    3 ∷ 0 ∷ 0 ∷ 0 ∷ 0 ∷ 1 ∷
-    4 ∷ 0 ∷ 0 ∷ 0 ∷ 1 ∷ 0 ∷ 0 ∷ 0 ∷ 0 ∷ 0 ∷ 0 ∷ 0 ∷ 1 ∷
-    4 ∷ 0 ∷ 0 ∷ 0 ∷ 0 ∷ 0 ∷ 0 ∷ 0 ∷ 0 ∷ 0 ∷ 0 ∷ 0 ∷ 0 ∷
-    4 ∷ 0 ∷ 0 ∷ 0 ∷ 0 ∷ 0 ∷ 0 ∷ 0 ∷ 0 ∷ 0 ∷ 0 ∷ 0 ∷ 0 ∷
-    4 ∷ 1 ∷ 0 ∷ 2 ∷ 0 ∷ 0 ∷ 0 ∷ 0 ∷ 0 ∷ 0 ∷ 0 ∷ 0 ∷ 0 ∷
-    3 ∷ 0 ∷ 0 ∷ 0 ∷ 1 ∷ 0 ∷
-    4 ∷ 0 ∷ 0 ∷ 0 ∷ 0 ∷ 0 ∷ 0 ∷ 0 ∷ 0 ∷ 0 ∷ 0 ∷ 0 ∷ 0 ∷
-    4 ∷ 1 ∷ 0 ∷ 1 ∷ 0 ∷ 0 ∷ 0 ∷ 0 ∷ 0 ∷ 0 ∷ 0 ∷ 0 ∷ 0 ∷
-    4 ∷ 3 ∷ 0 ∷ 0 ∷ 1 ∷ 0 ∷ 0 ∷ 0 ∷ 0 ∷ 0 ∷ 0 ∷ 0 ∷ 2 ∷
-    4 ∷ 0 ∷ 0 ∷ 0 ∷ 0 ∷ 0 ∷ 0 ∷ 0 ∷ 0 ∷ 0 ∷ 0 ∷ 0 ∷ 0 ∷
-    5 ∷ 0 ∷ 0 ∷ 0 ∷ 0 ∷ []
-
-abbrev image-117 : List ℕ
-image-117 =
-    1 ∷ 0 ∷ 0 ∷ 0 ∷ 0 ∷ 0 ∷ 2 ∷ 0 ∷ 1 ∷ 0 ∷ 1 ∷ 0 ∷ 0 ∷ 0 ∷ 1 ∷ 0 ∷ 0 ∷ 0 ∷ 0 ∷ 0 ∷ 0 ∷ 0 ∷ 3 ∷ 1 ∷
-    2 ∷ 0 ∷ 1 ∷ 0 ∷ 4 ∷ 0 ∷ 0 ∷ 0 ∷ 0 ∷ 0 ∷
-    2 ∷ 0 ∷ 0 ∷ 0 ∷ 4 ∷ 0 ∷ 0 ∷ 0 ∷ 0 ∷ 0 ∷
-    2 ∷ 0 ∷ 1 ∷ 2 ∷ 4 ∷ 0 ∷ 0 ∷ 0 ∷ 0 ∷ 0 ∷
-    3 ∷ 0 ∷ 0 ∷ 0 ∷ 0 ∷ 1 ∷
-    4 ∷ 0 ∷ 0 ∷ 0 ∷ 1 ∷ 0 ∷ 0 ∷ 0 ∷ 0 ∷ 0 ∷ 0 ∷ 0 ∷ 1 ∷
-    4 ∷ 0 ∷ 0 ∷ 0 ∷ 0 ∷ 0 ∷ 0 ∷ 0 ∷ 0 ∷ 0 ∷ 0 ∷ 0 ∷ 0 ∷
-    4 ∷ 0 ∷ 0 ∷ 0 ∷ 0 ∷ 0 ∷ 0 ∷ 0 ∷ 0 ∷ 0 ∷ 0 ∷ 0 ∷ 0 ∷
-    4 ∷ 1 ∷ 0 ∷ 2 ∷ 0 ∷ 0 ∷ 0 ∷ 0 ∷ 0 ∷ 0 ∷ 0 ∷ 0 ∷ 0 ∷
-    3 ∷ 0 ∷ 0 ∷ 0 ∷ 1 ∷ 0 ∷
-    4 ∷ 0 ∷ 0 ∷ 0 ∷ 0 ∷ 0 ∷ 0 ∷ 0 ∷ 0 ∷ 0 ∷ 0 ∷ 0 ∷ 0 ∷
-    4 ∷ 1 ∷ 0 ∷ 1 ∷ 0 ∷ 0 ∷ 0 ∷ 0 ∷ 0 ∷ 0 ∷ 0 ∷ 0 ∷ 0 ∷
-    4 ∷ 3 ∷ 0 ∷ 0 ∷ 1 ∷ 0 ∷ 0 ∷ 0 ∷ 0 ∷ 0 ∷ 0 ∷ 0 ∷ 2 ∷
-    4 ∷ 0 ∷ 0 ∷ 0 ∷ 0 ∷ 0 ∷ 0 ∷ 0 ∷ 0 ∷ 0 ∷ 0 ∷ 0 ∷ 0 ∷
-    3 ∷ 0 ∷ 0 ∷ 0 ∷ 2 ∷ 0 ∷
-    4 ∷ 2 ∷ 0 ∷ 0 ∷ 0 ∷ 0 ∷ 0 ∷ 0 ∷ 0 ∷ 0 ∷ 0 ∷ 0 ∷ 0 ∷
-    5 ∷ 0 ∷ 0 ∷ 0 ∷ 0 ∷ []
-
-abbrev image-118 : List ℕ
-image-118 =
-    1 ∷ 0 ∷ 0 ∷ 0 ∷ 0 ∷ 0 ∷ 2 ∷ 0 ∷ 1 ∷ 0 ∷ 1 ∷ 0 ∷ 0 ∷ 0 ∷ 1 ∷ 0 ∷ 0 ∷ 0 ∷ 0 ∷ 0 ∷ 0 ∷ 0 ∷ 3 ∷ 1 ∷
-    2 ∷ 0 ∷ 1 ∷ 0 ∷ 4 ∷ 0 ∷ 0 ∷ 0 ∷ 0 ∷ 0 ∷
-    2 ∷ 0 ∷ 0 ∷ 0 ∷ 4 ∷ 0 ∷ 0 ∷ 0 ∷ 0 ∷ 0 ∷
-    2 ∷ 0 ∷ 1 ∷ 2 ∷ 4 ∷ 0 ∷ 0 ∷ 0 ∷ 0 ∷ 0 ∷
-    3 ∷ 0 ∷ 0 ∷ 0 ∷ 0 ∷ 1 ∷
-    4 ∷ 0 ∷ 0 ∷ 0 ∷ 1 ∷ 0 ∷ 0 ∷ 0 ∷ 0 ∷ 0 ∷ 0 ∷ 0 ∷ 1 ∷
-    4 ∷ 0 ∷ 0 ∷ 0 ∷ 0 ∷ 0 ∷ 0 ∷ 0 ∷ 0 ∷ 0 ∷ 0 ∷ 0 ∷ 0 ∷
-    4 ∷ 0 ∷ 0 ∷ 0 ∷ 0 ∷ 0 ∷ 0 ∷ 0 ∷ 0 ∷ 0 ∷ 0 ∷ 0 ∷ 0 ∷
-    4 ∷ 1 ∷ 0 ∷ 2 ∷ 0 ∷ 0 ∷ 0 ∷ 0 ∷ 0 ∷ 0 ∷ 0 ∷ 0 ∷ 0 ∷
-    3 ∷ 0 ∷ 0 ∷ 0 ∷ 1 ∷ 0 ∷
-    4 ∷ 0 ∷ 0 ∷ 0 ∷ 0 ∷ 0 ∷ 0 ∷ 0 ∷ 0 ∷ 0 ∷ 0 ∷ 0 ∷ 0 ∷
-    4 ∷ 2 ∷ 0 ∷ 0 ∷ 1 ∷ 0 ∷ 0 ∷ 0 ∷ 0 ∷ 0 ∷ 0 ∷ 0 ∷ 0 ∷
-    4 ∷ 3 ∷ 0 ∷ 0 ∷ 1 ∷ 0 ∷ 0 ∷ 0 ∷ 0 ∷ 0 ∷ 0 ∷ 0 ∷ 2 ∷
-    4 ∷ 0 ∷ 0 ∷ 0 ∷ 0 ∷ 0 ∷ 0 ∷ 0 ∷ 0 ∷ 0 ∷ 0 ∷ 0 ∷ 0 ∷
-    3 ∷ 0 ∷ 0 ∷ 0 ∷ 2 ∷ 0 ∷
-    4 ∷ 2 ∷ 0 ∷ 0 ∷ 0 ∷ 0 ∷ 0 ∷ 0 ∷ 0 ∷ 0 ∷ 0 ∷ 0 ∷ 0 ∷
-    5 ∷ 0 ∷ 0 ∷ 0 ∷ 0 ∷ []
-
-abbrev image-119 : List ℕ
-image-119 =
-    1 ∷ 0 ∷ 0 ∷ 0 ∷ 0 ∷ 0 ∷ 2 ∷ 0 ∷ 1 ∷ 0 ∷ 1 ∷ 0 ∷ 0 ∷ 0 ∷ 1 ∷ 0 ∷ 0 ∷ 0 ∷ 0 ∷ 0 ∷ 0 ∷ 0 ∷ 3 ∷ 1 ∷
-    2 ∷ 0 ∷ 1 ∷ 0 ∷ 4 ∷ 0 ∷ 0 ∷ 0 ∷ 0 ∷ 0 ∷
-    2 ∷ 0 ∷ 0 ∷ 0 ∷ 4 ∷ 0 ∷ 0 ∷ 0 ∷ 0 ∷ 0 ∷
-    2 ∷ 0 ∷ 1 ∷ 2 ∷ 4 ∷ 0 ∷ 0 ∷ 0 ∷ 0 ∷ 0 ∷
-    3 ∷ 0 ∷ 0 ∷ 0 ∷ 0 ∷ 1 ∷
-    4 ∷ 0 ∷ 0 ∷ 0 ∷ 1 ∷ 0 ∷ 0 ∷ 0 ∷ 0 ∷ 0 ∷ 0 ∷ 0 ∷ 1 ∷
-    4 ∷ 0 ∷ 0 ∷ 0 ∷ 0 ∷ 0 ∷ 0 ∷ 0 ∷ 0 ∷ 0 ∷ 0 ∷ 0 ∷ 0 ∷
-    4 ∷ 0 ∷ 0 ∷ 0 ∷ 0 ∷ 0 ∷ 0 ∷ 0 ∷ 0 ∷ 0 ∷ 0 ∷ 0 ∷ 0 ∷
-    4 ∷ 1 ∷ 0 ∷ 2 ∷ 0 ∷ 0 ∷ 0 ∷ 0 ∷ 0 ∷ 0 ∷ 0 ∷ 0 ∷ 0 ∷
-    3 ∷ 0 ∷ 0 ∷ 0 ∷ 1 ∷ 0 ∷
-    4 ∷ 0 ∷ 0 ∷ 0 ∷ 0 ∷ 0 ∷ 0 ∷ 0 ∷ 0 ∷ 0 ∷ 0 ∷ 0 ∷ 0 ∷
-    4 ∷ 2 ∷ 0 ∷ 0 ∷ 1 ∷ 0 ∷ 0 ∷ 0 ∷ 0 ∷ 0 ∷ 0 ∷ 0 ∷ 0 ∷
-    4 ∷ 3 ∷ 0 ∷ 0 ∷ 1 ∷ 0 ∷ 0 ∷ 0 ∷ 0 ∷ 0 ∷ 0 ∷ 0 ∷ 2 ∷
-    4 ∷ 0 ∷ 0 ∷ 0 ∷ 0 ∷ 0 ∷ 0 ∷ 0 ∷ 0 ∷ 0 ∷ 0 ∷ 0 ∷ 0 ∷
-    3 ∷ 0 ∷ 0 ∷ 0 ∷ 2 ∷ 0 ∷
-    4 ∷ 3 ∷ 0 ∷ 0 ∷ 1 ∷ 0 ∷ 0 ∷ 0 ∷ 0 ∷ 0 ∷ 0 ∷ 0 ∷ 2 ∷
-    5 ∷ 0 ∷ 0 ∷ 0 ∷ 0 ∷ []
-
-abbrev image-120 : List ℕ
-image-120 =
-    1 ∷ 0 ∷ 0 ∷ 0 ∷ 0 ∷ 0 ∷ 2 ∷ 0 ∷ 1 ∷ 0 ∷ 1 ∷ 0 ∷ 0 ∷ 0 ∷ 1 ∷ 0 ∷ 0 ∷ 0 ∷ 0 ∷ 0 ∷ 0 ∷ 0 ∷ 3 ∷ 1 ∷
-    2 ∷ 0 ∷ 1 ∷ 0 ∷ 6 ∷ 0 ∷ 0 ∷ 0 ∷ 0 ∷ 0 ∷
-    2 ∷ 0 ∷ 0 ∷ 0 ∷ 4 ∷ 0 ∷ 0 ∷ 0 ∷ 0 ∷ 0 ∷
-    2 ∷ 0 ∷ 1 ∷ 2 ∷ 4 ∷ 0 ∷ 0 ∷ 0 ∷ 0 ∷ 0 ∷
-    3 ∷ 0 ∷ 0 ∷ 0 ∷ 0 ∷ 1 ∷
-    4 ∷ 0 ∷ 0 ∷ 0 ∷ 1 ∷ 0 ∷ 0 ∷ 0 ∷ 0 ∷ 0 ∷ 0 ∷ 0 ∷ 1 ∷
-    4 ∷ 0 ∷ 0 ∷ 0 ∷ 0 ∷ 0 ∷ 0 ∷ 0 ∷ 0 ∷ 0 ∷ 0 ∷ 0 ∷ 0 ∷
-    4 ∷ 0 ∷ 0 ∷ 0 ∷ 0 ∷ 0 ∷ 0 ∷ 0 ∷ 0 ∷ 0 ∷ 0 ∷ 0 ∷ 0 ∷
-    4 ∷ 1 ∷ 0 ∷ 2 ∷ 0 ∷ 0 ∷ 0 ∷ 0 ∷ 0 ∷ 0 ∷ 0 ∷ 0 ∷ 0 ∷
-    3 ∷ 0 ∷ 0 ∷ 0 ∷ 1 ∷ 0 ∷
-    4 ∷ 0 ∷ 0 ∷ 0 ∷ 0 ∷ 0 ∷ 0 ∷ 0 ∷ 0 ∷ 0 ∷ 0 ∷ 0 ∷ 0 ∷
-    4 ∷ 2 ∷ 0 ∷ 0 ∷ 1 ∷ 0 ∷ 0 ∷ 0 ∷ 0 ∷ 0 ∷ 0 ∷ 0 ∷ 0 ∷
-    4 ∷ 3 ∷ 0 ∷ 0 ∷ 1 ∷ 0 ∷ 0 ∷ 0 ∷ 0 ∷ 0 ∷ 0 ∷ 0 ∷ 2 ∷
-    4 ∷ 0 ∷ 0 ∷ 0 ∷ 0 ∷ 0 ∷ 0 ∷ 0 ∷ 0 ∷ 0 ∷ 0 ∷ 0 ∷ 0 ∷
-    3 ∷ 0 ∷ 0 ∷ 0 ∷ 2 ∷ 0 ∷
-    4 ∷ 3 ∷ 0 ∷ 0 ∷ 1 ∷ 0 ∷ 0 ∷ 0 ∷ 0 ∷ 0 ∷ 0 ∷ 0 ∷ 2 ∷
-    5 ∷ 0 ∷ 0 ∷ 0 ∷ 0 ∷ []
-
--- calls 92 to 120
+-- calls 92 to 115
 calls-92 :
     outcomes none
-    (new-line plenty 131073 65536
-    ∷ call-line plenty (dec-refcount 0 (words 4352 []))
-    ∷ call-line plenty (mark-as-downloading 0 3 (some 2) 130 (words 4352 []))
-    ∷ call-line plenty (mark-as-downloading 1 1 none 0 (words 4352 []))
+    (read-line plenty image-92
     ∷ call-line plenty (piece-passed 0)
-    ∷ call-line plenty (question (ofPiece payload-blocks-in-piece 4))
-    ∷ call-line plenty (piece-passed 2)
-    ∷ call-line plenty (dec-refcount 0 (words 5000 []))
-    ∷ call-line plenty (inc-refcount 0 (words 4352 []))
-    ∷ call-line plenty (set-piece-priority 2 4 (words 4352 []))
+    ∷ call-line plenty (piece-passed 1)
+    ∷ call-line plenty (abort-download 0 0 (some 18446744073709551615) (words 4352 []))
+    ∷ call-line plenty (mark-as-writing 9223372036854775807 0 none (words 5000 []))
+    ∷ call-line plenty (dec-refcount 1 (words 5000 []))
+    ∷ call-line plenty (inc-refcount 1 (words 4352 []))
     ∷ call-line plenty (dec-refcount 1 (words 4352 []))
-    ∷ call-line plenty (abort-download 0 2 (some 0) (words 4352 []))
-    ∷ call-line plenty inc-refcount-all
-    ∷ call-line plenty (mark-as-downloading 0 3 none 128 (words 4352 []))
-    ∷ call-line plenty (abort-download 0 2 (some 0) (words 4352 []))
+    ∷ call-line plenty (set-piece-priority 0 4 (words 4352 []))
+    ∷ call-line plenty (inc-refcount 1 (words 4352 []))
+    ∷ call-line plenty (mark-as-downloading 0 0 (some 0) 0 (words 4352 []))
+    ∷ call-line plenty (mark-as-downloading 0 0 none 128 (words 4352 []))
+    ∷ call-line plenty (abort-download 0 0 (some 0) (words 4352 []))
     ∷ call-line plenty (mark-as-canceled 0 0 (some 1) (words 4352 []))
     ∷ call-line plenty (question (partial-at 1))
     ∷ call-line plenty (question (listOfPicker get-download-queue 1000000))
-    ∷ call-line plenty (mark-as-finished 1 2 (some 2) (words 4352 []))
-    ∷ call-line plenty (question (ofBlock block-num-peers 0 1))
+    ∷ call-line plenty (mark-as-finished 1 0 (some 2) (words 4352 []))
+    ∷ call-line plenty (question (ofBlock block-num-peers 0 0))
     ∷ call-line plenty (piece-passed 0)
-    ∷ call-line plenty (mark-as-downloading 1 0 (some 1) 0 (words 5000 []))
+    ∷ call-line plenty (mark-as-downloading 0 0 (some 1) 0 (words 5000 []))
     ∷ call-line plenty (abort-download 1 0 none (words 4352 []))
-    ∷ call-line plenty (inc-refcount 2 (words 4352 []))
-    ∷ call-line plenty (mark-as-writing 2 0 none (words 4352 []))
-    ∷ call-line plenty (mark-as-writing 1 1 (some 0) (words 4352 []))
-    ∷ call-line plenty (mark-as-finished 2 0 (some 2) (words 5000 []))
-    ∷ call-line plenty (set-piece-priority 0 6 (words 4352 []))
+    ∷ call-line plenty (inc-refcount 1 (words 5000 []))
+    ∷ call-line plenty (pick-pieces (asking 140 2048 0 1000 (some 1) 2 (218 ∷ []) []) 4351 (words 5000 (409474077 ∷ [])))
     ∷ [])
     ≡ outcome stands image-92
-    ∷ outcome (answered (refused NoPeerToTake)) image-92
-    ∷ outcome (answered (said true 0)) image-94
-    ∷ outcome (answered (said true 0)) image-95
-    ∷ outcome (answered (done 0)) image-96
-    ∷ outcome (answered (refused OutOfRange)) image-96
-    ∷ outcome (answered (done 0)) image-96
-    ∷ outcome (answered (refused NoPeerToTake)) image-96
-    ∷ outcome (answered (done 0)) image-101
-    ∷ outcome (answered (said false 0)) image-101
-    ∷ outcome (answered (refused NoPeerToTake)) image-101
-    ∷ outcome (answered (done 0)) image-101
+    ∷ outcome (answered (done 0)) image-92
+    ∷ outcome (answered (done 0)) image-94
+    ∷ outcome (answered (done 0)) image-95
+    ∷ outcome (answered (refused OutOfRange)) image-95
+    ∷ outcome (answered (done 0)) image-97
+    ∷ outcome (answered (done 0)) image-98
+    ∷ outcome (answered (done 0)) image-99
+    ∷ outcome (answered (said false 0)) image-99
+    ∷ outcome (answered (done 0)) image-102
+    ∷ outcome (answered (said true 0)) image-103
+    ∷ outcome (answered (said true 0)) image-104
     ∷ outcome (answered (done 0)) image-105
-    ∷ outcome (answered (said true 0)) image-106
     ∷ outcome (answered (done 0)) image-106
-    ∷ outcome (answered (done 0)) image-108
-    ∷ outcome (answered (replied (numbers ((some 1) ∷ [])))) image-108
-    ∷ outcome (answered (replied (numbers ((some 0) ∷ (some 0) ∷ (some 1) ∷ (some 0) ∷ (some 0) ∷ (some 1) ∷ (some 0) ∷ (some 1) ∷ (some 0) ∷ (some 0) ∷ (some 0) ∷ (some 0) ∷ (some 1) ∷ (some 0) ∷ [])))) image-108
+    ∷ outcome (answered (replied (numbers ((some 1) ∷ [])))) image-106
+    ∷ outcome (answered (replied (numbers ((some 0) ∷ (some 0) ∷ (some 0) ∷ (some 0) ∷ (some 0) ∷ (some 1) ∷ (some 0) ∷ (some 1) ∷ (some 0) ∷ (some 1) ∷ (some 0) ∷ (some 0) ∷ (some 0) ∷ (some 0) ∷ [])))) image-106
+    ∷ outcome (answered (done 0)) image-109
+    ∷ outcome (answered (replied (numbers ((some 1) ∷ [])))) image-109
     ∷ outcome (answered (done 0)) image-111
-    ∷ outcome (answered (replied (numbers ((some 0) ∷ [])))) image-111
-    ∷ outcome (answered (done 0)) image-111
-    ∷ outcome (answered (said true 0)) image-114
-    ∷ outcome (answered (done 0)) image-115
-    ∷ outcome (answered (done 0)) image-116
-    ∷ outcome (answered (said true 0)) image-117
-    ∷ outcome (answered (said true 0)) image-118
-    ∷ outcome (answered (done 0)) image-119
-    ∷ outcome (answered (said false 0)) image-120
+    ∷ outcome (answered (said true 0)) image-112
+    ∷ outcome (answered (done 0)) image-112
+    ∷ outcome (answered (done 0)) image-114
+    ∷ outcome (answered (picked [] 9216 (0 ∷ 0 ∷ 0 ∷ 0 ∷ 1 ∷ 0 ∷ 0 ∷ []) 1)) image-114
     ∷ []
 unfolding replaying
 calls-92 = refl
 
-abbrev image-122 : List ℕ
-image-122 =
-    1 ∷ 0 ∷ 0 ∷ 0 ∷ 0 ∷ 0 ∷ 0 ∷ 0 ∷ 1 ∷ 0 ∷ 0 ∷ 128 ∷ 0 ∷ 0 ∷ 0 ∷ 0 ∷ 0 ∷ 0 ∷ 0 ∷ 0 ∷ 0 ∷ 0 ∷ 1 ∷ 1 ∷
+abbrev image-116 : List ℕ
+image-116 =
+    1 ∷ 0 ∷ 0 ∷ 0 ∷ 0 ∷ 0 ∷ 4 ∷ 108 ∷ 217 ∷ 0 ∷ 1 ∷ 0 ∷ 0 ∷ 0 ∷ 0 ∷ 0 ∷ 0 ∷ 0 ∷ 0 ∷ 0 ∷ 0 ∷ 0 ∷ 5 ∷ 1 ∷
+    2 ∷ 0 ∷ 0 ∷ 4 ∷ 4 ∷ 0 ∷ 0 ∷ 0 ∷ 0 ∷ 0 ∷
+    2 ∷ 0 ∷ 0 ∷ 4 ∷ 4 ∷ 0 ∷ 0 ∷ 0 ∷ 0 ∷ 0 ∷
+    2 ∷ 0 ∷ 0 ∷ 4 ∷ 4 ∷ 0 ∷ 0 ∷ 0 ∷ 0 ∷ 0 ∷
+    2 ∷ 0 ∷ 0 ∷ 4 ∷ 4 ∷ 0 ∷ 0 ∷ 0 ∷ 0 ∷ 0 ∷
     2 ∷ 0 ∷ 0 ∷ 4 ∷ 4 ∷ 0 ∷ 0 ∷ 0 ∷ 0 ∷ 0 ∷ []
 
-abbrev image-127 : List ℕ
-image-127 =
-    1 ∷ 0 ∷ 0 ∷ 0 ∷ 0 ∷ 0 ∷ 0 ∷ 0 ∷ 1 ∷ 0 ∷ 0 ∷ 128 ∷ 0 ∷ 0 ∷ 0 ∷ 0 ∷ 0 ∷ 0 ∷ 0 ∷ 0 ∷ 0 ∷ 0 ∷ 1 ∷ 1 ∷
-    2 ∷ 0 ∷ 0 ∷ 2 ∷ 4 ∷ 0 ∷ 0 ∷ 0 ∷ 0 ∷ 0 ∷
-    3 ∷ 0 ∷ 0 ∷ 0 ∷ 0 ∷ 0 ∷
-    4 ∷ 3 ∷ 0 ∷ 0 ∷ 1 ∷ 0 ∷ 0 ∷ 0 ∷ 0 ∷ 0 ∷ 0 ∷ 0 ∷ 0 ∷ []
+abbrev image-117 : List ℕ
+image-117 =
+    1 ∷ 0 ∷ 0 ∷ 0 ∷ 0 ∷ 0 ∷ 4 ∷ 108 ∷ 217 ∷ 0 ∷ 1 ∷ 0 ∷ 0 ∷ 0 ∷ 0 ∷ 0 ∷ 0 ∷ 0 ∷ 0 ∷ 0 ∷ 0 ∷ 0 ∷ 5 ∷ 1 ∷
+    2 ∷ 0 ∷ 0 ∷ 4 ∷ 4 ∷ 0 ∷ 0 ∷ 0 ∷ 0 ∷ 0 ∷
+    2 ∷ 0 ∷ 1 ∷ 4 ∷ 4 ∷ 0 ∷ 0 ∷ 0 ∷ 0 ∷ 0 ∷
+    2 ∷ 0 ∷ 0 ∷ 4 ∷ 4 ∷ 0 ∷ 0 ∷ 0 ∷ 0 ∷ 0 ∷
+    2 ∷ 0 ∷ 0 ∷ 4 ∷ 4 ∷ 0 ∷ 0 ∷ 0 ∷ 0 ∷ 0 ∷
+    2 ∷ 0 ∷ 0 ∷ 4 ∷ 4 ∷ 0 ∷ 0 ∷ 0 ∷ 0 ∷ 0 ∷ []
 
-abbrev image-129 : List ℕ
-image-129 =
-    1 ∷ 0 ∷ 0 ∷ 0 ∷ 0 ∷ 0 ∷ 0 ∷ 0 ∷ 1 ∷ 0 ∷ 0 ∷ 128 ∷ 0 ∷ 0 ∷ 0 ∷ 0 ∷ 0 ∷ 0 ∷ 0 ∷ 0 ∷ 0 ∷ 0 ∷ 1 ∷ 1 ∷
-    2 ∷ 0 ∷ 1 ∷ 2 ∷ 4 ∷ 0 ∷ 0 ∷ 0 ∷ 0 ∷ 0 ∷
-    3 ∷ 0 ∷ 0 ∷ 0 ∷ 0 ∷ 0 ∷
-    4 ∷ 3 ∷ 0 ∷ 0 ∷ 1 ∷ 0 ∷ 0 ∷ 0 ∷ 0 ∷ 0 ∷ 0 ∷ 0 ∷ 0 ∷ []
+abbrev image-119 : List ℕ
+image-119 =
+    1 ∷ 0 ∷ 0 ∷ 0 ∷ 0 ∷ 0 ∷ 4 ∷ 108 ∷ 217 ∷ 0 ∷ 1 ∷ 0 ∷ 0 ∷ 0 ∷ 0 ∷ 0 ∷ 0 ∷ 0 ∷ 0 ∷ 0 ∷ 0 ∷ 0 ∷ 5 ∷ 1 ∷
+    2 ∷ 0 ∷ 0 ∷ 4 ∷ 4 ∷ 0 ∷ 0 ∷ 0 ∷ 0 ∷ 0 ∷
+    2 ∷ 0 ∷ 1 ∷ 4 ∷ 4 ∷ 0 ∷ 0 ∷ 0 ∷ 0 ∷ 0 ∷
+    2 ∷ 0 ∷ 0 ∷ 4 ∷ 4 ∷ 0 ∷ 0 ∷ 0 ∷ 0 ∷ 0 ∷
+    2 ∷ 0 ∷ 0 ∷ 4 ∷ 4 ∷ 0 ∷ 0 ∷ 0 ∷ 0 ∷ 0 ∷
+    2 ∷ 0 ∷ 1 ∷ 4 ∷ 4 ∷ 0 ∷ 0 ∷ 0 ∷ 0 ∷ 0 ∷ []
 
--- calls 122 to 129
-calls-122 :
+-- calls 116 to 120
+calls-116 :
     outcomes none
-    (new-line plenty 1 32768
-    ∷ call-line plenty (piece-passed 0)
-    ∷ call-line plenty (pick-pieces (asking 100 2048 1 1001 (some 1) 1 (255 ∷ []) (0 ∷ 0 ∷ [])) 4351 (words 4352 []))
-    ∷ call-line plenty (mark-as-downloading 2147483648 0 (some 18446744073709551615) 128 (words 4352 []))
-    ∷ call-line plenty (mark-as-finished 0 0 (some 0) (words 4352 []))
-    ∷ call-line plenty (mark-as-finished 0 0 (some 1) (words 5000 []))
-    ∷ call-line plenty (inc-refcount 0 (words 4352 []))
+    (new-line plenty 290009 65536
+    ∷ call-line plenty (inc-refcount 1 (words 4352 []))
+    ∷ call-line plenty (question (listOfPicker piece-priorities 1000000))
+    ∷ call-line plenty (inc-refcount 4 (words 4352 []))
+    ∷ call-line plenty (mark-as-canceled 1 3 (some 0) (words 4352 []))
     ∷ [])
-    ≡ outcome stands image-122
-    ∷ outcome (answered (done 0)) image-122
-    ∷ outcome (answered (refused PickArguments)) image-122
-    ∷ outcome (answered (refused OutOfRange)) image-122
-    ∷ outcome (answered (done 0)) image-127
-    ∷ outcome (answered (done 0)) image-127
-    ∷ outcome (answered (done 0)) image-129
+    ≡ outcome stands image-116
+    ∷ outcome (answered (done 0)) image-117
+    ∷ outcome (answered (replied (numbers ((some 4) ∷ (some 4) ∷ (some 4) ∷ (some 4) ∷ (some 4) ∷ [])))) image-117
+    ∷ outcome (answered (done 0)) image-119
+    ∷ outcome (answered (done 0)) image-119
     ∷ []
 unfolding replaying
-calls-122 = refl
+calls-116 = refl
+
+abbrev image-122 : List ℕ
+image-122 =
+    1 ∷ 0 ∷ 0 ∷ 0 ∷ 0 ∷ 0 ∷ 0 ∷ 128 ∷ 1 ∷ 0 ∷ 0 ∷ 128 ∷ 0 ∷ 0 ∷ 0 ∷ 0 ∷ 0 ∷ 0 ∷ 0 ∷ 0 ∷ 0 ∷ 0 ∷ 2 ∷ 1 ∷
+    2 ∷ 0 ∷ 0 ∷ 4 ∷ 4 ∷ 0 ∷ 0 ∷ 0 ∷ 0 ∷ 0 ∷
+    2 ∷ 0 ∷ 0 ∷ 4 ∷ 4 ∷ 0 ∷ 0 ∷ 0 ∷ 0 ∷ 0 ∷ []
+
+abbrev image-124 : List ℕ
+image-124 =
+    1 ∷ 0 ∷ 0 ∷ 0 ∷ 0 ∷ 0 ∷ 0 ∷ 128 ∷ 1 ∷ 0 ∷ 0 ∷ 128 ∷ 0 ∷ 0 ∷ 0 ∷ 0 ∷ 0 ∷ 0 ∷ 0 ∷ 0 ∷ 0 ∷ 0 ∷ 2 ∷ 1 ∷
+    2 ∷ 0 ∷ 0 ∷ 5 ∷ 4 ∷ 0 ∷ 0 ∷ 0 ∷ 0 ∷ 0 ∷
+    2 ∷ 0 ∷ 0 ∷ 4 ∷ 4 ∷ 0 ∷ 0 ∷ 0 ∷ 0 ∷ 0 ∷
+    3 ∷ 0 ∷ 0 ∷ 0 ∷ 0 ∷ 0 ∷
+    4 ∷ 1 ∷ 0 ∷ 1 ∷ 1 ∷ 0 ∷ 0 ∷ 0 ∷ 0 ∷ 0 ∷ 0 ∷ 0 ∷ 0 ∷
+    4 ∷ 0 ∷ 0 ∷ 0 ∷ 0 ∷ 0 ∷ 0 ∷ 0 ∷ 0 ∷ 0 ∷ 0 ∷ 0 ∷ 0 ∷
+    5 ∷ 0 ∷ 0 ∷ 0 ∷ 0 ∷ []
+
+abbrev image-126 : List ℕ
+image-126 =
+    1 ∷ 0 ∷ 0 ∷ 0 ∷ 0 ∷ 0 ∷ 0 ∷ 128 ∷ 1 ∷ 0 ∷ 0 ∷ 128 ∷ 0 ∷ 0 ∷ 0 ∷ 0 ∷ 0 ∷ 0 ∷ 0 ∷ 0 ∷ 0 ∷ 0 ∷ 2 ∷ 0 ∷
+    2 ∷ 0 ∷ 0 ∷ 5 ∷ 4 ∷ 0 ∷ 0 ∷ 0 ∷ 0 ∷ 0 ∷
+    2 ∷ 0 ∷ 0 ∷ 4 ∷ 4 ∷ 0 ∷ 0 ∷ 0 ∷ 0 ∷ 0 ∷
+    3 ∷ 0 ∷ 0 ∷ 0 ∷ 0 ∷ 0 ∷
+    4 ∷ 1 ∷ 0 ∷ 1 ∷ 1 ∷ 0 ∷ 0 ∷ 0 ∷ 0 ∷ 0 ∷ 0 ∷ 0 ∷ 0 ∷
+    4 ∷ 0 ∷ 0 ∷ 0 ∷ 0 ∷ 0 ∷ 0 ∷ 0 ∷ 0 ∷ 0 ∷ 0 ∷ 0 ∷ 0 ∷
+    5 ∷ 0 ∷ 0 ∷ 0 ∷ 0 ∷ []
 
 abbrev image-130 : List ℕ
 image-130 =
-    1 ∷ 0 ∷ 0 ∷ 0 ∷ 0 ∷ 0 ∷ 5 ∷ 0 ∷ 0 ∷ 0 ∷ 1 ∷ 0 ∷ 0 ∷ 0 ∷ 210 ∷ 0 ∷ 0 ∷ 0 ∷ 2 ∷ 0 ∷ 0 ∷ 0 ∷ 2 ∷ 0 ∷
-    2 ∷ 0 ∷ 0 ∷ 4 ∷ 6 ∷ 0 ∷ 0 ∷ 0 ∷ 0 ∷ 0 ∷
-    2 ∷ 0 ∷ 1 ∷ 4 ∷ 4 ∷ 0 ∷ 0 ∷ 0 ∷ 128 ∷ 0 ∷
-    2 ∷ 3 ∷ 21 ∷ 4 ∷ 7 ∷ 0 ∷ 0 ∷ 0 ∷ 0 ∷ 0 ∷
-    2 ∷ 0 ∷ 1 ∷ 4 ∷ 6 ∷ 0 ∷ 0 ∷ 0 ∷ 0 ∷ 0 ∷
-    2 ∷ 3 ∷ 22 ∷ 4 ∷ 7 ∷ 1 ∷ 0 ∷ 0 ∷ 64 ∷ 1 ∷
-    6 ∷ 0 ∷ 0 ∷ 0 ∷ 0 ∷
-    6 ∷ 0 ∷ 0 ∷ 0 ∷ 3 ∷
-    6 ∷ 0 ∷ 0 ∷ 0 ∷ 1 ∷
-    6 ∷ 0 ∷ 0 ∷ 0 ∷ 2 ∷ []
+    1 ∷ 0 ∷ 0 ∷ 0 ∷ 0 ∷ 0 ∷ 0 ∷ 128 ∷ 1 ∷ 0 ∷ 0 ∷ 128 ∷ 0 ∷ 0 ∷ 1 ∷ 0 ∷ 0 ∷ 0 ∷ 0 ∷ 0 ∷ 0 ∷ 0 ∷ 2 ∷ 1 ∷
+    2 ∷ 0 ∷ 0 ∷ 5 ∷ 4 ∷ 0 ∷ 0 ∷ 0 ∷ 0 ∷ 0 ∷
+    2 ∷ 0 ∷ 0 ∷ 4 ∷ 4 ∷ 0 ∷ 0 ∷ 0 ∷ 0 ∷ 0 ∷
+    3 ∷ 0 ∷ 0 ∷ 0 ∷ 0 ∷ 0 ∷
+    4 ∷ 1 ∷ 0 ∷ 1 ∷ 1 ∷ 0 ∷ 0 ∷ 0 ∷ 0 ∷ 0 ∷ 0 ∷ 0 ∷ 0 ∷
+    4 ∷ 0 ∷ 0 ∷ 0 ∷ 0 ∷ 0 ∷ 0 ∷ 0 ∷ 0 ∷ 0 ∷ 0 ∷ 0 ∷ 0 ∷
+    5 ∷ 0 ∷ 0 ∷ 0 ∷ 0 ∷ []
+
+abbrev image-131 : List ℕ
+image-131 =
+    1 ∷ 0 ∷ 0 ∷ 0 ∷ 0 ∷ 0 ∷ 0 ∷ 128 ∷ 1 ∷ 0 ∷ 0 ∷ 128 ∷ 0 ∷ 0 ∷ 1 ∷ 0 ∷ 0 ∷ 0 ∷ 0 ∷ 0 ∷ 0 ∷ 0 ∷ 2 ∷ 1 ∷
+    2 ∷ 0 ∷ 0 ∷ 5 ∷ 4 ∷ 0 ∷ 0 ∷ 0 ∷ 0 ∷ 0 ∷
+    2 ∷ 0 ∷ 0 ∷ 2 ∷ 4 ∷ 0 ∷ 0 ∷ 0 ∷ 0 ∷ 0 ∷
+    3 ∷ 0 ∷ 0 ∷ 0 ∷ 0 ∷ 0 ∷
+    4 ∷ 1 ∷ 0 ∷ 1 ∷ 1 ∷ 0 ∷ 0 ∷ 0 ∷ 0 ∷ 0 ∷ 0 ∷ 0 ∷ 0 ∷
+    4 ∷ 0 ∷ 0 ∷ 0 ∷ 0 ∷ 0 ∷ 0 ∷ 0 ∷ 0 ∷ 0 ∷ 0 ∷ 0 ∷ 0 ∷
+    3 ∷ 0 ∷ 0 ∷ 0 ∷ 1 ∷ 0 ∷
+    4 ∷ 3 ∷ 0 ∷ 0 ∷ 1 ∷ 0 ∷ 0 ∷ 0 ∷ 0 ∷ 0 ∷ 0 ∷ 0 ∷ 0 ∷
+    5 ∷ 0 ∷ 0 ∷ 0 ∷ 0 ∷ []
 
 abbrev image-132 : List ℕ
 image-132 =
-    1 ∷ 0 ∷ 0 ∷ 0 ∷ 0 ∷ 0 ∷ 5 ∷ 0 ∷ 0 ∷ 0 ∷ 1 ∷ 0 ∷ 0 ∷ 0 ∷ 210 ∷ 0 ∷ 0 ∷ 0 ∷ 2 ∷ 0 ∷ 0 ∷ 0 ∷ 2 ∷ 0 ∷
-    2 ∷ 0 ∷ 0 ∷ 4 ∷ 6 ∷ 0 ∷ 0 ∷ 0 ∷ 0 ∷ 0 ∷
-    2 ∷ 0 ∷ 1 ∷ 4 ∷ 4 ∷ 0 ∷ 0 ∷ 0 ∷ 128 ∷ 0 ∷
-    2 ∷ 3 ∷ 21 ∷ 4 ∷ 7 ∷ 0 ∷ 0 ∷ 0 ∷ 0 ∷ 0 ∷
-    2 ∷ 0 ∷ 1 ∷ 0 ∷ 6 ∷ 0 ∷ 0 ∷ 0 ∷ 0 ∷ 0 ∷
-    2 ∷ 3 ∷ 22 ∷ 4 ∷ 7 ∷ 1 ∷ 0 ∷ 0 ∷ 64 ∷ 1 ∷
-    3 ∷ 0 ∷ 0 ∷ 0 ∷ 3 ∷ 0 ∷
+    1 ∷ 0 ∷ 0 ∷ 0 ∷ 0 ∷ 0 ∷ 0 ∷ 128 ∷ 1 ∷ 0 ∷ 0 ∷ 128 ∷ 0 ∷ 0 ∷ 1 ∷ 0 ∷ 0 ∷ 0 ∷ 0 ∷ 0 ∷ 0 ∷ 0 ∷ 2 ∷ 1 ∷
+    2 ∷ 0 ∷ 0 ∷ 5 ∷ 4 ∷ 0 ∷ 0 ∷ 0 ∷ 0 ∷ 0 ∷
+    2 ∷ 0 ∷ 0 ∷ 2 ∷ 4 ∷ 0 ∷ 0 ∷ 0 ∷ 0 ∷ 0 ∷
+    3 ∷ 0 ∷ 0 ∷ 0 ∷ 0 ∷ 0 ∷
+    4 ∷ 1 ∷ 0 ∷ 1 ∷ 1 ∷ 0 ∷ 0 ∷ 0 ∷ 0 ∷ 0 ∷ 0 ∷ 0 ∷ 0 ∷
     4 ∷ 0 ∷ 0 ∷ 0 ∷ 0 ∷ 0 ∷ 0 ∷ 0 ∷ 0 ∷ 0 ∷ 0 ∷ 0 ∷ 0 ∷
-    4 ∷ 1 ∷ 0 ∷ 1 ∷ 1 ∷ 0 ∷ 0 ∷ 0 ∷ 0 ∷ 0 ∷ 0 ∷ 0 ∷ 1 ∷
-    4 ∷ 0 ∷ 0 ∷ 0 ∷ 0 ∷ 0 ∷ 0 ∷ 0 ∷ 0 ∷ 0 ∷ 0 ∷ 0 ∷ 0 ∷
-    4 ∷ 0 ∷ 0 ∷ 0 ∷ 0 ∷ 0 ∷ 0 ∷ 0 ∷ 0 ∷ 0 ∷ 0 ∷ 0 ∷ 0 ∷
-    6 ∷ 0 ∷ 0 ∷ 0 ∷ 0 ∷
-    6 ∷ 0 ∷ 0 ∷ 0 ∷ 3 ∷
-    6 ∷ 0 ∷ 0 ∷ 0 ∷ 1 ∷
-    6 ∷ 0 ∷ 0 ∷ 0 ∷ 2 ∷ []
+    3 ∷ 0 ∷ 0 ∷ 0 ∷ 1 ∷ 2 ∷
+    4 ∷ 3 ∷ 0 ∷ 0 ∷ 1 ∷ 0 ∷ 0 ∷ 0 ∷ 0 ∷ 0 ∷ 0 ∷ 0 ∷ 0 ∷
+    5 ∷ 0 ∷ 0 ∷ 0 ∷ 0 ∷ []
 
-abbrev image-135 : List ℕ
-image-135 =
-    1 ∷ 0 ∷ 0 ∷ 0 ∷ 0 ∷ 0 ∷ 5 ∷ 0 ∷ 0 ∷ 0 ∷ 1 ∷ 0 ∷ 0 ∷ 0 ∷ 210 ∷ 0 ∷ 0 ∷ 0 ∷ 2 ∷ 0 ∷ 0 ∷ 0 ∷ 2 ∷ 0 ∷
-    2 ∷ 0 ∷ 0 ∷ 4 ∷ 6 ∷ 0 ∷ 0 ∷ 0 ∷ 0 ∷ 0 ∷
-    2 ∷ 0 ∷ 1 ∷ 4 ∷ 4 ∷ 0 ∷ 0 ∷ 0 ∷ 128 ∷ 0 ∷
-    2 ∷ 3 ∷ 21 ∷ 4 ∷ 7 ∷ 0 ∷ 0 ∷ 0 ∷ 0 ∷ 0 ∷
-    2 ∷ 0 ∷ 1 ∷ 4 ∷ 6 ∷ 0 ∷ 0 ∷ 0 ∷ 0 ∷ 0 ∷
-    2 ∷ 3 ∷ 22 ∷ 4 ∷ 7 ∷ 1 ∷ 0 ∷ 0 ∷ 64 ∷ 1 ∷
-    6 ∷ 0 ∷ 0 ∷ 0 ∷ 0 ∷
-    6 ∷ 0 ∷ 0 ∷ 0 ∷ 3 ∷
-    6 ∷ 0 ∷ 0 ∷ 0 ∷ 1 ∷
-    6 ∷ 0 ∷ 0 ∷ 0 ∷ 2 ∷ []
+abbrev image-133 : List ℕ
+image-133 =
+    1 ∷ 0 ∷ 0 ∷ 0 ∷ 0 ∷ 0 ∷ 0 ∷ 128 ∷ 1 ∷ 0 ∷ 0 ∷ 128 ∷ 0 ∷ 0 ∷ 1 ∷ 0 ∷ 0 ∷ 0 ∷ 0 ∷ 0 ∷ 0 ∷ 0 ∷ 2 ∷ 1 ∷
+    2 ∷ 0 ∷ 0 ∷ 5 ∷ 4 ∷ 0 ∷ 0 ∷ 0 ∷ 0 ∷ 0 ∷
+    2 ∷ 0 ∷ 0 ∷ 2 ∷ 4 ∷ 0 ∷ 0 ∷ 0 ∷ 0 ∷ 0 ∷
+    3 ∷ 0 ∷ 0 ∷ 0 ∷ 0 ∷ 0 ∷
+    4 ∷ 1 ∷ 0 ∷ 2 ∷ 1 ∷ 0 ∷ 0 ∷ 0 ∷ 0 ∷ 0 ∷ 0 ∷ 0 ∷ 1 ∷
+    4 ∷ 0 ∷ 0 ∷ 0 ∷ 0 ∷ 0 ∷ 0 ∷ 0 ∷ 0 ∷ 0 ∷ 0 ∷ 0 ∷ 0 ∷
+    3 ∷ 0 ∷ 0 ∷ 0 ∷ 1 ∷ 2 ∷
+    4 ∷ 3 ∷ 0 ∷ 0 ∷ 1 ∷ 0 ∷ 0 ∷ 0 ∷ 0 ∷ 0 ∷ 0 ∷ 0 ∷ 0 ∷
+    5 ∷ 0 ∷ 0 ∷ 0 ∷ 0 ∷ []
 
-abbrev image-137 : List ℕ
-image-137 =
-    1 ∷ 0 ∷ 0 ∷ 0 ∷ 0 ∷ 0 ∷ 5 ∷ 0 ∷ 0 ∷ 0 ∷ 1 ∷ 0 ∷ 0 ∷ 0 ∷ 209 ∷ 0 ∷ 0 ∷ 0 ∷ 2 ∷ 0 ∷ 0 ∷ 0 ∷ 2 ∷ 0 ∷
-    2 ∷ 0 ∷ 0 ∷ 4 ∷ 6 ∷ 0 ∷ 0 ∷ 0 ∷ 0 ∷ 0 ∷
-    2 ∷ 0 ∷ 1 ∷ 4 ∷ 4 ∷ 0 ∷ 0 ∷ 0 ∷ 128 ∷ 0 ∷
-    2 ∷ 3 ∷ 21 ∷ 4 ∷ 7 ∷ 0 ∷ 0 ∷ 0 ∷ 0 ∷ 0 ∷
-    2 ∷ 0 ∷ 1 ∷ 4 ∷ 6 ∷ 0 ∷ 0 ∷ 0 ∷ 0 ∷ 0 ∷
-    2 ∷ 3 ∷ 22 ∷ 4 ∷ 7 ∷ 1 ∷ 0 ∷ 0 ∷ 64 ∷ 1 ∷
-    6 ∷ 0 ∷ 0 ∷ 0 ∷ 0 ∷
-    6 ∷ 0 ∷ 0 ∷ 0 ∷ 3 ∷
-    6 ∷ 0 ∷ 0 ∷ 0 ∷ 1 ∷
-    6 ∷ 0 ∷ 0 ∷ 0 ∷ 2 ∷ []
+abbrev image-134 : List ℕ
+image-134 =
+    1 ∷ 0 ∷ 0 ∷ 0 ∷ 0 ∷ 0 ∷ 0 ∷ 128 ∷ 1 ∷ 0 ∷ 0 ∷ 128 ∷ 0 ∷ 0 ∷ 1 ∷ 0 ∷ 0 ∷ 0 ∷ 0 ∷ 0 ∷ 0 ∷ 0 ∷ 2 ∷ 0 ∷
+    2 ∷ 0 ∷ 0 ∷ 5 ∷ 4 ∷ 0 ∷ 0 ∷ 0 ∷ 0 ∷ 0 ∷
+    2 ∷ 0 ∷ 0 ∷ 2 ∷ 4 ∷ 0 ∷ 0 ∷ 0 ∷ 0 ∷ 0 ∷
+    3 ∷ 0 ∷ 0 ∷ 0 ∷ 0 ∷ 0 ∷
+    4 ∷ 1 ∷ 0 ∷ 2 ∷ 1 ∷ 0 ∷ 0 ∷ 0 ∷ 0 ∷ 0 ∷ 0 ∷ 0 ∷ 1 ∷
+    4 ∷ 0 ∷ 0 ∷ 0 ∷ 0 ∷ 0 ∷ 0 ∷ 0 ∷ 0 ∷ 0 ∷ 0 ∷ 0 ∷ 0 ∷
+    3 ∷ 0 ∷ 0 ∷ 0 ∷ 1 ∷ 2 ∷
+    4 ∷ 3 ∷ 0 ∷ 0 ∷ 1 ∷ 0 ∷ 0 ∷ 0 ∷ 0 ∷ 0 ∷ 0 ∷ 0 ∷ 0 ∷
+    5 ∷ 0 ∷ 0 ∷ 0 ∷ 0 ∷
+    6 ∷ 0 ∷ 0 ∷ 0 ∷ 0 ∷ []
 
-abbrev image-139 : List ℕ
-image-139 =
-    1 ∷ 0 ∷ 0 ∷ 0 ∷ 0 ∷ 0 ∷ 5 ∷ 0 ∷ 0 ∷ 0 ∷ 1 ∷ 0 ∷ 0 ∷ 0 ∷ 209 ∷ 0 ∷ 0 ∷ 0 ∷ 2 ∷ 0 ∷ 0 ∷ 0 ∷ 2 ∷ 0 ∷
-    2 ∷ 0 ∷ 0 ∷ 4 ∷ 6 ∷ 0 ∷ 0 ∷ 0 ∷ 0 ∷ 0 ∷
-    2 ∷ 0 ∷ 1 ∷ 4 ∷ 4 ∷ 0 ∷ 0 ∷ 0 ∷ 128 ∷ 0 ∷
-    2 ∷ 3 ∷ 21 ∷ 0 ∷ 7 ∷ 0 ∷ 0 ∷ 0 ∷ 0 ∷ 0 ∷
-    2 ∷ 0 ∷ 1 ∷ 4 ∷ 6 ∷ 0 ∷ 0 ∷ 0 ∷ 0 ∷ 0 ∷
-    2 ∷ 3 ∷ 22 ∷ 4 ∷ 7 ∷ 1 ∷ 0 ∷ 0 ∷ 64 ∷ 1 ∷
-    3 ∷ 0 ∷ 0 ∷ 0 ∷ 2 ∷ 0 ∷
-    4 ∷ 3 ∷ 0 ∷ 0 ∷ 1 ∷ 255 ∷ 255 ∷ 255 ∷ 255 ∷ 255 ∷ 255 ∷ 255 ∷ 255 ∷
+abbrev image-141 : List ℕ
+image-141 =
+    1 ∷ 0 ∷ 0 ∷ 0 ∷ 0 ∷ 0 ∷ 0 ∷ 128 ∷ 1 ∷ 0 ∷ 0 ∷ 128 ∷ 0 ∷ 0 ∷ 0 ∷ 0 ∷ 0 ∷ 0 ∷ 0 ∷ 0 ∷ 0 ∷ 0 ∷ 2 ∷ 1 ∷
+    2 ∷ 0 ∷ 1 ∷ 5 ∷ 4 ∷ 0 ∷ 0 ∷ 0 ∷ 0 ∷ 0 ∷
+    2 ∷ 0 ∷ 0 ∷ 2 ∷ 4 ∷ 0 ∷ 0 ∷ 0 ∷ 0 ∷ 0 ∷
+    3 ∷ 0 ∷ 0 ∷ 0 ∷ 0 ∷ 0 ∷
+    4 ∷ 1 ∷ 0 ∷ 2 ∷ 1 ∷ 0 ∷ 0 ∷ 0 ∷ 0 ∷ 0 ∷ 0 ∷ 0 ∷ 1 ∷
     4 ∷ 0 ∷ 0 ∷ 0 ∷ 0 ∷ 0 ∷ 0 ∷ 0 ∷ 0 ∷ 0 ∷ 0 ∷ 0 ∷ 0 ∷
-    4 ∷ 0 ∷ 0 ∷ 0 ∷ 0 ∷ 0 ∷ 0 ∷ 0 ∷ 0 ∷ 0 ∷ 0 ∷ 0 ∷ 0 ∷
-    4 ∷ 0 ∷ 0 ∷ 0 ∷ 0 ∷ 0 ∷ 0 ∷ 0 ∷ 0 ∷ 0 ∷ 0 ∷ 0 ∷ 0 ∷
-    6 ∷ 0 ∷ 0 ∷ 0 ∷ 0 ∷
-    6 ∷ 0 ∷ 0 ∷ 0 ∷ 3 ∷
-    6 ∷ 0 ∷ 0 ∷ 0 ∷ 1 ∷
-    6 ∷ 0 ∷ 0 ∷ 0 ∷ 2 ∷ []
+    3 ∷ 0 ∷ 0 ∷ 0 ∷ 1 ∷ 2 ∷
+    4 ∷ 3 ∷ 0 ∷ 0 ∷ 1 ∷ 0 ∷ 0 ∷ 0 ∷ 0 ∷ 0 ∷ 0 ∷ 0 ∷ 0 ∷
+    5 ∷ 0 ∷ 0 ∷ 0 ∷ 0 ∷ []
 
-abbrev image-140 : List ℕ
-image-140 =
-    1 ∷ 0 ∷ 0 ∷ 0 ∷ 0 ∷ 0 ∷ 5 ∷ 0 ∷ 0 ∷ 0 ∷ 1 ∷ 0 ∷ 0 ∷ 0 ∷ 209 ∷ 0 ∷ 0 ∷ 0 ∷ 2 ∷ 0 ∷ 0 ∷ 0 ∷ 2 ∷ 0 ∷
-    2 ∷ 0 ∷ 0 ∷ 4 ∷ 6 ∷ 0 ∷ 0 ∷ 0 ∷ 0 ∷ 0 ∷
-    2 ∷ 0 ∷ 1 ∷ 4 ∷ 4 ∷ 0 ∷ 0 ∷ 0 ∷ 128 ∷ 0 ∷
-    2 ∷ 3 ∷ 21 ∷ 0 ∷ 7 ∷ 0 ∷ 0 ∷ 0 ∷ 0 ∷ 0 ∷
-    2 ∷ 0 ∷ 1 ∷ 4 ∷ 6 ∷ 0 ∷ 0 ∷ 0 ∷ 0 ∷ 0 ∷
-    2 ∷ 3 ∷ 22 ∷ 4 ∷ 7 ∷ 1 ∷ 0 ∷ 0 ∷ 64 ∷ 1 ∷
-    3 ∷ 0 ∷ 0 ∷ 0 ∷ 2 ∷ 0 ∷
-    4 ∷ 3 ∷ 0 ∷ 0 ∷ 1 ∷ 255 ∷ 255 ∷ 255 ∷ 255 ∷ 255 ∷ 255 ∷ 255 ∷ 255 ∷
+abbrev image-142 : List ℕ
+image-142 =
+    1 ∷ 0 ∷ 0 ∷ 0 ∷ 0 ∷ 0 ∷ 0 ∷ 128 ∷ 1 ∷ 0 ∷ 0 ∷ 128 ∷ 0 ∷ 0 ∷ 0 ∷ 0 ∷ 0 ∷ 0 ∷ 0 ∷ 0 ∷ 0 ∷ 0 ∷ 2 ∷ 0 ∷
+    2 ∷ 0 ∷ 1 ∷ 5 ∷ 4 ∷ 0 ∷ 0 ∷ 0 ∷ 0 ∷ 0 ∷
+    2 ∷ 0 ∷ 0 ∷ 2 ∷ 4 ∷ 0 ∷ 0 ∷ 0 ∷ 0 ∷ 0 ∷
+    3 ∷ 0 ∷ 0 ∷ 0 ∷ 0 ∷ 0 ∷
+    4 ∷ 1 ∷ 0 ∷ 2 ∷ 1 ∷ 0 ∷ 0 ∷ 0 ∷ 0 ∷ 0 ∷ 0 ∷ 0 ∷ 1 ∷
     4 ∷ 0 ∷ 0 ∷ 0 ∷ 0 ∷ 0 ∷ 0 ∷ 0 ∷ 0 ∷ 0 ∷ 0 ∷ 0 ∷ 0 ∷
-    4 ∷ 2 ∷ 0 ∷ 0 ∷ 0 ∷ 0 ∷ 0 ∷ 0 ∷ 0 ∷ 0 ∷ 0 ∷ 0 ∷ 0 ∷
-    4 ∷ 0 ∷ 0 ∷ 0 ∷ 0 ∷ 0 ∷ 0 ∷ 0 ∷ 0 ∷ 0 ∷ 0 ∷ 0 ∷ 0 ∷
-    6 ∷ 0 ∷ 0 ∷ 0 ∷ 0 ∷
-    6 ∷ 0 ∷ 0 ∷ 0 ∷ 3 ∷
-    6 ∷ 0 ∷ 0 ∷ 0 ∷ 1 ∷
-    6 ∷ 0 ∷ 0 ∷ 0 ∷ 2 ∷ []
+    3 ∷ 0 ∷ 0 ∷ 0 ∷ 1 ∷ 2 ∷
+    4 ∷ 3 ∷ 0 ∷ 0 ∷ 1 ∷ 0 ∷ 0 ∷ 0 ∷ 0 ∷ 0 ∷ 0 ∷ 0 ∷ 0 ∷
+    5 ∷ 0 ∷ 0 ∷ 0 ∷ 0 ∷
+    6 ∷ 0 ∷ 0 ∷ 0 ∷ 0 ∷ []
+
+abbrev image-143 : List ℕ
+image-143 =
+    1 ∷ 0 ∷ 0 ∷ 0 ∷ 0 ∷ 0 ∷ 0 ∷ 128 ∷ 1 ∷ 0 ∷ 0 ∷ 128 ∷ 0 ∷ 0 ∷ 0 ∷ 0 ∷ 0 ∷ 0 ∷ 0 ∷ 0 ∷ 0 ∷ 0 ∷ 2 ∷ 0 ∷
+    2 ∷ 0 ∷ 1 ∷ 1 ∷ 4 ∷ 0 ∷ 0 ∷ 0 ∷ 0 ∷ 0 ∷
+    2 ∷ 0 ∷ 0 ∷ 2 ∷ 4 ∷ 0 ∷ 0 ∷ 0 ∷ 0 ∷ 0 ∷
+    3 ∷ 0 ∷ 0 ∷ 0 ∷ 0 ∷ 0 ∷
+    4 ∷ 1 ∷ 0 ∷ 2 ∷ 1 ∷ 0 ∷ 0 ∷ 0 ∷ 0 ∷ 0 ∷ 0 ∷ 0 ∷ 1 ∷
+    4 ∷ 1 ∷ 0 ∷ 1 ∷ 1 ∷ 0 ∷ 0 ∷ 0 ∷ 0 ∷ 0 ∷ 0 ∷ 0 ∷ 2 ∷
+    3 ∷ 0 ∷ 0 ∷ 0 ∷ 1 ∷ 2 ∷
+    4 ∷ 3 ∷ 0 ∷ 0 ∷ 1 ∷ 0 ∷ 0 ∷ 0 ∷ 0 ∷ 0 ∷ 0 ∷ 0 ∷ 0 ∷
+    5 ∷ 0 ∷ 0 ∷ 0 ∷ 0 ∷ []
+
+abbrev image-144 : List ℕ
+image-144 =
+    1 ∷ 0 ∷ 0 ∷ 0 ∷ 0 ∷ 0 ∷ 0 ∷ 128 ∷ 1 ∷ 0 ∷ 0 ∷ 128 ∷ 0 ∷ 0 ∷ 0 ∷ 0 ∷ 0 ∷ 0 ∷ 0 ∷ 0 ∷ 0 ∷ 0 ∷ 2 ∷ 0 ∷
+    2 ∷ 0 ∷ 2 ∷ 1 ∷ 4 ∷ 0 ∷ 0 ∷ 0 ∷ 0 ∷ 0 ∷
+    2 ∷ 0 ∷ 0 ∷ 2 ∷ 4 ∷ 0 ∷ 0 ∷ 0 ∷ 0 ∷ 0 ∷
+    3 ∷ 0 ∷ 0 ∷ 0 ∷ 0 ∷ 0 ∷
+    4 ∷ 1 ∷ 0 ∷ 2 ∷ 1 ∷ 0 ∷ 0 ∷ 0 ∷ 0 ∷ 0 ∷ 0 ∷ 0 ∷ 1 ∷
+    4 ∷ 1 ∷ 0 ∷ 1 ∷ 1 ∷ 0 ∷ 0 ∷ 0 ∷ 0 ∷ 0 ∷ 0 ∷ 0 ∷ 2 ∷
+    3 ∷ 0 ∷ 0 ∷ 0 ∷ 1 ∷ 2 ∷
+    4 ∷ 3 ∷ 0 ∷ 0 ∷ 1 ∷ 0 ∷ 0 ∷ 0 ∷ 0 ∷ 0 ∷ 0 ∷ 0 ∷ 0 ∷
+    5 ∷ 0 ∷ 0 ∷ 0 ∷ 0 ∷ []
 
 abbrev image-145 : List ℕ
 image-145 =
-    1 ∷ 0 ∷ 0 ∷ 0 ∷ 0 ∷ 0 ∷ 5 ∷ 0 ∷ 0 ∷ 0 ∷ 1 ∷ 0 ∷ 0 ∷ 0 ∷ 210 ∷ 0 ∷ 0 ∷ 0 ∷ 2 ∷ 0 ∷ 0 ∷ 0 ∷ 2 ∷ 0 ∷
-    2 ∷ 0 ∷ 0 ∷ 4 ∷ 6 ∷ 0 ∷ 0 ∷ 0 ∷ 0 ∷ 0 ∷
-    2 ∷ 0 ∷ 1 ∷ 4 ∷ 4 ∷ 0 ∷ 0 ∷ 0 ∷ 128 ∷ 0 ∷
-    2 ∷ 3 ∷ 21 ∷ 0 ∷ 7 ∷ 0 ∷ 0 ∷ 0 ∷ 0 ∷ 0 ∷
-    2 ∷ 0 ∷ 1 ∷ 4 ∷ 6 ∷ 0 ∷ 0 ∷ 0 ∷ 0 ∷ 0 ∷
-    2 ∷ 3 ∷ 22 ∷ 4 ∷ 7 ∷ 1 ∷ 0 ∷ 0 ∷ 64 ∷ 1 ∷
-    3 ∷ 0 ∷ 0 ∷ 0 ∷ 2 ∷ 0 ∷
-    4 ∷ 3 ∷ 0 ∷ 0 ∷ 1 ∷ 255 ∷ 255 ∷ 255 ∷ 255 ∷ 255 ∷ 255 ∷ 255 ∷ 255 ∷
-    4 ∷ 0 ∷ 0 ∷ 0 ∷ 0 ∷ 0 ∷ 0 ∷ 0 ∷ 0 ∷ 0 ∷ 0 ∷ 0 ∷ 0 ∷
-    4 ∷ 2 ∷ 0 ∷ 0 ∷ 0 ∷ 0 ∷ 0 ∷ 0 ∷ 0 ∷ 0 ∷ 0 ∷ 0 ∷ 0 ∷
-    4 ∷ 0 ∷ 0 ∷ 0 ∷ 0 ∷ 0 ∷ 0 ∷ 0 ∷ 0 ∷ 0 ∷ 0 ∷ 0 ∷ 0 ∷
-    6 ∷ 0 ∷ 0 ∷ 0 ∷ 0 ∷
-    6 ∷ 0 ∷ 0 ∷ 0 ∷ 3 ∷
-    6 ∷ 0 ∷ 0 ∷ 0 ∷ 1 ∷
-    6 ∷ 0 ∷ 0 ∷ 0 ∷ 2 ∷ []
+    1 ∷ 0 ∷ 0 ∷ 0 ∷ 0 ∷ 0 ∷ 0 ∷ 128 ∷ 1 ∷ 0 ∷ 0 ∷ 128 ∷ 0 ∷ 0 ∷ 1 ∷ 0 ∷ 0 ∷ 0 ∷ 0 ∷ 0 ∷ 0 ∷ 0 ∷ 2 ∷ 1 ∷
+    2 ∷ 0 ∷ 2 ∷ 1 ∷ 4 ∷ 0 ∷ 0 ∷ 0 ∷ 0 ∷ 0 ∷
+    2 ∷ 0 ∷ 0 ∷ 2 ∷ 4 ∷ 0 ∷ 0 ∷ 0 ∷ 0 ∷ 0 ∷
+    3 ∷ 0 ∷ 0 ∷ 0 ∷ 0 ∷ 0 ∷
+    4 ∷ 1 ∷ 0 ∷ 2 ∷ 1 ∷ 0 ∷ 0 ∷ 0 ∷ 0 ∷ 0 ∷ 0 ∷ 0 ∷ 1 ∷
+    4 ∷ 1 ∷ 0 ∷ 1 ∷ 1 ∷ 0 ∷ 0 ∷ 0 ∷ 0 ∷ 0 ∷ 0 ∷ 0 ∷ 2 ∷
+    3 ∷ 0 ∷ 0 ∷ 0 ∷ 1 ∷ 2 ∷
+    4 ∷ 3 ∷ 0 ∷ 0 ∷ 1 ∷ 0 ∷ 0 ∷ 0 ∷ 0 ∷ 0 ∷ 0 ∷ 0 ∷ 0 ∷
+    5 ∷ 0 ∷ 0 ∷ 0 ∷ 0 ∷ []
 
-abbrev image-149 : List ℕ
-image-149 =
-    1 ∷ 0 ∷ 0 ∷ 0 ∷ 0 ∷ 0 ∷ 5 ∷ 0 ∷ 0 ∷ 0 ∷ 1 ∷ 0 ∷ 0 ∷ 0 ∷ 210 ∷ 0 ∷ 0 ∷ 0 ∷ 2 ∷ 0 ∷ 0 ∷ 0 ∷ 2 ∷ 0 ∷
-    2 ∷ 0 ∷ 0 ∷ 4 ∷ 6 ∷ 0 ∷ 0 ∷ 0 ∷ 0 ∷ 0 ∷
-    2 ∷ 0 ∷ 1 ∷ 4 ∷ 4 ∷ 0 ∷ 0 ∷ 0 ∷ 128 ∷ 0 ∷
-    2 ∷ 3 ∷ 21 ∷ 0 ∷ 7 ∷ 0 ∷ 0 ∷ 0 ∷ 0 ∷ 0 ∷
-    2 ∷ 0 ∷ 1 ∷ 5 ∷ 6 ∷ 0 ∷ 0 ∷ 0 ∷ 0 ∷ 0 ∷
-    2 ∷ 3 ∷ 22 ∷ 4 ∷ 7 ∷ 1 ∷ 0 ∷ 0 ∷ 64 ∷ 1 ∷
-    3 ∷ 0 ∷ 0 ∷ 0 ∷ 2 ∷ 0 ∷
-    4 ∷ 3 ∷ 0 ∷ 0 ∷ 1 ∷ 255 ∷ 255 ∷ 255 ∷ 255 ∷ 255 ∷ 255 ∷ 255 ∷ 255 ∷
-    4 ∷ 0 ∷ 0 ∷ 0 ∷ 0 ∷ 0 ∷ 0 ∷ 0 ∷ 0 ∷ 0 ∷ 0 ∷ 0 ∷ 0 ∷
-    4 ∷ 2 ∷ 0 ∷ 0 ∷ 0 ∷ 0 ∷ 0 ∷ 0 ∷ 0 ∷ 0 ∷ 0 ∷ 0 ∷ 0 ∷
-    4 ∷ 0 ∷ 0 ∷ 0 ∷ 0 ∷ 0 ∷ 0 ∷ 0 ∷ 0 ∷ 0 ∷ 0 ∷ 0 ∷ 0 ∷
-    3 ∷ 0 ∷ 0 ∷ 0 ∷ 3 ∷ 0 ∷
-    4 ∷ 1 ∷ 0 ∷ 1 ∷ 1 ∷ 0 ∷ 0 ∷ 0 ∷ 0 ∷ 0 ∷ 0 ∷ 0 ∷ 1 ∷
-    4 ∷ 0 ∷ 0 ∷ 0 ∷ 0 ∷ 0 ∷ 0 ∷ 0 ∷ 0 ∷ 0 ∷ 0 ∷ 0 ∷ 0 ∷
-    4 ∷ 0 ∷ 0 ∷ 0 ∷ 0 ∷ 0 ∷ 0 ∷ 0 ∷ 0 ∷ 0 ∷ 0 ∷ 0 ∷ 0 ∷
-    4 ∷ 0 ∷ 0 ∷ 0 ∷ 0 ∷ 0 ∷ 0 ∷ 0 ∷ 0 ∷ 0 ∷ 0 ∷ 0 ∷ 0 ∷
-    6 ∷ 0 ∷ 0 ∷ 0 ∷ 0 ∷
-    6 ∷ 0 ∷ 0 ∷ 0 ∷ 3 ∷
-    6 ∷ 0 ∷ 0 ∷ 0 ∷ 1 ∷
-    6 ∷ 0 ∷ 0 ∷ 0 ∷ 2 ∷ []
-
-abbrev image-150 : List ℕ
-image-150 =
-    1 ∷ 0 ∷ 0 ∷ 0 ∷ 0 ∷ 0 ∷ 5 ∷ 0 ∷ 0 ∷ 0 ∷ 1 ∷ 0 ∷ 0 ∷ 0 ∷ 210 ∷ 0 ∷ 0 ∷ 0 ∷ 2 ∷ 0 ∷ 0 ∷ 0 ∷ 2 ∷ 0 ∷
-    2 ∷ 0 ∷ 0 ∷ 4 ∷ 6 ∷ 0 ∷ 0 ∷ 0 ∷ 0 ∷ 0 ∷
-    2 ∷ 0 ∷ 1 ∷ 4 ∷ 4 ∷ 0 ∷ 0 ∷ 0 ∷ 128 ∷ 0 ∷
-    2 ∷ 3 ∷ 21 ∷ 0 ∷ 7 ∷ 0 ∷ 0 ∷ 0 ∷ 0 ∷ 0 ∷
-    2 ∷ 0 ∷ 1 ∷ 5 ∷ 6 ∷ 0 ∷ 0 ∷ 0 ∷ 0 ∷ 0 ∷
-    2 ∷ 3 ∷ 22 ∷ 4 ∷ 7 ∷ 1 ∷ 0 ∷ 0 ∷ 64 ∷ 1 ∷
-    3 ∷ 0 ∷ 0 ∷ 0 ∷ 2 ∷ 0 ∷
-    4 ∷ 3 ∷ 0 ∷ 0 ∷ 1 ∷ 255 ∷ 255 ∷ 255 ∷ 255 ∷ 255 ∷ 255 ∷ 255 ∷ 255 ∷
-    4 ∷ 0 ∷ 0 ∷ 0 ∷ 0 ∷ 0 ∷ 0 ∷ 0 ∷ 0 ∷ 0 ∷ 0 ∷ 0 ∷ 0 ∷
-    4 ∷ 2 ∷ 0 ∷ 0 ∷ 0 ∷ 0 ∷ 0 ∷ 0 ∷ 0 ∷ 0 ∷ 0 ∷ 0 ∷ 0 ∷
-    4 ∷ 3 ∷ 0 ∷ 0 ∷ 1 ∷ 255 ∷ 255 ∷ 255 ∷ 255 ∷ 255 ∷ 255 ∷ 255 ∷ 255 ∷
-    3 ∷ 0 ∷ 0 ∷ 0 ∷ 3 ∷ 0 ∷
-    4 ∷ 1 ∷ 0 ∷ 1 ∷ 1 ∷ 0 ∷ 0 ∷ 0 ∷ 0 ∷ 0 ∷ 0 ∷ 0 ∷ 1 ∷
-    4 ∷ 0 ∷ 0 ∷ 0 ∷ 0 ∷ 0 ∷ 0 ∷ 0 ∷ 0 ∷ 0 ∷ 0 ∷ 0 ∷ 0 ∷
-    4 ∷ 0 ∷ 0 ∷ 0 ∷ 0 ∷ 0 ∷ 0 ∷ 0 ∷ 0 ∷ 0 ∷ 0 ∷ 0 ∷ 0 ∷
-    4 ∷ 0 ∷ 0 ∷ 0 ∷ 0 ∷ 0 ∷ 0 ∷ 0 ∷ 0 ∷ 0 ∷ 0 ∷ 0 ∷ 0 ∷
-    6 ∷ 0 ∷ 0 ∷ 0 ∷ 0 ∷
-    6 ∷ 0 ∷ 0 ∷ 0 ∷ 3 ∷
-    6 ∷ 0 ∷ 0 ∷ 0 ∷ 1 ∷
-    6 ∷ 0 ∷ 0 ∷ 0 ∷ 2 ∷ []
-
--- calls 130 to 150
-calls-130 :
+-- calls 122 to 150
+calls-122 :
     outcomes none
-    (read-line plenty image-130
-    ∷ call-line plenty (mark-as-downloading 4 3 (some 0) 3725 (words 4352 []))
-    ∷ call-line plenty (mark-as-downloading 3 1 (some 1) 0 (words 4352 []))
-    ∷ call-line plenty (mark-as-finished 4 1 (some 18446744073709551615) (words 4352 []))
+    (new-line plenty 32769 32768
+    ∷ call-line plenty (abort-download 0 0 (some 2) (words 4352 []))
+    ∷ call-line plenty (mark-as-downloading 0 0 (some 0) 130 (words 4352 []))
+    ∷ call-line plenty (mark-as-downloading 0 3 (some 2) 2 (words 5000 []))
+    ∷ call-line plenty (pick-pieces (asking 250 2 2 1000 none 2 (125 ∷ []) []) 4351 (words 4352 []))
+    ∷ call-line plenty (abort-download 1 0 (some 3) (words 4352 []))
+    ∷ call-line plenty (piece-passed 1)
+    ∷ call-line plenty (question (listOfPicker get-download-queue 1000000))
     ∷ call-line plenty inc-refcount-all
-    ∷ call-line plenty (abort-download 3 1 (some 1) (words 4352 []))
-    ∷ call-line plenty (piece-passed 3)
-    ∷ call-line plenty dec-refcount-all
+    ∷ call-line plenty (mark-as-finished 1 0 (some 0) (words 4352 []))
+    ∷ call-line plenty (lock-piece 1)
+    ∷ call-line plenty (mark-as-downloading 0 0 (some 1) 33258 (words 4352 []))
+    ∷ call-line plenty (pick-pieces (asking 203 2048 10 3 (some 18446744073709551615) 2 (255 ∷ []) []) 4351 (words 4352 []))
+    ∷ call-line plenty (question (ofBlock block-peer 0 1))
+    ∷ call-line plenty (question (ofBlock num-peers-block 0 0))
+    ∷ call-line plenty (question (ofPicker num-seeds))
+    ∷ call-line plenty (mark-as-canceled 1 0 (some 18446744073709551615) (words 4352 []))
     ∷ call-line plenty (question (listOfPiece get-downloaders 0 1000000))
-    ∷ call-line plenty (mark-as-finished 2 0 (some 18446744073709551615) (words 4352 []))
-    ∷ call-line plenty (mark-as-writing 2 2 none (words 5000 []))
-    ∷ call-line plenty (mark-as-writing 2 0 (some 18446744073709551615) (words 4352 []))
-    ∷ call-line plenty (question (ofPicker is-seeding))
-    ∷ call-line plenty (pick-pieces (asking 118 300 1 2 none 5 (255 ∷ []) (1 ∷ 4 ∷ 1 ∷ [])) 4351 (words 5000 []))
-    ∷ call-line plenty (pick-pieces (asking 18 2 3 10 none 5 (239 ∷ []) []) 4351 (words 5000 []))
+    ∷ call-line plenty (pick-pieces (asking 0 5 0 0 none 2 (108 ∷ []) []) 4351 (words 4352 (1262291508 ∷ [])))
+    ∷ call-line plenty (dec-refcount 1 (words 4352 []))
+    ∷ call-line plenty (pick-pieces (asking 118 300 1 2 none 2 (255 ∷ []) (0 ∷ 0 ∷ 0 ∷ [])) 4351 (words 5000 []))
+    ∷ call-line plenty (mark-as-downloading 0 1 (some 2) 5004 (words 4352 []))
+    ∷ call-line plenty (inc-refcount 0 (words 5000 []))
     ∷ call-line plenty inc-refcount-all
-    ∷ call-line plenty (question (listOfPicker piece-priorities 5))
+    ∷ call-line plenty (question (listOfPicker piece-priorities 2))
     ∷ call-line plenty (question (partial-at 0))
-    ∷ call-line plenty (mark-as-downloading 3 0 (some 1) 130 (words 4352 []))
-    ∷ call-line plenty (mark-as-finished 2 3 (some 18446744073709551615) (words 4352 []))
+    ∷ call-line plenty (pick-pieces (asking 226 2047 2 1 (some 18446744073709551615) 1 (255 ∷ []) (0 ∷ [])) 4351 (words 4352 []))
+    ∷ call-line plenty (mark-as-downloading 1 0 (some 1) 130 (words 4352 []))
+    ∷ call-line plenty (mark-as-finished 0 1 (some 18446744073709551615) (words 4352 []))
     ∷ [])
-    ≡ outcome stands image-130
-    ∷ outcome (answered (refused HavePiece)) image-130
-    ∷ outcome (answered (said true 0)) image-132
+    ≡ outcome stands image-122
+    ∷ outcome (answered (done 0)) image-122
+    ∷ outcome (answered (said true 0)) image-124
+    ∷ outcome (answered (refused OutOfRange)) image-124
+    ∷ outcome (answered (picked ((pieceBlock 1 0) ∷ []) 14336 (1 ∷ 0 ∷ 0 ∷ 0 ∷ 0 ∷ 0 ∷ 0 ∷ []) 0)) image-126
+    ∷ outcome (answered (done 0)) image-126
+    ∷ outcome (answered (done 0)) image-126
+    ∷ outcome (answered (replied (numbers ((some 0) ∷ (some 0) ∷ (some 0) ∷ (some 0) ∷ (some 0) ∷ (some 1) ∷ (some 0) ∷ [])))) image-126
+    ∷ outcome (answered (done 0)) image-130
+    ∷ outcome (answered (done 0)) image-131
     ∷ outcome (answered (done 0)) image-132
-    ∷ outcome (answered (refused TooManyPeers)) image-132
-    ∷ outcome (answered (done 0)) image-135
-    ∷ outcome (answered (done 0)) image-135
-    ∷ outcome (answered (done 0)) image-137
-    ∷ outcome (answered (replied (numbers (none ∷ none ∷ none ∷ none ∷ [])))) image-137
-    ∷ outcome (answered (done 0)) image-139
-    ∷ outcome (answered (said true 0)) image-140
-    ∷ outcome (answered (said false 0)) image-140
-    ∷ outcome (answered (replied (numbers ((some 0) ∷ [])))) image-140
-    ∷ outcome (answered (picked ((pieceBlock 1 0) ∷ (pieceBlock 1 1) ∷ (pieceBlock 3 0) ∷ (pieceBlock 3 1) ∷ (pieceBlock 3 2) ∷ (pieceBlock 3 3) ∷ (pieceBlock 0 0) ∷ (pieceBlock 0 1) ∷ (pieceBlock 0 2) ∷ (pieceBlock 0 3) ∷ []) 10288 (0 ∷ 3 ∷ 4 ∷ 0 ∷ 0 ∷ 0 ∷ 0 ∷ []) 0)) image-140
-    ∷ outcome (answered (picked ((pieceBlock 2 1) ∷ (pieceBlock 2 3) ∷ []) 2064 (0 ∷ 0 ∷ 1 ∷ 0 ∷ 0 ∷ 0 ∷ 0 ∷ []) 0)) image-140
+    ∷ outcome (answered (said true 0)) image-133
+    ∷ outcome (answered (picked ((pieceBlock 0 1) ∷ []) 10262 (1 ∷ 0 ∷ 1 ∷ 0 ∷ 0 ∷ 0 ∷ 0 ∷ []) 0)) image-134
+    ∷ outcome (answered (replied (numbers (none ∷ [])))) image-134
+    ∷ outcome (answered (replied (numbers ((some 2) ∷ [])))) image-134
+    ∷ outcome (answered (replied (numbers ((some 1) ∷ [])))) image-134
+    ∷ outcome (answered (done 0)) image-134
+    ∷ outcome (answered (replied (numbers ((some 1) ∷ none ∷ [])))) image-134
+    ∷ outcome (answered (picked [] 9217 (1 ∷ 0 ∷ 0 ∷ 0 ∷ 1 ∷ 0 ∷ 0 ∷ []) 1)) image-134
+    ∷ outcome (answered (done 0)) image-141
+    ∷ outcome (answered (picked [] 14368 (0 ∷ 3 ∷ 1 ∷ 0 ∷ 0 ∷ 0 ∷ 0 ∷ []) 0)) image-142
+    ∷ outcome (answered (said true 0)) image-143
+    ∷ outcome (answered (done 0)) image-144
     ∷ outcome (answered (done 0)) image-145
-    ∷ outcome (answered (replied (numbers ((some 6) ∷ (some 4) ∷ (some 7) ∷ (some 6) ∷ (some 7) ∷ [])))) image-145
-    ∷ outcome (answered (replied (numbers ((some 2) ∷ [])))) image-145
-    ∷ outcome (answered (said true 0)) image-149
-    ∷ outcome (answered (done 0)) image-150
+    ∷ outcome (answered (replied (numbers ((some 4) ∷ (some 4) ∷ [])))) image-145
+    ∷ outcome (answered (replied (numbers ((some 0) ∷ [])))) image-145
+    ∷ outcome (answered (refused PickArguments)) image-145
+    ∷ outcome (answered (said false 0)) image-145
+    ∷ outcome (answered (refused NotWriting)) image-145
     ∷ []
 unfolding replaying
-calls-130 = refl
+calls-122 = refl
 
 abbrev image-152 : List ℕ
 image-152 =
@@ -2027,35 +1876,18 @@ image-231 =
     6 ∷ 0 ∷ 0 ∷ 0 ∷ 1 ∷
     6 ∷ 0 ∷ 0 ∷ 0 ∷ 0 ∷ []
 
-abbrev image-232 : List ℕ
-image-232 =
+abbrev image-234 : List ℕ
+image-234 =
     1 ∷ 0 ∷ 0 ∷ 0 ∷ 0 ∷ 0 ∷ 1 ∷ 140 ∷ 143 ∷ 0 ∷ 1 ∷ 0 ∷ 0 ∷ 0 ∷ 1 ∷ 0 ∷ 0 ∷ 0 ∷ 1 ∷ 0 ∷ 0 ∷ 0 ∷ 2 ∷ 0 ∷
     2 ∷ 0 ∷ 3 ∷ 5 ∷ 4 ∷ 0 ∷ 0 ∷ 0 ∷ 0 ∷ 0 ∷
     2 ∷ 0 ∷ 1 ∷ 0 ∷ 4 ∷ 0 ∷ 0 ∷ 0 ∷ 0 ∷ 0 ∷
     3 ∷ 0 ∷ 0 ∷ 0 ∷ 0 ∷ 0 ∷
     4 ∷ 3 ∷ 0 ∷ 2 ∷ 1 ∷ 0 ∷ 0 ∷ 0 ∷ 0 ∷ 0 ∷ 0 ∷ 0 ∷ 1 ∷
-    4 ∷ 0 ∷ 0 ∷ 0 ∷ 1 ∷ 255 ∷ 255 ∷ 255 ∷ 255 ∷ 255 ∷ 255 ∷ 255 ∷ 255 ∷
+    4 ∷ 2 ∷ 0 ∷ 0 ∷ 1 ∷ 0 ∷ 0 ∷ 0 ∷ 0 ∷ 0 ∷ 0 ∷ 0 ∷ 0 ∷
     4 ∷ 0 ∷ 0 ∷ 3 ∷ 1 ∷ 255 ∷ 255 ∷ 255 ∷ 255 ∷ 255 ∷ 255 ∷ 255 ∷ 255 ∷
     4 ∷ 3 ∷ 0 ∷ 2 ∷ 0 ∷ 0 ∷ 0 ∷ 0 ∷ 0 ∷ 0 ∷ 0 ∷ 0 ∷ 0 ∷
     3 ∷ 0 ∷ 0 ∷ 0 ∷ 1 ∷ 0 ∷
-    4 ∷ 3 ∷ 0 ∷ 0 ∷ 1 ∷ 0 ∷ 0 ∷ 0 ∷ 0 ∷ 0 ∷ 0 ∷ 0 ∷ 2 ∷
-    4 ∷ 0 ∷ 0 ∷ 0 ∷ 1 ∷ 0 ∷ 0 ∷ 0 ∷ 0 ∷ 0 ∷ 0 ∷ 0 ∷ 1 ∷
-    4 ∷ 3 ∷ 0 ∷ 0 ∷ 1 ∷ 0 ∷ 0 ∷ 0 ∷ 0 ∷ 0 ∷ 0 ∷ 0 ∷ 3 ∷
-    6 ∷ 0 ∷ 0 ∷ 0 ∷ 1 ∷
-    6 ∷ 0 ∷ 0 ∷ 0 ∷ 0 ∷ []
-
-abbrev image-233 : List ℕ
-image-233 =
-    1 ∷ 0 ∷ 0 ∷ 0 ∷ 0 ∷ 0 ∷ 1 ∷ 140 ∷ 143 ∷ 0 ∷ 1 ∷ 0 ∷ 0 ∷ 0 ∷ 1 ∷ 0 ∷ 0 ∷ 0 ∷ 1 ∷ 0 ∷ 0 ∷ 0 ∷ 2 ∷ 0 ∷
-    2 ∷ 0 ∷ 3 ∷ 5 ∷ 4 ∷ 0 ∷ 0 ∷ 0 ∷ 0 ∷ 0 ∷
-    2 ∷ 0 ∷ 1 ∷ 0 ∷ 1 ∷ 0 ∷ 0 ∷ 0 ∷ 0 ∷ 0 ∷
-    3 ∷ 0 ∷ 0 ∷ 0 ∷ 0 ∷ 0 ∷
-    4 ∷ 3 ∷ 0 ∷ 2 ∷ 1 ∷ 0 ∷ 0 ∷ 0 ∷ 0 ∷ 0 ∷ 0 ∷ 0 ∷ 1 ∷
-    4 ∷ 0 ∷ 0 ∷ 0 ∷ 1 ∷ 255 ∷ 255 ∷ 255 ∷ 255 ∷ 255 ∷ 255 ∷ 255 ∷ 255 ∷
-    4 ∷ 0 ∷ 0 ∷ 3 ∷ 1 ∷ 255 ∷ 255 ∷ 255 ∷ 255 ∷ 255 ∷ 255 ∷ 255 ∷ 255 ∷
-    4 ∷ 3 ∷ 0 ∷ 2 ∷ 0 ∷ 0 ∷ 0 ∷ 0 ∷ 0 ∷ 0 ∷ 0 ∷ 0 ∷ 0 ∷
-    3 ∷ 0 ∷ 0 ∷ 0 ∷ 1 ∷ 0 ∷
-    4 ∷ 3 ∷ 0 ∷ 0 ∷ 1 ∷ 0 ∷ 0 ∷ 0 ∷ 0 ∷ 0 ∷ 0 ∷ 0 ∷ 2 ∷
+    4 ∷ 0 ∷ 0 ∷ 0 ∷ 1 ∷ 0 ∷ 0 ∷ 0 ∷ 0 ∷ 0 ∷ 0 ∷ 0 ∷ 3 ∷
     4 ∷ 0 ∷ 0 ∷ 0 ∷ 1 ∷ 0 ∷ 0 ∷ 0 ∷ 0 ∷ 0 ∷ 0 ∷ 0 ∷ 1 ∷
     4 ∷ 3 ∷ 0 ∷ 0 ∷ 1 ∷ 0 ∷ 0 ∷ 0 ∷ 0 ∷ 0 ∷ 0 ∷ 0 ∷ 3 ∷
     6 ∷ 0 ∷ 0 ∷ 0 ∷ 1 ∷
@@ -2064,32 +1896,31 @@ image-233 =
 abbrev image-236 : List ℕ
 image-236 =
     1 ∷ 0 ∷ 0 ∷ 0 ∷ 0 ∷ 0 ∷ 1 ∷ 140 ∷ 143 ∷ 0 ∷ 1 ∷ 0 ∷ 0 ∷ 0 ∷ 1 ∷ 0 ∷ 0 ∷ 0 ∷ 1 ∷ 0 ∷ 0 ∷ 0 ∷ 2 ∷ 0 ∷
-    2 ∷ 0 ∷ 3 ∷ 5 ∷ 4 ∷ 0 ∷ 0 ∷ 0 ∷ 0 ∷ 0 ∷
-    2 ∷ 0 ∷ 1 ∷ 0 ∷ 1 ∷ 0 ∷ 0 ∷ 0 ∷ 0 ∷ 0 ∷
-    3 ∷ 0 ∷ 0 ∷ 0 ∷ 0 ∷ 0 ∷
-    4 ∷ 3 ∷ 0 ∷ 2 ∷ 1 ∷ 0 ∷ 0 ∷ 0 ∷ 0 ∷ 0 ∷ 0 ∷ 0 ∷ 1 ∷
-    4 ∷ 2 ∷ 0 ∷ 0 ∷ 1 ∷ 0 ∷ 0 ∷ 0 ∷ 0 ∷ 0 ∷ 0 ∷ 0 ∷ 0 ∷
-    4 ∷ 0 ∷ 0 ∷ 3 ∷ 1 ∷ 255 ∷ 255 ∷ 255 ∷ 255 ∷ 255 ∷ 255 ∷ 255 ∷ 255 ∷
-    4 ∷ 3 ∷ 0 ∷ 2 ∷ 0 ∷ 0 ∷ 0 ∷ 0 ∷ 0 ∷ 0 ∷ 0 ∷ 0 ∷ 0 ∷
-    3 ∷ 0 ∷ 0 ∷ 0 ∷ 1 ∷ 0 ∷
-    4 ∷ 3 ∷ 0 ∷ 0 ∷ 1 ∷ 0 ∷ 0 ∷ 0 ∷ 0 ∷ 0 ∷ 0 ∷ 0 ∷ 2 ∷
-    4 ∷ 0 ∷ 0 ∷ 0 ∷ 1 ∷ 0 ∷ 0 ∷ 0 ∷ 0 ∷ 0 ∷ 0 ∷ 0 ∷ 1 ∷
-    4 ∷ 3 ∷ 0 ∷ 0 ∷ 1 ∷ 0 ∷ 0 ∷ 0 ∷ 0 ∷ 0 ∷ 0 ∷ 0 ∷ 3 ∷
-    6 ∷ 0 ∷ 0 ∷ 0 ∷ 1 ∷
-    6 ∷ 0 ∷ 0 ∷ 0 ∷ 0 ∷ []
-
-abbrev image-238 : List ℕ
-image-238 =
-    1 ∷ 0 ∷ 0 ∷ 0 ∷ 0 ∷ 0 ∷ 1 ∷ 140 ∷ 143 ∷ 0 ∷ 1 ∷ 0 ∷ 0 ∷ 0 ∷ 1 ∷ 0 ∷ 0 ∷ 0 ∷ 1 ∷ 0 ∷ 0 ∷ 0 ∷ 2 ∷ 0 ∷
     2 ∷ 0 ∷ 3 ∷ 2 ∷ 4 ∷ 0 ∷ 0 ∷ 0 ∷ 0 ∷ 0 ∷
-    2 ∷ 0 ∷ 1 ∷ 0 ∷ 1 ∷ 0 ∷ 0 ∷ 0 ∷ 0 ∷ 0 ∷
+    2 ∷ 0 ∷ 1 ∷ 0 ∷ 4 ∷ 0 ∷ 0 ∷ 0 ∷ 0 ∷ 0 ∷
     3 ∷ 0 ∷ 0 ∷ 0 ∷ 0 ∷ 0 ∷
     4 ∷ 3 ∷ 0 ∷ 2 ∷ 1 ∷ 0 ∷ 0 ∷ 0 ∷ 0 ∷ 0 ∷ 0 ∷ 0 ∷ 1 ∷
     4 ∷ 2 ∷ 0 ∷ 0 ∷ 1 ∷ 0 ∷ 0 ∷ 0 ∷ 0 ∷ 0 ∷ 0 ∷ 0 ∷ 0 ∷
     4 ∷ 2 ∷ 0 ∷ 0 ∷ 1 ∷ 0 ∷ 0 ∷ 0 ∷ 0 ∷ 0 ∷ 0 ∷ 0 ∷ 2 ∷
     4 ∷ 3 ∷ 0 ∷ 2 ∷ 0 ∷ 0 ∷ 0 ∷ 0 ∷ 0 ∷ 0 ∷ 0 ∷ 0 ∷ 0 ∷
     3 ∷ 0 ∷ 0 ∷ 0 ∷ 1 ∷ 0 ∷
-    4 ∷ 3 ∷ 0 ∷ 0 ∷ 1 ∷ 0 ∷ 0 ∷ 0 ∷ 0 ∷ 0 ∷ 0 ∷ 0 ∷ 2 ∷
+    4 ∷ 0 ∷ 0 ∷ 0 ∷ 1 ∷ 0 ∷ 0 ∷ 0 ∷ 0 ∷ 0 ∷ 0 ∷ 0 ∷ 3 ∷
+    4 ∷ 0 ∷ 0 ∷ 0 ∷ 1 ∷ 0 ∷ 0 ∷ 0 ∷ 0 ∷ 0 ∷ 0 ∷ 0 ∷ 1 ∷
+    4 ∷ 3 ∷ 0 ∷ 0 ∷ 1 ∷ 0 ∷ 0 ∷ 0 ∷ 0 ∷ 0 ∷ 0 ∷ 0 ∷ 3 ∷
+    6 ∷ 0 ∷ 0 ∷ 0 ∷ 1 ∷ []
+
+abbrev image-240 : List ℕ
+image-240 =
+    1 ∷ 0 ∷ 0 ∷ 0 ∷ 0 ∷ 0 ∷ 1 ∷ 140 ∷ 143 ∷ 0 ∷ 1 ∷ 0 ∷ 0 ∷ 0 ∷ 1 ∷ 0 ∷ 0 ∷ 0 ∷ 1 ∷ 0 ∷ 0 ∷ 0 ∷ 2 ∷ 0 ∷
+    2 ∷ 0 ∷ 2 ∷ 2 ∷ 4 ∷ 0 ∷ 0 ∷ 0 ∷ 0 ∷ 0 ∷
+    2 ∷ 0 ∷ 1 ∷ 0 ∷ 4 ∷ 0 ∷ 0 ∷ 0 ∷ 0 ∷ 0 ∷
+    3 ∷ 0 ∷ 0 ∷ 0 ∷ 0 ∷ 0 ∷
+    4 ∷ 3 ∷ 0 ∷ 2 ∷ 1 ∷ 0 ∷ 0 ∷ 0 ∷ 0 ∷ 0 ∷ 0 ∷ 0 ∷ 1 ∷
+    4 ∷ 2 ∷ 0 ∷ 0 ∷ 1 ∷ 0 ∷ 0 ∷ 0 ∷ 0 ∷ 0 ∷ 0 ∷ 0 ∷ 0 ∷
+    4 ∷ 2 ∷ 0 ∷ 0 ∷ 1 ∷ 0 ∷ 0 ∷ 0 ∷ 0 ∷ 0 ∷ 0 ∷ 0 ∷ 2 ∷
+    4 ∷ 3 ∷ 0 ∷ 2 ∷ 0 ∷ 0 ∷ 0 ∷ 0 ∷ 0 ∷ 0 ∷ 0 ∷ 0 ∷ 0 ∷
+    3 ∷ 0 ∷ 0 ∷ 0 ∷ 1 ∷ 0 ∷
+    4 ∷ 0 ∷ 0 ∷ 0 ∷ 1 ∷ 0 ∷ 0 ∷ 0 ∷ 0 ∷ 0 ∷ 0 ∷ 0 ∷ 3 ∷
     4 ∷ 0 ∷ 0 ∷ 0 ∷ 1 ∷ 0 ∷ 0 ∷ 0 ∷ 0 ∷ 0 ∷ 0 ∷ 0 ∷ 1 ∷
     4 ∷ 3 ∷ 0 ∷ 0 ∷ 1 ∷ 0 ∷ 0 ∷ 0 ∷ 0 ∷ 0 ∷ 0 ∷ 0 ∷ 3 ∷
     6 ∷ 0 ∷ 0 ∷ 0 ∷ 1 ∷ []
@@ -2098,239 +1929,313 @@ image-238 =
 calls-231 :
     outcomes none
     (read-line plenty image-231
-    ∷ call-line plenty (mark-as-finished 1 0 (some 2) (words 4352 []))
-    ∷ call-line plenty (set-piece-priority 1 1 (words 4352 []))
+    ∷ call-line plenty (pick-pieces (asking 69 40 5 300 (some 18446744073709551615) 2 (255 ∷ []) (1 ∷ 0 ∷ 0 ∷ [])) 4351 (words 5000 []))
     ∷ call-line plenty (mark-as-canceled 1 2 (some 1) (words 4352 []))
     ∷ call-line plenty (mark-as-writing 0 1 (some 0) (words 4352 []))
     ∷ call-line plenty (abort-download 1 1 none (words 5000 []))
     ∷ call-line plenty (mark-as-writing 0 2 (some 2) (words 4352 []))
     ∷ call-line plenty (mark-as-downloading 0 3 (some 18446744073709551615) 0 (words 4352 []))
     ∷ call-line plenty (pick-pieces (asking 32 1099511627776 2048 3 none 2 (239 ∷ []) []) 4351 (words 4352 []))
+    ∷ call-line plenty (mark-as-downloading 0 0 (some 3) 130 (words 5000 []))
+    ∷ call-line plenty (dec-refcount 0 (words 5000 []))
     ∷ [])
     ≡ outcome stands image-231
-    ∷ outcome (answered (done 0)) image-232
-    ∷ outcome (answered (said false 0)) image-233
-    ∷ outcome (answered (done 0)) image-233
+    ∷ outcome (answered (picked [] 10280 (0 ∷ 3 ∷ 0 ∷ 2 ∷ 0 ∷ 0 ∷ 0 ∷ []) 0)) image-231
+    ∷ outcome (answered (done 0)) image-231
+    ∷ outcome (answered (said true 0)) image-234
+    ∷ outcome (answered (done 0)) image-234
     ∷ outcome (answered (said true 0)) image-236
-    ∷ outcome (answered (done 0)) image-236
-    ∷ outcome (answered (said true 0)) image-238
-    ∷ outcome (answered (said false 0)) image-238
-    ∷ outcome (answered (refused PickArguments)) image-238
+    ∷ outcome (answered (said false 0)) image-236
+    ∷ outcome (answered (refused PickArguments)) image-236
+    ∷ outcome (answered (said false 0)) image-236
+    ∷ outcome (answered (done 0)) image-240
     ∷ []
 unfolding replaying
 calls-231 = refl
 
 abbrev image-242 : List ℕ
 image-242 =
-    1 ∷ 0 ∷ 0 ∷ 0 ∷ 0 ∷ 0 ∷ 1 ∷ 0 ∷ 0 ∷ 0 ∷ 0 ∷ 64 ∷ 0 ∷ 0 ∷ 0 ∷ 0 ∷ 0 ∷ 0 ∷ 4 ∷ 0 ∷ 0 ∷ 0 ∷ 3 ∷ 1 ∷
-    2 ∷ 0 ∷ 1 ∷ 4 ∷ 6 ∷ 0 ∷ 0 ∷ 0 ∷ 0 ∷ 1 ∷
-    2 ∷ 0 ∷ 0 ∷ 4 ∷ 1 ∷ 0 ∷ 0 ∷ 0 ∷ 64 ∷ 0 ∷
-    2 ∷ 0 ∷ 3 ∷ 4 ∷ 7 ∷ 1 ∷ 0 ∷ 0 ∷ 64 ∷ 0 ∷
-    2 ∷ 0 ∷ 2 ∷ 4 ∷ 1 ∷ 0 ∷ 0 ∷ 0 ∷ 0 ∷ 0 ∷ []
+    1 ∷ 0 ∷ 0 ∷ 0 ∷ 0 ∷ 0 ∷ 0 ∷ 0 ∷ 8 ∷ 0 ∷ 0 ∷ 0 ∷ 3 ∷ 0 ∷ 0 ∷ 0 ∷ 0 ∷ 0 ∷ 3 ∷ 0 ∷ 0 ∷ 0 ∷ 0 ∷ 0 ∷
+    2 ∷ 0 ∷ 0 ∷ 4 ∷ 7 ∷ 0 ∷ 0 ∷ 0 ∷ 0 ∷ 0 ∷
+    2 ∷ 0 ∷ 2 ∷ 4 ∷ 4 ∷ 0 ∷ 0 ∷ 0 ∷ 0 ∷ 0 ∷
+    2 ∷ 0 ∷ 0 ∷ 4 ∷ 6 ∷ 0 ∷ 0 ∷ 0 ∷ 0 ∷ 2 ∷
+    6 ∷ 0 ∷ 0 ∷ 0 ∷ 1 ∷ []
 
-abbrev image-243 : List ℕ
-image-243 =
-    1 ∷ 0 ∷ 0 ∷ 0 ∷ 0 ∷ 0 ∷ 1 ∷ 0 ∷ 0 ∷ 0 ∷ 0 ∷ 64 ∷ 0 ∷ 0 ∷ 0 ∷ 0 ∷ 0 ∷ 0 ∷ 4 ∷ 0 ∷ 0 ∷ 0 ∷ 3 ∷ 0 ∷
-    2 ∷ 0 ∷ 1 ∷ 4 ∷ 6 ∷ 0 ∷ 0 ∷ 0 ∷ 0 ∷ 1 ∷
-    2 ∷ 0 ∷ 0 ∷ 4 ∷ 1 ∷ 0 ∷ 0 ∷ 0 ∷ 64 ∷ 0 ∷
-    2 ∷ 0 ∷ 3 ∷ 4 ∷ 7 ∷ 1 ∷ 0 ∷ 0 ∷ 64 ∷ 0 ∷
-    2 ∷ 0 ∷ 2 ∷ 4 ∷ 1 ∷ 0 ∷ 0 ∷ 0 ∷ 0 ∷ 0 ∷
-    6 ∷ 0 ∷ 0 ∷ 0 ∷ 0 ∷
-    6 ∷ 0 ∷ 0 ∷ 0 ∷ 3 ∷ []
-
-abbrev image-246 : List ℕ
-image-246 =
-    1 ∷ 0 ∷ 0 ∷ 0 ∷ 0 ∷ 0 ∷ 1 ∷ 0 ∷ 0 ∷ 0 ∷ 0 ∷ 64 ∷ 0 ∷ 0 ∷ 0 ∷ 0 ∷ 0 ∷ 0 ∷ 4 ∷ 0 ∷ 0 ∷ 0 ∷ 3 ∷ 0 ∷
-    2 ∷ 0 ∷ 1 ∷ 4 ∷ 6 ∷ 0 ∷ 0 ∷ 0 ∷ 0 ∷ 1 ∷
-    2 ∷ 0 ∷ 0 ∷ 4 ∷ 1 ∷ 0 ∷ 0 ∷ 0 ∷ 64 ∷ 0 ∷
-    2 ∷ 0 ∷ 3 ∷ 4 ∷ 7 ∷ 1 ∷ 0 ∷ 0 ∷ 64 ∷ 0 ∷
-    2 ∷ 0 ∷ 2 ∷ 2 ∷ 1 ∷ 0 ∷ 0 ∷ 0 ∷ 0 ∷ 0 ∷
-    3 ∷ 0 ∷ 0 ∷ 0 ∷ 3 ∷ 0 ∷
-    4 ∷ 3 ∷ 0 ∷ 0 ∷ 1 ∷ 255 ∷ 255 ∷ 255 ∷ 255 ∷ 255 ∷ 255 ∷ 255 ∷ 255 ∷
-    6 ∷ 0 ∷ 0 ∷ 0 ∷ 0 ∷ []
+abbrev image-248 : List ℕ
+image-248 =
+    1 ∷ 0 ∷ 0 ∷ 0 ∷ 0 ∷ 0 ∷ 0 ∷ 0 ∷ 8 ∷ 0 ∷ 0 ∷ 0 ∷ 3 ∷ 0 ∷ 0 ∷ 0 ∷ 0 ∷ 0 ∷ 3 ∷ 0 ∷ 0 ∷ 0 ∷ 0 ∷ 0 ∷
+    2 ∷ 0 ∷ 0 ∷ 4 ∷ 7 ∷ 0 ∷ 0 ∷ 0 ∷ 0 ∷ 0 ∷
+    2 ∷ 0 ∷ 2 ∷ 4 ∷ 4 ∷ 0 ∷ 0 ∷ 0 ∷ 0 ∷ 0 ∷
+    2 ∷ 0 ∷ 0 ∷ 2 ∷ 6 ∷ 0 ∷ 0 ∷ 0 ∷ 0 ∷ 2 ∷
+    3 ∷ 0 ∷ 0 ∷ 0 ∷ 2 ∷ 0 ∷
+    4 ∷ 2 ∷ 0 ∷ 0 ∷ 1 ∷ 0 ∷ 0 ∷ 0 ∷ 0 ∷ 0 ∷ 0 ∷ 0 ∷ 2 ∷
+    6 ∷ 0 ∷ 0 ∷ 0 ∷ 1 ∷ []
 
 abbrev image-252 : List ℕ
 image-252 =
-    1 ∷ 0 ∷ 0 ∷ 0 ∷ 0 ∷ 0 ∷ 1 ∷ 0 ∷ 0 ∷ 0 ∷ 0 ∷ 64 ∷ 0 ∷ 0 ∷ 0 ∷ 0 ∷ 0 ∷ 0 ∷ 4 ∷ 0 ∷ 0 ∷ 0 ∷ 3 ∷ 0 ∷
-    2 ∷ 0 ∷ 1 ∷ 4 ∷ 6 ∷ 0 ∷ 0 ∷ 0 ∷ 0 ∷ 1 ∷
-    2 ∷ 0 ∷ 0 ∷ 4 ∷ 1 ∷ 0 ∷ 0 ∷ 0 ∷ 64 ∷ 0 ∷
-    2 ∷ 0 ∷ 3 ∷ 4 ∷ 7 ∷ 1 ∷ 0 ∷ 0 ∷ 64 ∷ 0 ∷
-    2 ∷ 0 ∷ 2 ∷ 4 ∷ 1 ∷ 1 ∷ 0 ∷ 0 ∷ 0 ∷ 0 ∷
-    6 ∷ 0 ∷ 0 ∷ 0 ∷ 0 ∷ []
+    1 ∷ 0 ∷ 0 ∷ 0 ∷ 0 ∷ 0 ∷ 0 ∷ 0 ∷ 8 ∷ 0 ∷ 0 ∷ 0 ∷ 3 ∷ 0 ∷ 0 ∷ 0 ∷ 0 ∷ 0 ∷ 3 ∷ 0 ∷ 0 ∷ 0 ∷ 0 ∷ 0 ∷
+    2 ∷ 0 ∷ 0 ∷ 4 ∷ 7 ∷ 0 ∷ 0 ∷ 0 ∷ 0 ∷ 0 ∷
+    2 ∷ 0 ∷ 2 ∷ 4 ∷ 4 ∷ 0 ∷ 0 ∷ 0 ∷ 0 ∷ 0 ∷
+    2 ∷ 0 ∷ 0 ∷ 2 ∷ 6 ∷ 0 ∷ 0 ∷ 0 ∷ 0 ∷ 2 ∷
+    3 ∷ 0 ∷ 0 ∷ 0 ∷ 2 ∷ 1 ∷
+    4 ∷ 2 ∷ 0 ∷ 0 ∷ 1 ∷ 0 ∷ 0 ∷ 0 ∷ 0 ∷ 0 ∷ 0 ∷ 0 ∷ 2 ∷
+    6 ∷ 0 ∷ 0 ∷ 0 ∷ 1 ∷ []
 
-abbrev image-261 : List ℕ
-image-261 =
-    1 ∷ 0 ∷ 0 ∷ 0 ∷ 0 ∷ 0 ∷ 1 ∷ 0 ∷ 0 ∷ 0 ∷ 0 ∷ 64 ∷ 0 ∷ 0 ∷ 0 ∷ 0 ∷ 0 ∷ 0 ∷ 4 ∷ 0 ∷ 0 ∷ 0 ∷ 3 ∷ 0 ∷
-    2 ∷ 0 ∷ 1 ∷ 2 ∷ 6 ∷ 0 ∷ 0 ∷ 0 ∷ 0 ∷ 1 ∷
-    2 ∷ 0 ∷ 0 ∷ 4 ∷ 1 ∷ 0 ∷ 0 ∷ 0 ∷ 64 ∷ 0 ∷
-    2 ∷ 0 ∷ 3 ∷ 4 ∷ 7 ∷ 1 ∷ 0 ∷ 0 ∷ 64 ∷ 0 ∷
-    2 ∷ 0 ∷ 2 ∷ 4 ∷ 1 ∷ 1 ∷ 0 ∷ 0 ∷ 0 ∷ 0 ∷
-    3 ∷ 0 ∷ 0 ∷ 0 ∷ 0 ∷ 0 ∷
-    4 ∷ 3 ∷ 0 ∷ 0 ∷ 1 ∷ 255 ∷ 255 ∷ 255 ∷ 255 ∷ 255 ∷ 255 ∷ 255 ∷ 255 ∷ []
+abbrev image-253 : List ℕ
+image-253 =
+    1 ∷ 0 ∷ 0 ∷ 0 ∷ 0 ∷ 0 ∷ 0 ∷ 0 ∷ 8 ∷ 0 ∷ 0 ∷ 0 ∷ 3 ∷ 0 ∷ 0 ∷ 0 ∷ 0 ∷ 0 ∷ 3 ∷ 0 ∷ 0 ∷ 0 ∷ 0 ∷ 0 ∷
+    2 ∷ 0 ∷ 0 ∷ 4 ∷ 7 ∷ 0 ∷ 0 ∷ 0 ∷ 0 ∷ 0 ∷
+    2 ∷ 0 ∷ 2 ∷ 4 ∷ 4 ∷ 0 ∷ 0 ∷ 0 ∷ 0 ∷ 0 ∷
+    2 ∷ 0 ∷ 0 ∷ 4 ∷ 6 ∷ 1 ∷ 0 ∷ 0 ∷ 0 ∷ 2 ∷
+    6 ∷ 0 ∷ 0 ∷ 0 ∷ 1 ∷ []
+
+abbrev image-270 : List ℕ
+image-270 =
+    1 ∷ 0 ∷ 0 ∷ 0 ∷ 0 ∷ 0 ∷ 0 ∷ 0 ∷ 8 ∷ 0 ∷ 0 ∷ 0 ∷ 3 ∷ 0 ∷ 0 ∷ 0 ∷ 0 ∷ 0 ∷ 3 ∷ 0 ∷ 0 ∷ 0 ∷ 0 ∷ 0 ∷
+    2 ∷ 0 ∷ 1 ∷ 4 ∷ 7 ∷ 0 ∷ 0 ∷ 0 ∷ 0 ∷ 0 ∷
+    2 ∷ 0 ∷ 2 ∷ 4 ∷ 4 ∷ 0 ∷ 0 ∷ 0 ∷ 0 ∷ 0 ∷
+    2 ∷ 0 ∷ 0 ∷ 4 ∷ 6 ∷ 1 ∷ 0 ∷ 0 ∷ 0 ∷ 2 ∷
+    6 ∷ 0 ∷ 0 ∷ 0 ∷ 0 ∷
+    6 ∷ 0 ∷ 0 ∷ 0 ∷ 1 ∷ []
 
 -- calls 242 to 270
 calls-242 :
     outcomes none
     (read-line plenty image-242
-    ∷ call-line plenty (pick-pieces (asking 37 13 1 2 (some 3) 4 (255 ∷ []) []) 4351 (words 4352 []))
-    ∷ call-line (lending 27 1000000 1000000) (pick-pieces (asking 232 5 2 2 (some 2) 4 (255 ∷ []) []) 4351 (words 5000 []))
-    ∷ call-line plenty (abort-download 3 0 (some 18446744073709551615) (words 4352 []))
-    ∷ call-line plenty (mark-as-finished 3 0 (some 18446744073709551615) (words 4352 []))
-    ∷ call-line plenty (mark-as-writing 0 0 (some 1) (words 4351 []))
-    ∷ call-line plenty (abort-download 2 0 (some 3) (words 4352 []))
-    ∷ call-line plenty (mark-as-downloading 2 0 (some 0) 128 (words 4352 []))
-    ∷ image-line plenty 1000000
-    ∷ call-line plenty (pick-pieces (asking 136 5 0 2 none 4 (8 ∷ []) []) 4351 (words 5000 (3643622169 ∷ [])))
-    ∷ call-line plenty (piece-passed 3)
-    ∷ call-line plenty (mark-as-finished 3 0 (some 0) (words 4352 []))
-    ∷ call-line plenty (mark-as-writing 2 0 (some 18446744073709551615) (words 4352 []))
-    ∷ call-line plenty (dec-refcount 1 (words 4352 []))
-    ∷ call-line plenty (pick-pieces (asking 43 13 1 1000 (some 2) 4 (125 ∷ []) []) 4351 (words 4352 []))
-    ∷ call-line plenty (question (list-place 0))
-    ∷ call-line plenty (mark-as-canceled 1 0 none (words 5000 []))
-    ∷ call-line plenty (mark-as-writing 2 0 none (words 4352 []))
-    ∷ call-line plenty (pick-pieces (asking 98 2048 2 5 (some 3) 4 (8 ∷ []) (2 ∷ 2 ∷ 0 ∷ 0 ∷ 1 ∷ [])) 4351 (words 4352 (1273098767 ∷ [])))
-    ∷ call-line plenty (mark-as-finished 0 0 (some 18446744073709551615) (words 4352 []))
-    ∷ call-line plenty (pick-pieces (asking 240 1 2047 0 (some 3) 4 (255 ∷ []) []) 4351 (words 5000 []))
-    ∷ call-line plenty (mark-as-downloading 0 0 (some 3) 0 (words 4352 []))
-    ∷ call-line plenty (mark-as-writing 3 0 (some 3) (words 4352 []))
-    ∷ call-line plenty (mark-as-finished 0 0 none (words 4352 []))
-    ∷ call-line plenty (mark-as-finished 2 0 (some 2) (words 4352 []))
-    ∷ call-line plenty (question (partial-at 0))
-    ∷ image-line plenty 82
-    ∷ call-line plenty (dec-refcount 0 (words 1 []))
-    ∷ call-line plenty (question (ofPiece locked? 0))
+    ∷ call-line plenty (dec-refcount 0 (words 5000 []))
+    ∷ call-line plenty (pick-pieces (asking 104 2 3 3 (some 1) 3 (153 ∷ []) []) 4351 (words 4352 (3759231115 ∷ [])))
+    ∷ call-line plenty (question (list-place 2))
+    ∷ call-line plenty (pick-pieces (asking 100 0 2 1000 none 3 (255 ∷ []) []) 4351 (words 5000 []))
+    ∷ call-line plenty (abort-download 2 0 (some 1) (words 5000 []))
+    ∷ call-line plenty (mark-as-writing 2 0 (some 2) (words 4352 []))
+    ∷ call-line plenty (dec-refcount 0 (words 4352 []))
+    ∷ call-line plenty (mark-as-canceled 1 0 (some 2) (words 4352 []))
+    ∷ call-line plenty (pick-pieces (asking 7717 2048 3 5 (some 3) 3 (255 ∷ []) []) 4351 (words 5000 []))
+    ∷ call-line plenty (piece-passed 2)
+    ∷ call-line plenty (mark-as-finished 2 0 (some 3) (words 4352 []))
+    ∷ call-line plenty (pick-pieces (asking 111 8 5 10 (some 18446744073709551615) 3 (255 ∷ []) []) 4351 (words 5000 []))
+    ∷ call-line plenty (question (list-place 1))
+    ∷ call-line plenty (question (listOfPiece blocks-for-piece 2 1000000))
+    ∷ call-line plenty (question (ofPicker all-pieces))
+    ∷ call-line plenty (abort-download 0 0 (some 1) (words 4352 []))
+    ∷ call-line plenty (pick-pieces (asking 131 1 1 5 (some 0) 3 (255 ∷ []) []) 4351 (words 5000 []))
+    ∷ call-line plenty (mark-as-writing 2 0 none (words 5000 []))
+    ∷ call-line plenty (abort-download 1 0 (some 2) (words 4352 []))
+    ∷ call-line plenty (pick-pieces (asking 186 1 0 2 none 3 (223 ∷ []) (0 ∷ 0 ∷ 2 ∷ 2 ∷ 0 ∷ [])) 4351 (words 4352 []))
+    ∷ call-line plenty (mark-as-downloading 2 0 (some 0) 130 (words 5000 []))
+    ∷ call-line plenty (question (ofPicker blocks-per-piece))
+    ∷ call-line plenty (mark-as-canceled 1 0 (some 18446744073709551615) (words 4352 []))
+    ∷ call-line plenty (pick-pieces (asking 252 1 0 5 (some 0) 3 (255 ∷ []) (1 ∷ 0 ∷ 2 ∷ 1 ∷ 1 ∷ [])) 4351 (words 4352 []))
+    ∷ call-line plenty (question (ofBlock num-peers-block 2 0))
+    ∷ call-line plenty (inc-refcount 4 (words 5000 []))
+    ∷ call-line plenty (mark-as-writing 2 0 (some 18446744073709551615) (words 5000 []))
+    ∷ call-line plenty (inc-refcount 0 (words 4352 []))
     ∷ [])
     ≡ outcome stands image-242
-    ∷ outcome (answered (picked ((pieceBlock 0 0) ∷ (pieceBlock 3 0) ∷ []) 10248 (0 ∷ 0 ∷ 0 ∷ 2 ∷ 0 ∷ 0 ∷ 0 ∷ []) 0)) image-243
-    ∷ outcome (answered (refused ShortMemory)) image-243
-    ∷ outcome (answered (done 0)) image-243
-    ∷ outcome (answered (done 0)) image-246
-    ∷ outcome (answered (refused FewDraws)) image-246
-    ∷ outcome (answered (done 0)) image-246
-    ∷ outcome (answered (refused HavePiece)) image-246
-    ∷ outcome (bytesTaken (1 ∷ 0 ∷ 0 ∷ 0 ∷ 0 ∷ 0 ∷ 1 ∷ 0 ∷ 0 ∷ 0 ∷ 0 ∷ 64 ∷ 0 ∷ 0 ∷ 0 ∷ 0 ∷ 0 ∷ 0 ∷ 4 ∷ 0 ∷ 0 ∷ 0 ∷ 3 ∷ 0 ∷ 2 ∷ 0 ∷ 1 ∷ 4 ∷ 6 ∷ 0 ∷ 0 ∷ 0 ∷ 0 ∷ 1 ∷ 2 ∷ 0 ∷ 0 ∷ 4 ∷ 1 ∷ 0 ∷ 0 ∷ 0 ∷ 64 ∷ 0 ∷ 2 ∷ 0 ∷ 3 ∷ 4 ∷ 7 ∷ 1 ∷ 0 ∷ 0 ∷ 64 ∷ 0 ∷ 2 ∷ 0 ∷ 2 ∷ 2 ∷ 1 ∷ 0 ∷ 0 ∷ 0 ∷ 0 ∷ 0 ∷ 3 ∷ 0 ∷ 0 ∷ 0 ∷ 3 ∷ 0 ∷ 4 ∷ 3 ∷ 0 ∷ 0 ∷ 1 ∷ 255 ∷ 255 ∷ 255 ∷ 255 ∷ 255 ∷ 255 ∷ 255 ∷ 255 ∷ 6 ∷ 0 ∷ 0 ∷ 0 ∷ 0 ∷ [])) image-246
-    ∷ outcome (answered (picked [] 8192 (0 ∷ 0 ∷ 0 ∷ 0 ∷ 4 ∷ 0 ∷ 0 ∷ []) 1)) image-246
+    ∷ outcome (answered (refused NoPeerToTake)) image-242
+    ∷ outcome (answered (picked ((pieceBlock 0 0) ∷ []) 11264 (0 ∷ 0 ∷ 0 ∷ 0 ∷ 2 ∷ 1 ∷ 0 ∷ []) 1)) image-242
+    ∷ outcome (answered (refused OutOfRange)) image-242
+    ∷ outcome (answered (refused PickArguments)) image-242
+    ∷ outcome (answered (done 0)) image-242
+    ∷ outcome (answered (said true 0)) image-248
+    ∷ outcome (answered (refused NoPeerToTake)) image-248
+    ∷ outcome (answered (done 0)) image-248
+    ∷ outcome (answered (picked ((pieceBlock 0 0) ∷ (pieceBlock 1 0) ∷ []) 10248 (0 ∷ 0 ∷ 0 ∷ 1 ∷ 0 ∷ 0 ∷ 0 ∷ []) 0)) image-248
     ∷ outcome (answered (done 0)) image-252
-    ∷ outcome (answered (done 0)) image-252
-    ∷ outcome (answered (said false 0)) image-252
-    ∷ outcome (answered (refused NoPeerToTake)) image-252
-    ∷ outcome (answered (picked [] 10244 (0 ∷ 0 ∷ 1 ∷ 0 ∷ 0 ∷ 0 ∷ 0 ∷ []) 0)) image-252
-    ∷ outcome (answered (replied (numbers ((some 0) ∷ [])))) image-252
-    ∷ outcome (answered (done 0)) image-252
-    ∷ outcome (answered (said false 0)) image-252
-    ∷ outcome (answered (picked [] 10240 (0 ∷ 5 ∷ 0 ∷ 0 ∷ 4 ∷ 0 ∷ 0 ∷ []) 1)) image-252
-    ∷ outcome (answered (done 0)) image-261
-    ∷ outcome (answered (picked [] 10240 (0 ∷ 0 ∷ 0 ∷ 0 ∷ 0 ∷ 0 ∷ 0 ∷ []) 0)) image-261
-    ∷ outcome (answered (said false 0)) image-261
-    ∷ outcome (answered (said false 0)) image-261
-    ∷ outcome (answered (done 0)) image-261
-    ∷ outcome (answered (done 0)) image-261
-    ∷ outcome (answered (replied (numbers ((some 0) ∷ [])))) image-261
-    ∷ outcome (notDone ShortMemory) image-261
-    ∷ outcome (answered (refused FewDraws)) image-261
-    ∷ outcome (answered (replied (numbers ((some 0) ∷ [])))) image-261
+    ∷ outcome (answered (done 0)) image-253
+    ∷ outcome (answered (picked ((pieceBlock 0 0) ∷ (pieceBlock 1 0) ∷ []) 10256 (0 ∷ 0 ∷ 1 ∷ 0 ∷ 0 ∷ 0 ∷ 0 ∷ []) 0)) image-253
+    ∷ outcome (answered (refused OutOfRange)) image-253
+    ∷ outcome (answered (replied nothing)) image-253
+    ∷ outcome (answered (replied (numbers ((some 3) ∷ (some 2) ∷ (some 1) ∷ [])))) image-253
+    ∷ outcome (answered (done 0)) image-253
+    ∷ outcome (answered (picked ((pieceBlock 1 0) ∷ []) 2064 (0 ∷ 0 ∷ 1 ∷ 0 ∷ 0 ∷ 0 ∷ 0 ∷ []) 0)) image-253
+    ∷ outcome (answered (said false 0)) image-253
+    ∷ outcome (answered (done 0)) image-253
+    ∷ outcome (answered (picked ((pieceBlock 0 0) ∷ []) 32 (0 ∷ 1 ∷ 0 ∷ 0 ∷ 0 ∷ 0 ∷ 0 ∷ []) 0)) image-253
+    ∷ outcome (answered (refused HavePiece)) image-253
+    ∷ outcome (answered (replied (numbers ((some 1) ∷ [])))) image-253
+    ∷ outcome (answered (done 0)) image-253
+    ∷ outcome (answered (picked ((pieceBlock 1 0) ∷ []) 32 (0 ∷ 1 ∷ 0 ∷ 0 ∷ 0 ∷ 0 ∷ 0 ∷ []) 0)) image-253
+    ∷ outcome (answered (replied (numbers ((some 0) ∷ [])))) image-253
+    ∷ outcome (answered (refused OutOfRange)) image-253
+    ∷ outcome (answered (said false 0)) image-253
+    ∷ outcome (answered (done 0)) image-270
     ∷ []
 unfolding replaying
 calls-242 = refl
 
 abbrev image-272 : List ℕ
 image-272 =
-    1 ∷ 0 ∷ 0 ∷ 0 ∷ 0 ∷ 0 ∷ 0 ∷ 0 ∷ 1 ∷ 0 ∷ 0 ∷ 0 ∷ 3 ∷ 0 ∷ 0 ∷ 0 ∷ 0 ∷ 0 ∷ 0 ∷ 0 ∷ 0 ∷ 0 ∷ 1 ∷ 1 ∷
-    2 ∷ 0 ∷ 0 ∷ 4 ∷ 4 ∷ 0 ∷ 0 ∷ 0 ∷ 0 ∷ 0 ∷ []
-
-abbrev image-275 : List ℕ
-image-275 =
-    1 ∷ 0 ∷ 0 ∷ 0 ∷ 0 ∷ 0 ∷ 0 ∷ 0 ∷ 1 ∷ 0 ∷ 0 ∷ 0 ∷ 3 ∷ 0 ∷ 0 ∷ 0 ∷ 0 ∷ 0 ∷ 0 ∷ 0 ∷ 0 ∷ 0 ∷ 1 ∷ 1 ∷
-    2 ∷ 0 ∷ 0 ∷ 2 ∷ 4 ∷ 0 ∷ 0 ∷ 0 ∷ 0 ∷ 0 ∷
-    3 ∷ 0 ∷ 0 ∷ 0 ∷ 0 ∷ 0 ∷
-    4 ∷ 2 ∷ 0 ∷ 0 ∷ 0 ∷ 0 ∷ 0 ∷ 0 ∷ 0 ∷ 0 ∷ 0 ∷ 0 ∷ 0 ∷ []
-
-abbrev image-276 : List ℕ
-image-276 =
-    1 ∷ 0 ∷ 0 ∷ 0 ∷ 0 ∷ 0 ∷ 0 ∷ 0 ∷ 1 ∷ 0 ∷ 0 ∷ 0 ∷ 3 ∷ 0 ∷ 0 ∷ 0 ∷ 0 ∷ 0 ∷ 0 ∷ 0 ∷ 0 ∷ 0 ∷ 1 ∷ 1 ∷
-    2 ∷ 0 ∷ 0 ∷ 4 ∷ 4 ∷ 0 ∷ 0 ∷ 0 ∷ 0 ∷ 0 ∷ []
+    1 ∷ 0 ∷ 0 ∷ 0 ∷ 0 ∷ 0 ∷ 0 ∷ 0 ∷ 9 ∷ 0 ∷ 0 ∷ 0 ∷ 3 ∷ 0 ∷ 1 ∷ 0 ∷ 0 ∷ 0 ∷ 2 ∷ 0 ∷ 0 ∷ 0 ∷ 2 ∷ 0 ∷
+    2 ∷ 0 ∷ 1 ∷ 4 ∷ 0 ∷ 0 ∷ 0 ∷ 0 ∷ 0 ∷ 0 ∷
+    2 ∷ 0 ∷ 3 ∷ 4 ∷ 7 ∷ 0 ∷ 0 ∷ 0 ∷ 0 ∷ 0 ∷
+    2 ∷ 0 ∷ 2 ∷ 4 ∷ 7 ∷ 0 ∷ 0 ∷ 0 ∷ 0 ∷ 1 ∷
+    5 ∷ 0 ∷ 0 ∷ 0 ∷ 0 ∷
+    6 ∷ 0 ∷ 0 ∷ 0 ∷ 2 ∷
+    6 ∷ 0 ∷ 0 ∷ 0 ∷ 1 ∷ []
 
 abbrev image-277 : List ℕ
 image-277 =
-    1 ∷ 0 ∷ 0 ∷ 0 ∷ 0 ∷ 0 ∷ 0 ∷ 0 ∷ 1 ∷ 0 ∷ 0 ∷ 0 ∷ 3 ∷ 0 ∷ 0 ∷ 0 ∷ 0 ∷ 0 ∷ 0 ∷ 0 ∷ 0 ∷ 0 ∷ 1 ∷ 1 ∷
-    2 ∷ 0 ∷ 0 ∷ 2 ∷ 4 ∷ 0 ∷ 0 ∷ 0 ∷ 0 ∷ 0 ∷
-    3 ∷ 0 ∷ 0 ∷ 0 ∷ 0 ∷ 0 ∷
-    4 ∷ 3 ∷ 0 ∷ 0 ∷ 1 ∷ 0 ∷ 0 ∷ 0 ∷ 0 ∷ 0 ∷ 0 ∷ 0 ∷ 0 ∷ []
+    1 ∷ 0 ∷ 0 ∷ 0 ∷ 0 ∷ 0 ∷ 0 ∷ 0 ∷ 9 ∷ 0 ∷ 0 ∷ 0 ∷ 3 ∷ 0 ∷ 1 ∷ 0 ∷ 0 ∷ 0 ∷ 2 ∷ 0 ∷ 0 ∷ 0 ∷ 2 ∷ 0 ∷
+    2 ∷ 0 ∷ 1 ∷ 4 ∷ 0 ∷ 0 ∷ 0 ∷ 0 ∷ 0 ∷ 0 ∷
+    2 ∷ 0 ∷ 3 ∷ 6 ∷ 7 ∷ 0 ∷ 0 ∷ 0 ∷ 0 ∷ 0 ∷
+    2 ∷ 0 ∷ 2 ∷ 4 ∷ 7 ∷ 0 ∷ 0 ∷ 0 ∷ 0 ∷ 1 ∷
+    3 ∷ 0 ∷ 0 ∷ 0 ∷ 1 ∷ 0 ∷
+    4 ∷ 1 ∷ 0 ∷ 1 ∷ 1 ∷ 0 ∷ 0 ∷ 0 ∷ 0 ∷ 0 ∷ 0 ∷ 0 ∷ 1 ∷
+    5 ∷ 0 ∷ 0 ∷ 0 ∷ 0 ∷
+    6 ∷ 0 ∷ 0 ∷ 0 ∷ 2 ∷
+    6 ∷ 0 ∷ 0 ∷ 0 ∷ 1 ∷ []
 
-abbrev image-279 : List ℕ
-image-279 =
-    1 ∷ 0 ∷ 0 ∷ 0 ∷ 0 ∷ 0 ∷ 0 ∷ 0 ∷ 1 ∷ 0 ∷ 0 ∷ 0 ∷ 3 ∷ 0 ∷ 0 ∷ 0 ∷ 0 ∷ 0 ∷ 0 ∷ 0 ∷ 0 ∷ 0 ∷ 1 ∷ 0 ∷
-    2 ∷ 0 ∷ 0 ∷ 2 ∷ 4 ∷ 0 ∷ 0 ∷ 0 ∷ 0 ∷ 0 ∷
-    3 ∷ 0 ∷ 0 ∷ 0 ∷ 0 ∷ 0 ∷
-    4 ∷ 3 ∷ 0 ∷ 0 ∷ 1 ∷ 0 ∷ 0 ∷ 0 ∷ 0 ∷ 0 ∷ 0 ∷ 0 ∷ 0 ∷ []
+abbrev image-283 : List ℕ
+image-283 =
+    1 ∷ 0 ∷ 0 ∷ 0 ∷ 0 ∷ 0 ∷ 0 ∷ 0 ∷ 9 ∷ 0 ∷ 0 ∷ 0 ∷ 3 ∷ 0 ∷ 0 ∷ 0 ∷ 0 ∷ 0 ∷ 2 ∷ 0 ∷ 0 ∷ 0 ∷ 2 ∷ 1 ∷
+    2 ∷ 0 ∷ 1 ∷ 4 ∷ 0 ∷ 0 ∷ 0 ∷ 0 ∷ 0 ∷ 0 ∷
+    2 ∷ 0 ∷ 3 ∷ 6 ∷ 7 ∷ 0 ∷ 0 ∷ 0 ∷ 0 ∷ 0 ∷
+    2 ∷ 0 ∷ 2 ∷ 4 ∷ 7 ∷ 0 ∷ 0 ∷ 0 ∷ 0 ∷ 1 ∷
+    3 ∷ 0 ∷ 0 ∷ 0 ∷ 1 ∷ 0 ∷
+    4 ∷ 1 ∷ 0 ∷ 1 ∷ 1 ∷ 0 ∷ 0 ∷ 0 ∷ 0 ∷ 0 ∷ 0 ∷ 0 ∷ 1 ∷
+    5 ∷ 0 ∷ 0 ∷ 0 ∷ 0 ∷ []
 
-abbrev image-281 : List ℕ
-image-281 =
-    1 ∷ 0 ∷ 0 ∷ 0 ∷ 0 ∷ 0 ∷ 0 ∷ 0 ∷ 1 ∷ 0 ∷ 0 ∷ 0 ∷ 3 ∷ 0 ∷ 0 ∷ 0 ∷ 0 ∷ 0 ∷ 1 ∷ 0 ∷ 0 ∷ 0 ∷ 0 ∷ 0 ∷
-    2 ∷ 0 ∷ 0 ∷ 4 ∷ 4 ∷ 1 ∷ 0 ∷ 0 ∷ 0 ∷ 0 ∷ []
+abbrev image-284 : List ℕ
+image-284 =
+    1 ∷ 0 ∷ 0 ∷ 0 ∷ 0 ∷ 0 ∷ 0 ∷ 0 ∷ 9 ∷ 0 ∷ 0 ∷ 0 ∷ 3 ∷ 0 ∷ 0 ∷ 0 ∷ 0 ∷ 0 ∷ 2 ∷ 0 ∷ 0 ∷ 0 ∷ 2 ∷ 1 ∷
+    2 ∷ 0 ∷ 1 ∷ 4 ∷ 0 ∷ 0 ∷ 0 ∷ 0 ∷ 0 ∷ 0 ∷
+    2 ∷ 0 ∷ 3 ∷ 6 ∷ 7 ∷ 0 ∷ 0 ∷ 0 ∷ 0 ∷ 0 ∷
+    2 ∷ 0 ∷ 2 ∷ 4 ∷ 7 ∷ 0 ∷ 0 ∷ 0 ∷ 0 ∷ 1 ∷
+    3 ∷ 0 ∷ 0 ∷ 0 ∷ 1 ∷ 0 ∷
+    4 ∷ 1 ∷ 0 ∷ 2 ∷ 1 ∷ 255 ∷ 255 ∷ 255 ∷ 255 ∷ 255 ∷ 255 ∷ 255 ∷ 255 ∷
+    5 ∷ 0 ∷ 0 ∷ 0 ∷ 0 ∷ []
 
-abbrev image-298 : List ℕ
-image-298 =
-    1 ∷ 0 ∷ 0 ∷ 0 ∷ 0 ∷ 0 ∷ 0 ∷ 0 ∷ 1 ∷ 0 ∷ 0 ∷ 0 ∷ 3 ∷ 0 ∷ 0 ∷ 0 ∷ 0 ∷ 0 ∷ 1 ∷ 0 ∷ 0 ∷ 0 ∷ 0 ∷ 0 ∷
-    2 ∷ 0 ∷ 0 ∷ 4 ∷ 6 ∷ 1 ∷ 0 ∷ 0 ∷ 0 ∷ 0 ∷ []
+abbrev image-285 : List ℕ
+image-285 =
+    1 ∷ 0 ∷ 0 ∷ 0 ∷ 0 ∷ 0 ∷ 0 ∷ 0 ∷ 9 ∷ 0 ∷ 0 ∷ 0 ∷ 3 ∷ 0 ∷ 0 ∷ 0 ∷ 0 ∷ 0 ∷ 2 ∷ 0 ∷ 0 ∷ 0 ∷ 2 ∷ 1 ∷
+    2 ∷ 0 ∷ 1 ∷ 4 ∷ 0 ∷ 0 ∷ 0 ∷ 0 ∷ 0 ∷ 0 ∷
+    2 ∷ 0 ∷ 3 ∷ 6 ∷ 7 ∷ 0 ∷ 0 ∷ 0 ∷ 0 ∷ 0 ∷
+    2 ∷ 0 ∷ 2 ∷ 4 ∷ 7 ∷ 0 ∷ 0 ∷ 0 ∷ 0 ∷ 1 ∷
+    3 ∷ 0 ∷ 0 ∷ 0 ∷ 1 ∷ 0 ∷
+    4 ∷ 1 ∷ 0 ∷ 1 ∷ 1 ∷ 255 ∷ 255 ∷ 255 ∷ 255 ∷ 255 ∷ 255 ∷ 255 ∷ 255 ∷
+    5 ∷ 0 ∷ 0 ∷ 0 ∷ 0 ∷ []
 
--- calls 272 to 298
+abbrev image-286 : List ℕ
+image-286 =
+    1 ∷ 0 ∷ 0 ∷ 0 ∷ 0 ∷ 0 ∷ 0 ∷ 0 ∷ 9 ∷ 0 ∷ 0 ∷ 0 ∷ 3 ∷ 0 ∷ 0 ∷ 0 ∷ 0 ∷ 0 ∷ 2 ∷ 0 ∷ 0 ∷ 0 ∷ 2 ∷ 1 ∷
+    2 ∷ 0 ∷ 1 ∷ 4 ∷ 0 ∷ 0 ∷ 0 ∷ 0 ∷ 0 ∷ 0 ∷
+    2 ∷ 0 ∷ 3 ∷ 4 ∷ 7 ∷ 0 ∷ 0 ∷ 0 ∷ 0 ∷ 0 ∷
+    2 ∷ 0 ∷ 2 ∷ 4 ∷ 7 ∷ 0 ∷ 0 ∷ 0 ∷ 0 ∷ 1 ∷
+    5 ∷ 0 ∷ 0 ∷ 0 ∷ 0 ∷ []
+
+abbrev image-292 : List ℕ
+image-292 =
+    1 ∷ 0 ∷ 0 ∷ 0 ∷ 0 ∷ 0 ∷ 0 ∷ 0 ∷ 9 ∷ 0 ∷ 0 ∷ 0 ∷ 3 ∷ 0 ∷ 0 ∷ 0 ∷ 0 ∷ 0 ∷ 2 ∷ 0 ∷ 0 ∷ 0 ∷ 2 ∷ 1 ∷
+    2 ∷ 0 ∷ 1 ∷ 4 ∷ 0 ∷ 0 ∷ 0 ∷ 0 ∷ 0 ∷ 0 ∷
+    2 ∷ 0 ∷ 3 ∷ 4 ∷ 7 ∷ 0 ∷ 0 ∷ 0 ∷ 0 ∷ 0 ∷
+    2 ∷ 0 ∷ 1 ∷ 4 ∷ 7 ∷ 0 ∷ 0 ∷ 0 ∷ 0 ∷ 1 ∷
+    5 ∷ 0 ∷ 0 ∷ 0 ∷ 0 ∷ []
+
+abbrev image-293 : List ℕ
+image-293 =
+    1 ∷ 0 ∷ 0 ∷ 0 ∷ 0 ∷ 0 ∷ 0 ∷ 0 ∷ 9 ∷ 0 ∷ 0 ∷ 0 ∷ 3 ∷ 0 ∷ 0 ∷ 0 ∷ 0 ∷ 0 ∷ 2 ∷ 0 ∷ 0 ∷ 0 ∷ 2 ∷ 1 ∷
+    2 ∷ 0 ∷ 1 ∷ 4 ∷ 0 ∷ 0 ∷ 0 ∷ 0 ∷ 0 ∷ 0 ∷
+    2 ∷ 0 ∷ 3 ∷ 4 ∷ 7 ∷ 0 ∷ 0 ∷ 0 ∷ 0 ∷ 0 ∷
+    2 ∷ 0 ∷ 1 ∷ 2 ∷ 7 ∷ 0 ∷ 0 ∷ 0 ∷ 0 ∷ 1 ∷
+    3 ∷ 0 ∷ 0 ∷ 0 ∷ 2 ∷ 0 ∷
+    4 ∷ 3 ∷ 0 ∷ 0 ∷ 0 ∷ 0 ∷ 0 ∷ 0 ∷ 0 ∷ 0 ∷ 0 ∷ 0 ∷ 0 ∷
+    5 ∷ 0 ∷ 0 ∷ 0 ∷ 0 ∷ []
+
+abbrev image-294 : List ℕ
+image-294 =
+    1 ∷ 0 ∷ 0 ∷ 0 ∷ 0 ∷ 0 ∷ 0 ∷ 0 ∷ 9 ∷ 0 ∷ 0 ∷ 0 ∷ 3 ∷ 0 ∷ 0 ∷ 0 ∷ 0 ∷ 0 ∷ 2 ∷ 0 ∷ 0 ∷ 0 ∷ 2 ∷ 1 ∷
+    2 ∷ 0 ∷ 1 ∷ 4 ∷ 0 ∷ 0 ∷ 0 ∷ 0 ∷ 0 ∷ 0 ∷
+    2 ∷ 0 ∷ 3 ∷ 2 ∷ 7 ∷ 0 ∷ 0 ∷ 0 ∷ 0 ∷ 0 ∷
+    2 ∷ 0 ∷ 1 ∷ 2 ∷ 7 ∷ 0 ∷ 0 ∷ 0 ∷ 0 ∷ 1 ∷
+    3 ∷ 0 ∷ 0 ∷ 0 ∷ 1 ∷ 0 ∷
+    4 ∷ 2 ∷ 0 ∷ 0 ∷ 1 ∷ 0 ∷ 0 ∷ 0 ∷ 0 ∷ 0 ∷ 0 ∷ 0 ∷ 2 ∷
+    3 ∷ 0 ∷ 0 ∷ 0 ∷ 2 ∷ 0 ∷
+    4 ∷ 3 ∷ 0 ∷ 0 ∷ 0 ∷ 0 ∷ 0 ∷ 0 ∷ 0 ∷ 0 ∷ 0 ∷ 0 ∷ 0 ∷
+    5 ∷ 0 ∷ 0 ∷ 0 ∷ 0 ∷ []
+
+abbrev image-295 : List ℕ
+image-295 =
+    1 ∷ 0 ∷ 0 ∷ 0 ∷ 0 ∷ 0 ∷ 0 ∷ 0 ∷ 9 ∷ 0 ∷ 0 ∷ 0 ∷ 3 ∷ 0 ∷ 0 ∷ 0 ∷ 0 ∷ 0 ∷ 2 ∷ 0 ∷ 0 ∷ 0 ∷ 2 ∷ 0 ∷
+    2 ∷ 0 ∷ 1 ∷ 4 ∷ 0 ∷ 0 ∷ 0 ∷ 0 ∷ 0 ∷ 0 ∷
+    2 ∷ 0 ∷ 3 ∷ 2 ∷ 7 ∷ 0 ∷ 0 ∷ 0 ∷ 0 ∷ 0 ∷
+    2 ∷ 0 ∷ 1 ∷ 2 ∷ 7 ∷ 0 ∷ 0 ∷ 0 ∷ 0 ∷ 1 ∷
+    3 ∷ 0 ∷ 0 ∷ 0 ∷ 1 ∷ 0 ∷
+    4 ∷ 2 ∷ 0 ∷ 0 ∷ 1 ∷ 0 ∷ 0 ∷ 0 ∷ 0 ∷ 0 ∷ 0 ∷ 0 ∷ 2 ∷
+    3 ∷ 0 ∷ 0 ∷ 0 ∷ 2 ∷ 0 ∷
+    4 ∷ 3 ∷ 0 ∷ 0 ∷ 0 ∷ 0 ∷ 0 ∷ 0 ∷ 0 ∷ 0 ∷ 0 ∷ 0 ∷ 0 ∷
+    5 ∷ 0 ∷ 0 ∷ 0 ∷ 0 ∷ []
+
+abbrev image-300 : List ℕ
+image-300 =
+    1 ∷ 0 ∷ 0 ∷ 0 ∷ 0 ∷ 0 ∷ 0 ∷ 0 ∷ 9 ∷ 0 ∷ 0 ∷ 0 ∷ 3 ∷ 0 ∷ 0 ∷ 0 ∷ 0 ∷ 0 ∷ 2 ∷ 0 ∷ 0 ∷ 0 ∷ 2 ∷ 0 ∷
+    2 ∷ 0 ∷ 1 ∷ 4 ∷ 0 ∷ 0 ∷ 0 ∷ 0 ∷ 0 ∷ 0 ∷
+    2 ∷ 0 ∷ 3 ∷ 2 ∷ 7 ∷ 0 ∷ 0 ∷ 0 ∷ 0 ∷ 0 ∷
+    2 ∷ 0 ∷ 1 ∷ 2 ∷ 7 ∷ 0 ∷ 0 ∷ 0 ∷ 0 ∷ 1 ∷
+    3 ∷ 0 ∷ 0 ∷ 0 ∷ 1 ∷ 0 ∷
+    4 ∷ 3 ∷ 0 ∷ 0 ∷ 1 ∷ 0 ∷ 0 ∷ 0 ∷ 0 ∷ 0 ∷ 0 ∷ 0 ∷ 1 ∷
+    3 ∷ 0 ∷ 0 ∷ 0 ∷ 2 ∷ 0 ∷
+    4 ∷ 3 ∷ 0 ∷ 0 ∷ 0 ∷ 0 ∷ 0 ∷ 0 ∷ 0 ∷ 0 ∷ 0 ∷ 0 ∷ 0 ∷
+    5 ∷ 0 ∷ 0 ∷ 0 ∷ 0 ∷ []
+
+-- calls 272 to 300
 calls-272 :
     outcomes none
-    (new-line plenty 1 3
-    ∷ call-line plenty (lock-piece 0)
-    ∷ call-line plenty (lock-piece 0)
-    ∷ call-line plenty (mark-as-writing 0 0 none (words 4352 []))
-    ∷ call-line plenty (mark-as-canceled 0 0 (some 18446744073709551615) (words 5000 []))
-    ∷ call-line plenty (mark-as-finished 0 0 (some 0) (words 5000 []))
-    ∷ call-line plenty (pick-pieces (asking 188 2047 2048 10 none 1 (218 ∷ []) (0 ∷ 0 ∷ 0 ∷ 0 ∷ 0 ∷ 0 ∷ 0 ∷ 0 ∷ 0 ∷ 0 ∷ 0 ∷ 0 ∷ 0 ∷ 0 ∷ 0 ∷ 0 ∷ 0 ∷ 0 ∷ 0 ∷ 0 ∷ [])) 4351 (words 5000 []))
+    (read-line plenty image-272
+    ∷ call-line plenty (abort-download 0 0 (some 1) (words 4352 []))
+    ∷ call-line plenty (lock-piece 1)
+    ∷ call-line plenty (pick-pieces (asking 184 2047 2 300 none 3 (127 ∷ []) []) 4351 (words 5000 []))
+    ∷ call-line plenty (mark-as-downloading 1 0 (some 1) 130 (words 4352 []))
+    ∷ call-line plenty (mark-as-canceled 0 0 (some 0) (words 4352 []))
+    ∷ call-line plenty (pick-pieces (asking 107 2 0 1 (some 0) 3 (215 ∷ []) []) 4351 (words 4352 (3 ∷ 0 ∷ [])))
+    ∷ call-line plenty (mark-as-finished 1 0 (some 18446744073709551615) (words 4352 []))
+    ∷ call-line plenty (question (ofPicker get-download-queue-size))
     ∷ call-line plenty dec-refcount-all
-    ∷ call-line plenty (piece-passed 0)
-    ∷ call-line plenty (question (listOfPiece get-downloaders 0 2))
-    ∷ call-line plenty (pick-pieces (asking 43 5 2 5 (some 0) 1 (255 ∷ []) (0 ∷ 0 ∷ 0 ∷ [])) 4351 (words 4352 []))
-    ∷ call-line plenty (mark-as-writing 0 0 (some 1) (words 4352 []))
-    ∷ call-line plenty (lock-piece 0)
-    ∷ call-line plenty (mark-as-writing 0 0 (some 18446744073709551615) (words 4352 []))
-    ∷ call-line plenty (question (listOfPiece blocks-for-piece 0 1000000))
-    ∷ call-line plenty (dec-refcount 0 (words 4352 []))
-    ∷ call-line plenty (mark-as-finished 0 0 none (words 4352 []))
+    ∷ call-line plenty (mark-as-downloading 1 0 (some 18446744073709551615) 2 (words 4352 []))
+    ∷ call-line plenty (abort-download 1 0 (some 2) (words 4352 []))
+    ∷ call-line plenty (abort-download 1 0 (some 0) (words 5000 []))
+    ∷ call-line plenty (abort-download 2 0 (some 2) (words 4352 []))
+    ∷ call-line plenty (mark-as-canceled 2 0 (some 18446744073709551615) (words 4352 []))
+    ∷ call-line plenty (question (ofBlock block-num-peers 1 0))
+    ∷ call-line plenty (question (ofPiece piece-stats 2))
     ∷ call-line plenty (question (ofPicker num-have-filtered))
-    ∷ call-line plenty (dec-refcount 0 (words 4352 []))
-    ∷ call-line plenty (mark-as-finished 0 1 (some 3) (words 4352 []))
-    ∷ call-line plenty (dec-refcount 0 (words 4352 []))
-    ∷ call-line plenty (question (ofPiece piece-priority 0))
-    ∷ call-line plenty (question (list-place 0))
-    ∷ call-line plenty (dec-refcount 0 (words 5000 []))
-    ∷ call-line plenty (mark-as-downloading 0 2 (some 18446744073709551615) 0 (words 4352 []))
-    ∷ call-line plenty (set-piece-priority 0 6 (words 4352 []))
+    ∷ call-line plenty (dec-refcount 2 (words 4352 []))
+    ∷ call-line plenty (mark-as-finished 2 0 none (words 5000 []))
+    ∷ call-line plenty (mark-as-writing 1 0 (some 2) (words 4352 []))
+    ∷ call-line plenty (pick-pieces (asking 16 40 0 2 (some 1) 3 (116 ∷ []) (1 ∷ [])) 4351 (words 4352 []))
+    ∷ call-line plenty (question (ofPicker blocks-per-piece))
+    ∷ call-line plenty (mark-as-canceled 0 0 none (words 4352 []))
+    ∷ call-line plenty (mark-as-canceled 2 0 (some 18446744073709551615) (words 5000 []))
+    ∷ call-line plenty (abort-download 1 0 (some 1) (words 4352 []))
+    ∷ call-line plenty (mark-as-finished 1 0 (some 1) (words 4352 []))
     ∷ [])
     ≡ outcome stands image-272
     ∷ outcome (answered (done 0)) image-272
     ∷ outcome (answered (done 0)) image-272
-    ∷ outcome (answered (said true 0)) image-275
-    ∷ outcome (answered (done 0)) image-276
+    ∷ outcome (answered (picked ((pieceBlock 1 0) ∷ (pieceBlock 2 0) ∷ []) 75848 (0 ∷ 0 ∷ 0 ∷ 2 ∷ 0 ∷ 0 ∷ 0 ∷ []) 0)) image-272
+    ∷ outcome (answered (said true 0)) image-277
     ∷ outcome (answered (done 0)) image-277
-    ∷ outcome (answered (picked [] 10400 (0 ∷ 20 ∷ 0 ∷ 0 ∷ 0 ∷ 0 ∷ 0 ∷ []) 0)) image-279
-    ∷ outcome (answered (refused NoPeerToTake)) image-279
-    ∷ outcome (answered (done 0)) image-281
-    ∷ outcome (answered (replied (numbers (none ∷ [])))) image-281
-    ∷ outcome (answered (picked [] 10244 (0 ∷ 3 ∷ 0 ∷ 0 ∷ 0 ∷ 0 ∷ 0 ∷ []) 0)) image-281
-    ∷ outcome (answered (said false 0)) image-281
-    ∷ outcome (answered (done 0)) image-281
-    ∷ outcome (answered (said false 0)) image-281
-    ∷ outcome (answered (replied nothing)) image-281
-    ∷ outcome (answered (refused NoPeerToTake)) image-281
-    ∷ outcome (answered (done 0)) image-281
-    ∷ outcome (answered (replied (numbers ((some 0) ∷ [])))) image-281
-    ∷ outcome (answered (refused NoPeerToTake)) image-281
-    ∷ outcome (answered (refused OutOfRange)) image-281
-    ∷ outcome (answered (refused NoPeerToTake)) image-281
-    ∷ outcome (answered (replied (numbers ((some 4) ∷ [])))) image-281
-    ∷ outcome (answered (refused OutOfRange)) image-281
-    ∷ outcome (answered (refused NoPeerToTake)) image-281
-    ∷ outcome (answered (refused OutOfRange)) image-281
-    ∷ outcome (answered (said false 0)) image-298
+    ∷ outcome (answered (picked ((pieceBlock 1 0) ∷ []) 40980 (0 ∷ 0 ∷ 2 ∷ 0 ∷ 0 ∷ 0 ∷ 1 ∷ []) 2)) image-277
+    ∷ outcome (answered (refused NotWriting)) image-277
+    ∷ outcome (answered (replied (numbers ((some 1) ∷ [])))) image-277
+    ∷ outcome (answered (done 0)) image-283
+    ∷ outcome (answered (said true 0)) image-284
+    ∷ outcome (answered (done 0)) image-285
+    ∷ outcome (answered (done 0)) image-286
+    ∷ outcome (answered (done 0)) image-286
+    ∷ outcome (answered (done 0)) image-286
+    ∷ outcome (answered (replied nothing)) image-286
+    ∷ outcome (answered (replied (numbers ((some 2) ∷ (some 7) ∷ (some 0) ∷ (some 0) ∷ [])))) image-286
+    ∷ outcome (answered (replied (numbers ((some 0) ∷ [])))) image-286
+    ∷ outcome (answered (done 0)) image-292
+    ∷ outcome (answered (done 0)) image-293
+    ∷ outcome (answered (said true 0)) image-294
+    ∷ outcome (answered (picked [] 8224 (0 ∷ 1 ∷ 0 ∷ 0 ∷ 0 ∷ 0 ∷ 0 ∷ []) 0)) image-295
+    ∷ outcome (answered (replied (numbers ((some 1) ∷ [])))) image-295
+    ∷ outcome (answered (done 0)) image-295
+    ∷ outcome (answered (done 0)) image-295
+    ∷ outcome (answered (done 0)) image-295
+    ∷ outcome (answered (done 0)) image-300
     ∷ []
 unfolding replaying
 calls-272 = refl

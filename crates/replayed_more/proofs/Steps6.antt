@@ -1,636 +1,290 @@
--- Recorded calls 4860 to 8286, those that are replayed, computed. Written by compare/steps.py: not to be edited.
+-- Recorded calls 5741 to 8286, those that are replayed, computed. Written by compare/steps.py: not to be edited.
 use mathlib.Core.Path.{_≡_, refl}
 use mathlib.Core.Bool.{true, false}
 use Prim.Native.Nat.{ℕ}
 use mathlib.Core.List.{List, [], _∷_}
 use mathlib.Core.Option.{none, some}
 use Rattle.model.specs.Calls.{abort-download, dec-refcount, dec-refcount-all, done, inc-refcount, inc-refcount-all, lock-piece, mark-as-canceled, mark-as-downloading, mark-as-finished, mark-as-writing, pick-pieces, picked, piece-passed, question, refused, replied, said, set-piece-priority}
-use Rattle.model.specs.ask.Questions.{all-pieces, block-num-peers, block-peer, block-size, block-state, blocks-for-piece, blocks-in-piece, blocks-per-piece, cursor?, dirty?, distributed-copies, download-state, full-piece-size, get-availability, get-availability-vec, get-download-queue, get-download-queue-size, get-download-queue-sizes, get-downloader, get-downloaders, have, have-want, is-finished, is-finished-block, is-requested, is-seeding, list-place, listOfPicker, listOfPiece, nothing, num-filtered, num-have, num-have-filtered, num-pad-bytes, num-pieces, num-seeds, num-want-left, numbers, ofBlock, ofPicker, ofPiece, pad-bytes-in-piece, partial-at, passed-hash-check, piece-priorities, piece-priority, piece-stats, recent-extent, reverse-cursor?, total-size, want}
+use Rattle.model.specs.ask.Questions.{all-pieces, block-num-peers, block-peer, block-size, blocks-for-piece, blocks-in-piece, blocks-per-piece, cursor?, dirty?, distributed-copies, download-state, full-piece-size, get-availability, get-availability-vec, get-download-queue, get-download-queue-size, get-download-queue-sizes, get-downloaders, have, have-piece, have-want, is-downloading, is-finished, is-hashing, is-piece-finished, is-piece-flushed, is-requested, is-seeding, list-place, listOfPicker, listOfPiece, nothing, num-filtered, num-have, num-have-filtered, num-pad-bytes, num-pieces, num-seeds, num-want-left, numbers, ofBlock, ofPicker, ofPiece, pad-bytes-in-piece, passed-hash-check, payload-blocks-in-piece, peer-count, piece-info, piece-priorities, piece-priority, piece-size, piece-stats, reverse-cursor?, staleList, total-size, want}
 use Rattle.model.specs.pick.Blocks.{pieceBlock}
 use Rattle.replayed.proofs.Replaying.{replaying}
 use Rattle.replayed.specs.Replay.{answered, asking, bytesTaken, call-line, image-line, lending, new-line, notDone, outcome, outcomes, plenty, read-line, stands, words}
-use Rattle.types.specs.declared.refusal.Refusal.the-variants.{FewDraws, HavePiece, IllFormedImage, NoPeerToTake, NotWriting, OutOfRange, PickArguments, ShortMemory, TooManyPartials, TooManyPeers}
+use Rattle.types.specs.declared.refusal.Refusal.the-variants.{FewDraws, IllFormedImage, NotWriting, OutOfRange, ShortMemory, TooManyPartials, TooManyPeers}
 
-abbrev image-4860 : List ℕ
-image-4860 =
-    1 ∷ 0 ∷ 0 ∷ 0 ∷ 0 ∷ 0 ∷ 0 ∷ 192 ∷ 0 ∷ 0 ∷ 0 ∷ 64 ∷ 0 ∷ 0 ∷ 1 ∷ 0 ∷ 0 ∷ 0 ∷ 2 ∷ 0 ∷ 0 ∷ 0 ∷ 2 ∷ 0 ∷
-    2 ∷ 0 ∷ 1 ∷ 4 ∷ 4 ∷ 0 ∷ 0 ∷ 0 ∷ 57 ∷ 31 ∷
-    2 ∷ 3 ∷ 231 ∷ 4 ∷ 4 ∷ 0 ∷ 0 ∷ 0 ∷ 64 ∷ 0 ∷
-    2 ∷ 3 ∷ 231 ∷ 4 ∷ 6 ∷ 0 ∷ 0 ∷ 0 ∷ 64 ∷ 0 ∷
-    5 ∷ 0 ∷ 0 ∷ 0 ∷ 0 ∷
-    6 ∷ 0 ∷ 0 ∷ 0 ∷ 0 ∷
-    6 ∷ 0 ∷ 0 ∷ 0 ∷ 2 ∷
-    6 ∷ 0 ∷ 0 ∷ 0 ∷ 1 ∷ []
+abbrev image-5741 : List ℕ
+image-5741 =
+    1 ∷ 0 ∷ 0 ∷ 0 ∷ 0 ∷ 0 ∷ 0 ∷ 0 ∷ 12 ∷ 0 ∷ 0 ∷ 0 ∷ 3 ∷ 0 ∷ 1 ∷ 0 ∷ 0 ∷ 0 ∷ 2 ∷ 0 ∷ 0 ∷ 0 ∷ 4 ∷ 1 ∷
+    2 ∷ 0 ∷ 1 ∷ 6 ∷ 4 ∷ 0 ∷ 0 ∷ 0 ∷ 0 ∷ 0 ∷
+    2 ∷ 0 ∷ 1 ∷ 4 ∷ 4 ∷ 0 ∷ 0 ∷ 0 ∷ 0 ∷ 0 ∷
+    2 ∷ 3 ∷ 231 ∷ 4 ∷ 1 ∷ 0 ∷ 0 ∷ 0 ∷ 0 ∷ 0 ∷
+    2 ∷ 0 ∷ 2 ∷ 4 ∷ 4 ∷ 1 ∷ 0 ∷ 0 ∷ 0 ∷ 0 ∷
+    3 ∷ 0 ∷ 0 ∷ 0 ∷ 0 ∷ 0 ∷
+    4 ∷ 1 ∷ 0 ∷ 1 ∷ 1 ∷ 0 ∷ 0 ∷ 0 ∷ 0 ∷ 0 ∷ 0 ∷ 0 ∷ 0 ∷ []
 
--- calls 4860 to 4861
-calls-4860 :
+-- calls 5741 to 5742
+calls-5741 :
     outcomes none
-    (read-line plenty image-4860
-    ∷ call-line plenty (question (ofBlock block-state 1 0))
+    (read-line plenty image-5741
+    ∷ call-line plenty inc-refcount-all
     ∷ [])
-    ≡ outcome stands image-4860
-    ∷ outcome (answered (replied nothing)) image-4860
+    ≡ outcome stands image-5741
+    ∷ outcome (answered (refused TooManyPeers)) image-5741
     ∷ []
 unfolding replaying
-calls-4860 = refl
+calls-5741 = refl
 
-abbrev image-4874 : List ℕ
-image-4874 =
-    1 ∷ 0 ∷ 0 ∷ 0 ∷ 0 ∷ 0 ∷ 0 ∷ 128 ∷ 1 ∷ 0 ∷ 0 ∷ 128 ∷ 0 ∷ 0 ∷ 0 ∷ 0 ∷ 0 ∷ 0 ∷ 0 ∷ 0 ∷ 0 ∷ 0 ∷ 2 ∷ 1 ∷
-    2 ∷ 0 ∷ 0 ∷ 4 ∷ 4 ∷ 0 ∷ 0 ∷ 0 ∷ 0 ∷ 0 ∷
-    2 ∷ 0 ∷ 0 ∷ 4 ∷ 4 ∷ 0 ∷ 0 ∷ 0 ∷ 0 ∷ 0 ∷ []
-
-abbrev image-4877 : List ℕ
-image-4877 =
-    1 ∷ 0 ∷ 0 ∷ 0 ∷ 0 ∷ 0 ∷ 0 ∷ 128 ∷ 1 ∷ 0 ∷ 0 ∷ 128 ∷ 0 ∷ 0 ∷ 0 ∷ 0 ∷ 0 ∷ 0 ∷ 0 ∷ 0 ∷ 0 ∷ 0 ∷ 2 ∷ 1 ∷
-    2 ∷ 0 ∷ 0 ∷ 0 ∷ 4 ∷ 0 ∷ 0 ∷ 0 ∷ 0 ∷ 0 ∷
-    2 ∷ 0 ∷ 0 ∷ 4 ∷ 4 ∷ 0 ∷ 0 ∷ 0 ∷ 0 ∷ 0 ∷
+abbrev image-5984 : List ℕ
+image-5984 =
+    1 ∷ 0 ∷ 0 ∷ 0 ∷ 0 ∷ 0 ∷ 1 ∷ 0 ∷ 1 ∷ 0 ∷ 1 ∷ 0 ∷ 0 ∷ 0 ∷ 0 ∷ 0 ∷ 0 ∷ 0 ∷ 1 ∷ 0 ∷ 0 ∷ 0 ∷ 0 ∷ 1 ∷
+    2 ∷ 0 ∷ 7 ∷ 1 ∷ 4 ∷ 0 ∷ 0 ∷ 0 ∷ 64 ∷ 0 ∷
+    2 ∷ 0 ∷ 0 ∷ 1 ∷ 4 ∷ 0 ∷ 0 ∷ 0 ∷ 0 ∷ 0 ∷
     3 ∷ 0 ∷ 0 ∷ 0 ∷ 0 ∷ 0 ∷
+    4 ∷ 0 ∷ 0 ∷ 1 ∷ 1 ∷ 0 ∷ 0 ∷ 0 ∷ 0 ∷ 0 ∷ 0 ∷ 0 ∷ 1 ∷
+    4 ∷ 0 ∷ 0 ∷ 3 ∷ 1 ∷ 0 ∷ 0 ∷ 0 ∷ 0 ∷ 0 ∷ 0 ∷ 0 ∷ 1 ∷
     4 ∷ 0 ∷ 0 ∷ 0 ∷ 0 ∷ 0 ∷ 0 ∷ 0 ∷ 0 ∷ 0 ∷ 0 ∷ 0 ∷ 0 ∷
-    4 ∷ 2 ∷ 0 ∷ 0 ∷ 1 ∷ 255 ∷ 255 ∷ 255 ∷ 255 ∷ 255 ∷ 255 ∷ 255 ∷ 255 ∷ []
+    4 ∷ 0 ∷ 0 ∷ 0 ∷ 1 ∷ 0 ∷ 0 ∷ 0 ∷ 0 ∷ 0 ∷ 0 ∷ 0 ∷ 3 ∷
+    3 ∷ 0 ∷ 0 ∷ 0 ∷ 1 ∷ 1 ∷
+    4 ∷ 1 ∷ 0 ∷ 0 ∷ 1 ∷ 255 ∷ 255 ∷ 255 ∷ 255 ∷ 255 ∷ 255 ∷ 255 ∷ 255 ∷ []
 
--- calls 4874 to 4879
-calls-4874 :
-    outcomes none
-    (new-line plenty 32769 32768
-    ∷ call-line plenty (pick-pieces (asking 160 1 0 5 (some 1) 2 (255 ∷ []) []) 4351 (words 4352 (1852677235 ∷ [])))
-    ∷ call-line (lending 1000000 1000000 2) (question (ofBlock is-finished-block 0 0))
-    ∷ call-line plenty (mark-as-writing 0 1 (some 18446744073709551615) (words 4352 []))
-    ∷ image-line plenty 1000000
-    ∷ call-line (lending 1000000 19 1000000) (question (ofPicker reverse-cursor?))
-    ∷ [])
-    ≡ outcome stands image-4874
-    ∷ outcome (answered (picked ((pieceBlock 1 0) ∷ []) 1024 (0 ∷ 0 ∷ 0 ∷ 0 ∷ 0 ∷ 0 ∷ 0 ∷ []) 1)) image-4874
-    ∷ outcome (answered (replied (numbers ((some 0) ∷ [])))) image-4874
-    ∷ outcome (answered (said true 0)) image-4877
-    ∷ outcome (bytesTaken (1 ∷ 0 ∷ 0 ∷ 0 ∷ 0 ∷ 0 ∷ 0 ∷ 128 ∷ 1 ∷ 0 ∷ 0 ∷ 128 ∷ 0 ∷ 0 ∷ 0 ∷ 0 ∷ 0 ∷ 0 ∷ 0 ∷ 0 ∷ 0 ∷ 0 ∷ 2 ∷ 1 ∷ 2 ∷ 0 ∷ 0 ∷ 0 ∷ 4 ∷ 0 ∷ 0 ∷ 0 ∷ 0 ∷ 0 ∷ 2 ∷ 0 ∷ 0 ∷ 4 ∷ 4 ∷ 0 ∷ 0 ∷ 0 ∷ 0 ∷ 0 ∷ 3 ∷ 0 ∷ 0 ∷ 0 ∷ 0 ∷ 0 ∷ 4 ∷ 0 ∷ 0 ∷ 0 ∷ 0 ∷ 0 ∷ 0 ∷ 0 ∷ 0 ∷ 0 ∷ 0 ∷ 0 ∷ 0 ∷ 4 ∷ 2 ∷ 0 ∷ 0 ∷ 1 ∷ 255 ∷ 255 ∷ 255 ∷ 255 ∷ 255 ∷ 255 ∷ 255 ∷ 255 ∷ [])) image-4877
-    ∷ outcome (answered (refused ShortMemory)) image-4877
-    ∷ []
-unfolding replaying
-calls-4874 = refl
-
-abbrev image-4934 : List ℕ
-image-4934 =
-    1 ∷ 0 ∷ 0 ∷ 0 ∷ 0 ∷ 0 ∷ 0 ∷ 64 ∷ 1 ∷ 0 ∷ 0 ∷ 64 ∷ 0 ∷ 0 ∷ 0 ∷ 0 ∷ 0 ∷ 0 ∷ 0 ∷ 0 ∷ 0 ∷ 0 ∷ 2 ∷ 1 ∷
-    2 ∷ 0 ∷ 0 ∷ 4 ∷ 4 ∷ 0 ∷ 0 ∷ 0 ∷ 0 ∷ 0 ∷
-    2 ∷ 0 ∷ 0 ∷ 4 ∷ 4 ∷ 0 ∷ 0 ∷ 0 ∷ 0 ∷ 0 ∷ []
-
-abbrev image-4935 : List ℕ
-image-4935 =
-    1 ∷ 0 ∷ 0 ∷ 0 ∷ 0 ∷ 0 ∷ 0 ∷ 64 ∷ 1 ∷ 0 ∷ 0 ∷ 64 ∷ 0 ∷ 0 ∷ 0 ∷ 0 ∷ 0 ∷ 0 ∷ 0 ∷ 0 ∷ 0 ∷ 0 ∷ 2 ∷ 1 ∷
-    2 ∷ 0 ∷ 0 ∷ 6 ∷ 4 ∷ 0 ∷ 0 ∷ 0 ∷ 0 ∷ 0 ∷
-    2 ∷ 0 ∷ 0 ∷ 4 ∷ 4 ∷ 0 ∷ 0 ∷ 0 ∷ 0 ∷ 0 ∷
-    3 ∷ 0 ∷ 0 ∷ 0 ∷ 0 ∷ 0 ∷
-    4 ∷ 1 ∷ 0 ∷ 1 ∷ 1 ∷ 0 ∷ 0 ∷ 0 ∷ 0 ∷ 0 ∷ 0 ∷ 0 ∷ 2 ∷
-    5 ∷ 0 ∷ 0 ∷ 0 ∷ 0 ∷ []
-
--- calls 4934 to 4936
-calls-4934 :
-    outcomes none
-    (new-line plenty 16385 16384
-    ∷ call-line plenty (mark-as-downloading 0 0 (some 2) 130 (words 5000 []))
-    ∷ call-line plenty (question (ofBlock block-num-peers 1 0))
-    ∷ [])
-    ≡ outcome stands image-4934
-    ∷ outcome (answered (said true 0)) image-4935
-    ∷ outcome (answered (replied nothing)) image-4935
-    ∷ []
-unfolding replaying
-calls-4934 = refl
-
-abbrev image-5055 : List ℕ
-image-5055 =
-    1 ∷ 0 ∷ 0 ∷ 0 ∷ 0 ∷ 0 ∷ 0 ∷ 0 ∷ 1 ∷ 0 ∷ 0 ∷ 0 ∷ 3 ∷ 0 ∷ 0 ∷ 0 ∷ 0 ∷ 0 ∷ 0 ∷ 0 ∷ 0 ∷ 0 ∷ 1 ∷ 1 ∷
-    2 ∷ 0 ∷ 0 ∷ 4 ∷ 4 ∷ 0 ∷ 0 ∷ 0 ∷ 0 ∷ 0 ∷ []
-
-abbrev image-5058 : List ℕ
-image-5058 =
-    1 ∷ 0 ∷ 0 ∷ 0 ∷ 0 ∷ 0 ∷ 0 ∷ 0 ∷ 1 ∷ 0 ∷ 0 ∷ 0 ∷ 3 ∷ 0 ∷ 0 ∷ 0 ∷ 0 ∷ 0 ∷ 0 ∷ 0 ∷ 0 ∷ 0 ∷ 1 ∷ 1 ∷
-    2 ∷ 0 ∷ 0 ∷ 1 ∷ 4 ∷ 0 ∷ 0 ∷ 0 ∷ 0 ∷ 0 ∷
-    3 ∷ 0 ∷ 0 ∷ 0 ∷ 0 ∷ 0 ∷
-    4 ∷ 1 ∷ 0 ∷ 1 ∷ 1 ∷ 0 ∷ 0 ∷ 0 ∷ 0 ∷ 0 ∷ 0 ∷ 0 ∷ 2 ∷ []
-
--- calls 5055 to 5065
-calls-5055 :
-    outcomes none
-    (new-line plenty 1 3
-    ∷ call-line (lending 1000000 1000000 16) (question (listOfPicker get-availability-vec 1000000))
-    ∷ call-line plenty (question (ofPiece passed-hash-check 0))
-    ∷ call-line plenty (mark-as-downloading 0 0 (some 2) 128 (words 4352 []))
-    ∷ call-line plenty (question (ofPiece pad-bytes-in-piece 0))
-    ∷ call-line plenty (pick-pieces (asking 124 2049 0 1 none 1 (107 ∷ []) []) 4351 (words 4352 []))
-    ∷ call-line plenty (pick-pieces (asking 164 1 1 2 (some 18446744073709551615) 1 (177 ∷ []) []) 4351 (words 4352 (1763083391 ∷ [])))
-    ∷ call-line plenty (question (ofPiece piece-stats 0))
-    ∷ call-line plenty (question (ofPicker cursor?))
-    ∷ call-line plenty (question (recent-extent 0))
-    ∷ [])
-    ≡ outcome stands image-5055
-    ∷ outcome (answered (replied (numbers ((some 0) ∷ [])))) image-5055
-    ∷ outcome (answered (replied nothing)) image-5055
-    ∷ outcome (answered (said true 0)) image-5058
-    ∷ outcome (answered (replied (numbers ((some 0) ∷ [])))) image-5058
-    ∷ outcome (answered (refused PickArguments)) image-5058
-    ∷ outcome (answered (picked [] 11264 (0 ∷ 0 ∷ 0 ∷ 0 ∷ 0 ∷ 0 ∷ 0 ∷ []) 1)) image-5058
-    ∷ outcome (answered (replied (numbers ((some 0) ∷ none ∷ (some 0) ∷ (some 1) ∷ [])))) image-5058
-    ∷ outcome (answered (replied (numbers ((some 0) ∷ [])))) image-5058
-    ∷ outcome (answered (replied nothing)) image-5058
-    ∷ []
-unfolding replaying
-calls-5055 = refl
-
-abbrev image-5114 : List ℕ
-image-5114 =
-    1 ∷ 0 ∷ 0 ∷ 0 ∷ 0 ∷ 0 ∷ 1 ∷ 0 ∷ 0 ∷ 0 ∷ 1 ∷ 0 ∷ 0 ∷ 0 ∷ 0 ∷ 0 ∷ 0 ∷ 0 ∷ 0 ∷ 0 ∷ 0 ∷ 0 ∷ 0 ∷ 1 ∷
-    2 ∷ 0 ∷ 1 ∷ 1 ∷ 4 ∷ 0 ∷ 0 ∷ 0 ∷ 0 ∷ 0 ∷
-    3 ∷ 0 ∷ 0 ∷ 0 ∷ 0 ∷ 6 ∷
-    4 ∷ 1 ∷ 0 ∷ 1 ∷ 0 ∷ 0 ∷ 0 ∷ 0 ∷ 0 ∷ 0 ∷ 0 ∷ 0 ∷ 0 ∷
-    4 ∷ 1 ∷ 0 ∷ 1 ∷ 0 ∷ 0 ∷ 0 ∷ 0 ∷ 0 ∷ 0 ∷ 0 ∷ 0 ∷ 0 ∷
-    4 ∷ 1 ∷ 0 ∷ 1 ∷ 0 ∷ 0 ∷ 0 ∷ 0 ∷ 0 ∷ 0 ∷ 0 ∷ 0 ∷ 0 ∷
-    4 ∷ 1 ∷ 0 ∷ 1 ∷ 0 ∷ 0 ∷ 0 ∷ 0 ∷ 0 ∷ 0 ∷ 0 ∷ 0 ∷ 0 ∷
-    5 ∷ 0 ∷ 0 ∷ 0 ∷ 0 ∷ []
-
-abbrev image-5117 : List ℕ
-image-5117 =
-    1 ∷ 0 ∷ 0 ∷ 0 ∷ 0 ∷ 0 ∷ 1 ∷ 0 ∷ 0 ∷ 0 ∷ 1 ∷ 0 ∷ 0 ∷ 0 ∷ 1 ∷ 0 ∷ 0 ∷ 0 ∷ 0 ∷ 0 ∷ 0 ∷ 0 ∷ 0 ∷ 1 ∷
-    2 ∷ 0 ∷ 1 ∷ 1 ∷ 4 ∷ 0 ∷ 0 ∷ 0 ∷ 0 ∷ 0 ∷
-    3 ∷ 0 ∷ 0 ∷ 0 ∷ 0 ∷ 6 ∷
-    4 ∷ 1 ∷ 0 ∷ 1 ∷ 0 ∷ 0 ∷ 0 ∷ 0 ∷ 0 ∷ 0 ∷ 0 ∷ 0 ∷ 0 ∷
-    4 ∷ 1 ∷ 0 ∷ 1 ∷ 0 ∷ 0 ∷ 0 ∷ 0 ∷ 0 ∷ 0 ∷ 0 ∷ 0 ∷ 0 ∷
-    4 ∷ 1 ∷ 0 ∷ 1 ∷ 0 ∷ 0 ∷ 0 ∷ 0 ∷ 0 ∷ 0 ∷ 0 ∷ 0 ∷ 0 ∷
-    4 ∷ 1 ∷ 0 ∷ 1 ∷ 0 ∷ 0 ∷ 0 ∷ 0 ∷ 0 ∷ 0 ∷ 0 ∷ 0 ∷ 0 ∷
-    5 ∷ 0 ∷ 0 ∷ 0 ∷ 0 ∷ []
-
-abbrev image-5119 : List ℕ
-image-5119 =
-    1 ∷ 0 ∷ 0 ∷ 0 ∷ 0 ∷ 0 ∷ 1 ∷ 0 ∷ 0 ∷ 0 ∷ 1 ∷ 0 ∷ 0 ∷ 0 ∷ 1 ∷ 0 ∷ 0 ∷ 0 ∷ 0 ∷ 0 ∷ 0 ∷ 0 ∷ 0 ∷ 1 ∷
-    2 ∷ 0 ∷ 0 ∷ 1 ∷ 4 ∷ 0 ∷ 0 ∷ 0 ∷ 0 ∷ 0 ∷
-    3 ∷ 0 ∷ 0 ∷ 0 ∷ 0 ∷ 6 ∷
-    4 ∷ 1 ∷ 0 ∷ 1 ∷ 0 ∷ 0 ∷ 0 ∷ 0 ∷ 0 ∷ 0 ∷ 0 ∷ 0 ∷ 0 ∷
-    4 ∷ 1 ∷ 0 ∷ 1 ∷ 0 ∷ 0 ∷ 0 ∷ 0 ∷ 0 ∷ 0 ∷ 0 ∷ 0 ∷ 0 ∷
-    4 ∷ 1 ∷ 0 ∷ 1 ∷ 0 ∷ 0 ∷ 0 ∷ 0 ∷ 0 ∷ 0 ∷ 0 ∷ 0 ∷ 0 ∷
-    4 ∷ 1 ∷ 0 ∷ 1 ∷ 0 ∷ 0 ∷ 0 ∷ 0 ∷ 0 ∷ 0 ∷ 0 ∷ 0 ∷ 0 ∷
-    5 ∷ 0 ∷ 0 ∷ 0 ∷ 0 ∷ []
-
-abbrev image-5120 : List ℕ
-image-5120 =
-    1 ∷ 0 ∷ 0 ∷ 0 ∷ 0 ∷ 0 ∷ 1 ∷ 0 ∷ 0 ∷ 0 ∷ 1 ∷ 0 ∷ 0 ∷ 0 ∷ 2 ∷ 0 ∷ 0 ∷ 0 ∷ 0 ∷ 0 ∷ 0 ∷ 0 ∷ 0 ∷ 1 ∷
-    2 ∷ 0 ∷ 0 ∷ 1 ∷ 4 ∷ 0 ∷ 0 ∷ 0 ∷ 0 ∷ 0 ∷
-    3 ∷ 0 ∷ 0 ∷ 0 ∷ 0 ∷ 6 ∷
-    4 ∷ 1 ∷ 0 ∷ 1 ∷ 0 ∷ 0 ∷ 0 ∷ 0 ∷ 0 ∷ 0 ∷ 0 ∷ 0 ∷ 0 ∷
-    4 ∷ 1 ∷ 0 ∷ 1 ∷ 0 ∷ 0 ∷ 0 ∷ 0 ∷ 0 ∷ 0 ∷ 0 ∷ 0 ∷ 0 ∷
-    4 ∷ 1 ∷ 0 ∷ 1 ∷ 0 ∷ 0 ∷ 0 ∷ 0 ∷ 0 ∷ 0 ∷ 0 ∷ 0 ∷ 0 ∷
-    4 ∷ 1 ∷ 0 ∷ 1 ∷ 0 ∷ 0 ∷ 0 ∷ 0 ∷ 0 ∷ 0 ∷ 0 ∷ 0 ∷ 0 ∷
-    5 ∷ 0 ∷ 0 ∷ 0 ∷ 0 ∷ []
-
--- calls 5114 to 5121
-calls-5114 :
-    outcomes none
-    (read-line plenty image-5114
-    ∷ call-line plenty (mark-as-canceled 0 2 none (words 4352 []))
-    ∷ call-line plenty (mark-as-finished 0 1 (some 2) (words 4352 []))
-    ∷ call-line plenty inc-refcount-all
-    ∷ call-line plenty (pick-pieces (asking 10 3 5 5 (some 0) 1 (64 ∷ []) (0 ∷ [])) 4351 (words 4352 (3 ∷ [])))
-    ∷ call-line plenty (dec-refcount 0 (words 4352 []))
-    ∷ call-line plenty inc-refcount-all
-    ∷ call-line plenty (question (ofBlock block-state 9223372036854775807 0))
-    ∷ [])
-    ≡ outcome stands image-5114
-    ∷ outcome (answered (done 0)) image-5114
-    ∷ outcome (answered (refused NotWriting)) image-5114
-    ∷ outcome (answered (done 0)) image-5117
-    ∷ outcome (answered (picked [] 10240 (0 ∷ 1 ∷ 0 ∷ 0 ∷ 1 ∷ 0 ∷ 0 ∷ []) 1)) image-5117
-    ∷ outcome (answered (done 0)) image-5119
-    ∷ outcome (answered (done 0)) image-5120
-    ∷ outcome (answered (refused OutOfRange)) image-5120
-    ∷ []
-unfolding replaying
-calls-5114 = refl
-
-abbrev image-5144 : List ℕ
-image-5144 =
-    1 ∷ 0 ∷ 0 ∷ 0 ∷ 0 ∷ 0 ∷ 0 ∷ 0 ∷ 1 ∷ 0 ∷ 1 ∷ 0 ∷ 0 ∷ 0 ∷ 0 ∷ 0 ∷ 0 ∷ 0 ∷ 1 ∷ 0 ∷ 0 ∷ 0 ∷ 1 ∷ 1 ∷
-    2 ∷ 0 ∷ 0 ∷ 6 ∷ 1 ∷ 0 ∷ 0 ∷ 0 ∷ 0 ∷ 1 ∷
-    3 ∷ 0 ∷ 0 ∷ 0 ∷ 0 ∷ 0 ∷
-    4 ∷ 0 ∷ 3 ∷ 231 ∷ 1 ∷ 255 ∷ 255 ∷ 255 ∷ 255 ∷ 255 ∷ 255 ∷ 255 ∷ 255 ∷
-    5 ∷ 0 ∷ 0 ∷ 0 ∷ 0 ∷ []
-
-abbrev image-5146 : List ℕ
-image-5146 =
-    1 ∷ 0 ∷ 0 ∷ 0 ∷ 0 ∷ 0 ∷ 0 ∷ 0 ∷ 1 ∷ 0 ∷ 1 ∷ 0 ∷ 0 ∷ 0 ∷ 0 ∷ 0 ∷ 0 ∷ 0 ∷ 1 ∷ 0 ∷ 0 ∷ 0 ∷ 1 ∷ 1 ∷
-    2 ∷ 0 ∷ 0 ∷ 6 ∷ 1 ∷ 0 ∷ 0 ∷ 0 ∷ 0 ∷ 1 ∷
-    3 ∷ 0 ∷ 0 ∷ 0 ∷ 0 ∷ 2 ∷
-    4 ∷ 0 ∷ 3 ∷ 231 ∷ 1 ∷ 255 ∷ 255 ∷ 255 ∷ 255 ∷ 255 ∷ 255 ∷ 255 ∷ 255 ∷
-    5 ∷ 0 ∷ 0 ∷ 0 ∷ 0 ∷ []
-
-abbrev image-5147 : List ℕ
-image-5147 =
-    1 ∷ 0 ∷ 0 ∷ 0 ∷ 0 ∷ 0 ∷ 0 ∷ 0 ∷ 1 ∷ 0 ∷ 1 ∷ 0 ∷ 0 ∷ 0 ∷ 0 ∷ 0 ∷ 0 ∷ 0 ∷ 1 ∷ 0 ∷ 0 ∷ 0 ∷ 1 ∷ 1 ∷
-    2 ∷ 0 ∷ 0 ∷ 1 ∷ 1 ∷ 0 ∷ 0 ∷ 0 ∷ 0 ∷ 1 ∷
-    3 ∷ 0 ∷ 0 ∷ 0 ∷ 0 ∷ 2 ∷
-    4 ∷ 1 ∷ 3 ∷ 232 ∷ 1 ∷ 255 ∷ 255 ∷ 255 ∷ 255 ∷ 255 ∷ 255 ∷ 255 ∷ 255 ∷
-    5 ∷ 0 ∷ 0 ∷ 0 ∷ 0 ∷ []
-
--- calls 5144 to 5148
-calls-5144 :
-    outcomes none
-    (read-line plenty image-5144
-    ∷ call-line plenty (question (ofPiece passed-hash-check 4294967296))
-    ∷ call-line plenty (lock-piece 0)
-    ∷ call-line plenty (mark-as-downloading 0 0 (some 18446744073709551615) 55384 (words 4352 []))
-    ∷ call-line plenty (question (partial-at 0))
-    ∷ [])
-    ≡ outcome stands image-5144
-    ∷ outcome (answered (refused OutOfRange)) image-5144
-    ∷ outcome (answered (done 0)) image-5146
-    ∷ outcome (answered (said true 0)) image-5147
-    ∷ outcome (answered (replied (numbers ((some 0) ∷ [])))) image-5147
-    ∷ []
-unfolding replaying
-calls-5144 = refl
-
-abbrev image-5201 : List ℕ
-image-5201 =
-    1 ∷ 0 ∷ 0 ∷ 0 ∷ 0 ∷ 0 ∷ 2 ∷ 128 ∷ 0 ∷ 0 ∷ 0 ∷ 128 ∷ 0 ∷ 0 ∷ 0 ∷ 0 ∷ 0 ∷ 0 ∷ 0 ∷ 0 ∷ 0 ∷ 0 ∷ 5 ∷ 1 ∷
-    2 ∷ 0 ∷ 0 ∷ 4 ∷ 4 ∷ 0 ∷ 0 ∷ 0 ∷ 0 ∷ 0 ∷
-    2 ∷ 0 ∷ 0 ∷ 4 ∷ 4 ∷ 0 ∷ 0 ∷ 0 ∷ 0 ∷ 0 ∷
-    2 ∷ 0 ∷ 0 ∷ 4 ∷ 4 ∷ 0 ∷ 0 ∷ 0 ∷ 0 ∷ 0 ∷
-    2 ∷ 0 ∷ 0 ∷ 4 ∷ 4 ∷ 0 ∷ 0 ∷ 0 ∷ 0 ∷ 0 ∷
-    2 ∷ 0 ∷ 0 ∷ 4 ∷ 4 ∷ 0 ∷ 0 ∷ 0 ∷ 0 ∷ 0 ∷ []
-
--- calls 5201 to 5202
-calls-5201 :
-    outcomes none
-    (new-line plenty 163840 32768
-    ∷ call-line plenty dec-refcount-all
-    ∷ [])
-    ≡ outcome stands image-5201
-    ∷ outcome (answered (refused NoPeerToTake)) image-5201
-    ∷ []
-unfolding replaying
-calls-5201 = refl
-
-abbrev image-5234 : List ℕ
-image-5234 =
-    1 ∷ 0 ∷ 0 ∷ 0 ∷ 0 ∷ 0 ∷ 4 ∷ 0 ∷ 0 ∷ 0 ∷ 1 ∷ 0 ∷ 0 ∷ 0 ∷ 0 ∷ 0 ∷ 0 ∷ 0 ∷ 0 ∷ 0 ∷ 0 ∷ 0 ∷ 3 ∷ 1 ∷
-    2 ∷ 0 ∷ 0 ∷ 6 ∷ 4 ∷ 0 ∷ 0 ∷ 0 ∷ 0 ∷ 1 ∷
-    2 ∷ 0 ∷ 3 ∷ 2 ∷ 1 ∷ 0 ∷ 0 ∷ 0 ∷ 0 ∷ 0 ∷
-    2 ∷ 0 ∷ 1 ∷ 2 ∷ 1 ∷ 0 ∷ 0 ∷ 0 ∷ 0 ∷ 0 ∷
+abbrev image-5986 : List ℕ
+image-5986 =
+    1 ∷ 0 ∷ 0 ∷ 0 ∷ 0 ∷ 0 ∷ 1 ∷ 0 ∷ 1 ∷ 0 ∷ 1 ∷ 0 ∷ 0 ∷ 0 ∷ 0 ∷ 0 ∷ 0 ∷ 0 ∷ 1 ∷ 0 ∷ 0 ∷ 0 ∷ 0 ∷ 1 ∷
+    2 ∷ 0 ∷ 7 ∷ 1 ∷ 4 ∷ 0 ∷ 0 ∷ 0 ∷ 64 ∷ 0 ∷
     2 ∷ 0 ∷ 0 ∷ 1 ∷ 7 ∷ 0 ∷ 0 ∷ 0 ∷ 0 ∷ 0 ∷
     3 ∷ 0 ∷ 0 ∷ 0 ∷ 0 ∷ 0 ∷
-    4 ∷ 1 ∷ 0 ∷ 2 ∷ 1 ∷ 0 ∷ 0 ∷ 0 ∷ 0 ∷ 0 ∷ 0 ∷ 0 ∷ 3 ∷
-    4 ∷ 1 ∷ 0 ∷ 2 ∷ 1 ∷ 0 ∷ 0 ∷ 0 ∷ 0 ∷ 0 ∷ 0 ∷ 0 ∷ 3 ∷
-    4 ∷ 1 ∷ 0 ∷ 2 ∷ 1 ∷ 0 ∷ 0 ∷ 0 ∷ 0 ∷ 0 ∷ 0 ∷ 0 ∷ 3 ∷
-    4 ∷ 1 ∷ 0 ∷ 2 ∷ 1 ∷ 0 ∷ 0 ∷ 0 ∷ 0 ∷ 0 ∷ 0 ∷ 0 ∷ 3 ∷
-    3 ∷ 0 ∷ 0 ∷ 0 ∷ 1 ∷ 0 ∷
-    4 ∷ 0 ∷ 0 ∷ 0 ∷ 1 ∷ 0 ∷ 0 ∷ 0 ∷ 0 ∷ 0 ∷ 0 ∷ 0 ∷ 3 ∷
+    4 ∷ 0 ∷ 0 ∷ 1 ∷ 1 ∷ 0 ∷ 0 ∷ 0 ∷ 0 ∷ 0 ∷ 0 ∷ 0 ∷ 1 ∷
     4 ∷ 0 ∷ 0 ∷ 3 ∷ 1 ∷ 0 ∷ 0 ∷ 0 ∷ 0 ∷ 0 ∷ 0 ∷ 0 ∷ 1 ∷
-    4 ∷ 0 ∷ 0 ∷ 0 ∷ 1 ∷ 0 ∷ 0 ∷ 0 ∷ 0 ∷ 0 ∷ 0 ∷ 0 ∷ 0 ∷
-    4 ∷ 0 ∷ 0 ∷ 0 ∷ 1 ∷ 0 ∷ 0 ∷ 0 ∷ 0 ∷ 0 ∷ 0 ∷ 0 ∷ 1 ∷
-    3 ∷ 0 ∷ 0 ∷ 0 ∷ 2 ∷ 4 ∷
-    4 ∷ 2 ∷ 0 ∷ 0 ∷ 1 ∷ 0 ∷ 0 ∷ 0 ∷ 0 ∷ 0 ∷ 0 ∷ 0 ∷ 0 ∷
-    4 ∷ 2 ∷ 0 ∷ 2 ∷ 1 ∷ 255 ∷ 255 ∷ 255 ∷ 255 ∷ 255 ∷ 255 ∷ 255 ∷ 255 ∷
-    4 ∷ 2 ∷ 0 ∷ 0 ∷ 1 ∷ 0 ∷ 0 ∷ 0 ∷ 0 ∷ 0 ∷ 0 ∷ 0 ∷ 0 ∷
-    4 ∷ 2 ∷ 3 ∷ 232 ∷ 1 ∷ 0 ∷ 0 ∷ 0 ∷ 0 ∷ 0 ∷ 0 ∷ 0 ∷ 1 ∷
-    3 ∷ 0 ∷ 0 ∷ 0 ∷ 3 ∷ 0 ∷
-    4 ∷ 1 ∷ 0 ∷ 1 ∷ 1 ∷ 0 ∷ 0 ∷ 0 ∷ 0 ∷ 0 ∷ 0 ∷ 0 ∷ 1 ∷
+    4 ∷ 0 ∷ 0 ∷ 0 ∷ 0 ∷ 0 ∷ 0 ∷ 0 ∷ 0 ∷ 0 ∷ 0 ∷ 0 ∷ 0 ∷
+    4 ∷ 0 ∷ 0 ∷ 0 ∷ 1 ∷ 0 ∷ 0 ∷ 0 ∷ 0 ∷ 0 ∷ 0 ∷ 0 ∷ 3 ∷
+    3 ∷ 0 ∷ 0 ∷ 0 ∷ 1 ∷ 1 ∷
+    4 ∷ 1 ∷ 0 ∷ 0 ∷ 1 ∷ 255 ∷ 255 ∷ 255 ∷ 255 ∷ 255 ∷ 255 ∷ 255 ∷ 255 ∷ []
+
+abbrev image-5987 : List ℕ
+image-5987 =
+    1 ∷ 0 ∷ 0 ∷ 0 ∷ 0 ∷ 0 ∷ 1 ∷ 0 ∷ 1 ∷ 0 ∷ 1 ∷ 0 ∷ 0 ∷ 0 ∷ 0 ∷ 0 ∷ 0 ∷ 0 ∷ 1 ∷ 0 ∷ 0 ∷ 0 ∷ 0 ∷ 1 ∷
+    2 ∷ 0 ∷ 6 ∷ 1 ∷ 4 ∷ 0 ∷ 0 ∷ 0 ∷ 64 ∷ 0 ∷
+    2 ∷ 0 ∷ 0 ∷ 1 ∷ 7 ∷ 0 ∷ 0 ∷ 0 ∷ 0 ∷ 0 ∷
+    3 ∷ 0 ∷ 0 ∷ 0 ∷ 0 ∷ 0 ∷
+    4 ∷ 0 ∷ 0 ∷ 1 ∷ 1 ∷ 0 ∷ 0 ∷ 0 ∷ 0 ∷ 0 ∷ 0 ∷ 0 ∷ 1 ∷
+    4 ∷ 0 ∷ 0 ∷ 3 ∷ 1 ∷ 0 ∷ 0 ∷ 0 ∷ 0 ∷ 0 ∷ 0 ∷ 0 ∷ 1 ∷
+    4 ∷ 0 ∷ 0 ∷ 0 ∷ 0 ∷ 0 ∷ 0 ∷ 0 ∷ 0 ∷ 0 ∷ 0 ∷ 0 ∷ 0 ∷
+    4 ∷ 0 ∷ 0 ∷ 0 ∷ 1 ∷ 0 ∷ 0 ∷ 0 ∷ 0 ∷ 0 ∷ 0 ∷ 0 ∷ 3 ∷
+    3 ∷ 0 ∷ 0 ∷ 0 ∷ 1 ∷ 1 ∷
+    4 ∷ 1 ∷ 0 ∷ 0 ∷ 1 ∷ 255 ∷ 255 ∷ 255 ∷ 255 ∷ 255 ∷ 255 ∷ 255 ∷ 255 ∷ []
+
+abbrev image-5988 : List ℕ
+image-5988 =
+    1 ∷ 0 ∷ 0 ∷ 0 ∷ 0 ∷ 0 ∷ 1 ∷ 0 ∷ 1 ∷ 0 ∷ 1 ∷ 0 ∷ 0 ∷ 0 ∷ 0 ∷ 0 ∷ 0 ∷ 0 ∷ 1 ∷ 0 ∷ 0 ∷ 0 ∷ 0 ∷ 0 ∷
+    2 ∷ 0 ∷ 6 ∷ 1 ∷ 4 ∷ 0 ∷ 0 ∷ 0 ∷ 64 ∷ 0 ∷
+    2 ∷ 0 ∷ 0 ∷ 1 ∷ 7 ∷ 0 ∷ 0 ∷ 0 ∷ 0 ∷ 0 ∷
+    3 ∷ 0 ∷ 0 ∷ 0 ∷ 0 ∷ 0 ∷
+    4 ∷ 0 ∷ 0 ∷ 1 ∷ 1 ∷ 0 ∷ 0 ∷ 0 ∷ 0 ∷ 0 ∷ 0 ∷ 0 ∷ 1 ∷
+    4 ∷ 0 ∷ 0 ∷ 3 ∷ 1 ∷ 0 ∷ 0 ∷ 0 ∷ 0 ∷ 0 ∷ 0 ∷ 0 ∷ 1 ∷
+    4 ∷ 0 ∷ 0 ∷ 0 ∷ 0 ∷ 0 ∷ 0 ∷ 0 ∷ 0 ∷ 0 ∷ 0 ∷ 0 ∷ 0 ∷
+    4 ∷ 0 ∷ 0 ∷ 0 ∷ 1 ∷ 0 ∷ 0 ∷ 0 ∷ 0 ∷ 0 ∷ 0 ∷ 0 ∷ 3 ∷
+    3 ∷ 0 ∷ 0 ∷ 0 ∷ 1 ∷ 1 ∷
+    4 ∷ 1 ∷ 0 ∷ 0 ∷ 1 ∷ 255 ∷ 255 ∷ 255 ∷ 255 ∷ 255 ∷ 255 ∷ 255 ∷ 255 ∷ []
+
+abbrev image-5990 : List ℕ
+image-5990 =
+    1 ∷ 0 ∷ 0 ∷ 0 ∷ 0 ∷ 0 ∷ 1 ∷ 0 ∷ 1 ∷ 0 ∷ 1 ∷ 0 ∷ 0 ∷ 0 ∷ 0 ∷ 0 ∷ 0 ∷ 0 ∷ 1 ∷ 0 ∷ 0 ∷ 0 ∷ 0 ∷ 0 ∷
+    2 ∷ 0 ∷ 6 ∷ 1 ∷ 4 ∷ 0 ∷ 0 ∷ 0 ∷ 64 ∷ 0 ∷
+    2 ∷ 0 ∷ 0 ∷ 1 ∷ 7 ∷ 0 ∷ 0 ∷ 0 ∷ 0 ∷ 0 ∷
+    3 ∷ 0 ∷ 0 ∷ 0 ∷ 0 ∷ 0 ∷
+    4 ∷ 0 ∷ 0 ∷ 1 ∷ 1 ∷ 0 ∷ 0 ∷ 0 ∷ 0 ∷ 0 ∷ 0 ∷ 0 ∷ 1 ∷
+    4 ∷ 0 ∷ 0 ∷ 3 ∷ 1 ∷ 0 ∷ 0 ∷ 0 ∷ 0 ∷ 0 ∷ 0 ∷ 0 ∷ 1 ∷
+    4 ∷ 0 ∷ 0 ∷ 0 ∷ 0 ∷ 0 ∷ 0 ∷ 0 ∷ 0 ∷ 0 ∷ 0 ∷ 0 ∷ 0 ∷
+    4 ∷ 0 ∷ 0 ∷ 0 ∷ 1 ∷ 0 ∷ 0 ∷ 0 ∷ 0 ∷ 0 ∷ 0 ∷ 0 ∷ 3 ∷
+    3 ∷ 0 ∷ 0 ∷ 0 ∷ 1 ∷ 1 ∷
+    4 ∷ 1 ∷ 0 ∷ 0 ∷ 1 ∷ 0 ∷ 0 ∷ 0 ∷ 0 ∷ 0 ∷ 0 ∷ 0 ∷ 3 ∷ []
+
+abbrev image-5991 : List ℕ
+image-5991 =
+    1 ∷ 0 ∷ 0 ∷ 0 ∷ 0 ∷ 0 ∷ 1 ∷ 0 ∷ 1 ∷ 0 ∷ 1 ∷ 0 ∷ 0 ∷ 0 ∷ 0 ∷ 0 ∷ 0 ∷ 0 ∷ 1 ∷ 0 ∷ 0 ∷ 0 ∷ 0 ∷ 0 ∷
+    2 ∷ 0 ∷ 6 ∷ 0 ∷ 4 ∷ 0 ∷ 0 ∷ 0 ∷ 64 ∷ 0 ∷
+    2 ∷ 0 ∷ 0 ∷ 1 ∷ 7 ∷ 0 ∷ 0 ∷ 0 ∷ 0 ∷ 0 ∷
+    3 ∷ 0 ∷ 0 ∷ 0 ∷ 0 ∷ 0 ∷
+    4 ∷ 0 ∷ 0 ∷ 1 ∷ 1 ∷ 0 ∷ 0 ∷ 0 ∷ 0 ∷ 0 ∷ 0 ∷ 0 ∷ 1 ∷
+    4 ∷ 0 ∷ 0 ∷ 3 ∷ 1 ∷ 0 ∷ 0 ∷ 0 ∷ 0 ∷ 0 ∷ 0 ∷ 0 ∷ 1 ∷
+    4 ∷ 0 ∷ 0 ∷ 0 ∷ 0 ∷ 0 ∷ 0 ∷ 0 ∷ 0 ∷ 0 ∷ 0 ∷ 0 ∷ 0 ∷
     4 ∷ 3 ∷ 0 ∷ 0 ∷ 1 ∷ 255 ∷ 255 ∷ 255 ∷ 255 ∷ 255 ∷ 255 ∷ 255 ∷ 255 ∷
-    4 ∷ 2 ∷ 0 ∷ 3 ∷ 1 ∷ 0 ∷ 0 ∷ 0 ∷ 0 ∷ 0 ∷ 0 ∷ 0 ∷ 1 ∷
-    4 ∷ 3 ∷ 0 ∷ 0 ∷ 1 ∷ 0 ∷ 0 ∷ 0 ∷ 0 ∷ 0 ∷ 0 ∷ 0 ∷ 2 ∷ []
-
--- calls 5234 to 5235
-calls-5234 :
-    outcomes none
-    (read-line plenty image-5234
-    ∷ call-line plenty (question (ofBlock get-downloader 4 0))
-    ∷ [])
-    ≡ outcome stands image-5234
-    ∷ outcome (answered (refused OutOfRange)) image-5234
-    ∷ []
-unfolding replaying
-calls-5234 = refl
-
-abbrev image-5354 : List ℕ
-image-5354 =
-    1 ∷ 0 ∷ 0 ∷ 0 ∷ 0 ∷ 0 ∷ 0 ∷ 192 ∷ 1 ∷ 0 ∷ 0 ∷ 64 ∷ 0 ∷ 0 ∷ 0 ∷ 0 ∷ 0 ∷ 0 ∷ 0 ∷ 0 ∷ 0 ∷ 0 ∷ 4 ∷ 1 ∷
-    2 ∷ 0 ∷ 0 ∷ 4 ∷ 4 ∷ 0 ∷ 0 ∷ 0 ∷ 0 ∷ 0 ∷
-    2 ∷ 0 ∷ 0 ∷ 4 ∷ 4 ∷ 0 ∷ 0 ∷ 0 ∷ 0 ∷ 0 ∷
-    2 ∷ 0 ∷ 0 ∷ 4 ∷ 4 ∷ 0 ∷ 0 ∷ 0 ∷ 0 ∷ 0 ∷
-    2 ∷ 0 ∷ 0 ∷ 4 ∷ 4 ∷ 0 ∷ 0 ∷ 0 ∷ 0 ∷ 0 ∷ []
-
-abbrev image-5357 : List ℕ
-image-5357 =
-    1 ∷ 0 ∷ 0 ∷ 0 ∷ 0 ∷ 0 ∷ 0 ∷ 192 ∷ 1 ∷ 0 ∷ 0 ∷ 64 ∷ 0 ∷ 0 ∷ 0 ∷ 0 ∷ 0 ∷ 0 ∷ 0 ∷ 0 ∷ 0 ∷ 0 ∷ 4 ∷ 1 ∷
-    2 ∷ 0 ∷ 0 ∷ 4 ∷ 4 ∷ 0 ∷ 0 ∷ 0 ∷ 0 ∷ 0 ∷
-    2 ∷ 0 ∷ 0 ∷ 1 ∷ 4 ∷ 0 ∷ 0 ∷ 0 ∷ 0 ∷ 0 ∷
-    2 ∷ 0 ∷ 0 ∷ 4 ∷ 4 ∷ 0 ∷ 0 ∷ 0 ∷ 0 ∷ 0 ∷
-    2 ∷ 0 ∷ 0 ∷ 4 ∷ 4 ∷ 0 ∷ 0 ∷ 0 ∷ 0 ∷ 0 ∷
-    3 ∷ 0 ∷ 0 ∷ 0 ∷ 1 ∷ 0 ∷
-    4 ∷ 1 ∷ 0 ∷ 1 ∷ 1 ∷ 0 ∷ 0 ∷ 0 ∷ 0 ∷ 0 ∷ 0 ∷ 0 ∷ 2 ∷ []
-
-abbrev image-5359 : List ℕ
-image-5359 =
-    1 ∷ 0 ∷ 0 ∷ 0 ∷ 0 ∷ 0 ∷ 0 ∷ 192 ∷ 1 ∷ 0 ∷ 0 ∷ 64 ∷ 0 ∷ 0 ∷ 0 ∷ 0 ∷ 0 ∷ 0 ∷ 0 ∷ 0 ∷ 0 ∷ 0 ∷ 4 ∷ 1 ∷
-    2 ∷ 0 ∷ 0 ∷ 4 ∷ 4 ∷ 0 ∷ 0 ∷ 0 ∷ 0 ∷ 0 ∷
-    2 ∷ 0 ∷ 0 ∷ 2 ∷ 4 ∷ 0 ∷ 0 ∷ 0 ∷ 0 ∷ 0 ∷
-    2 ∷ 0 ∷ 0 ∷ 4 ∷ 4 ∷ 0 ∷ 0 ∷ 0 ∷ 0 ∷ 0 ∷
-    2 ∷ 0 ∷ 0 ∷ 4 ∷ 4 ∷ 0 ∷ 0 ∷ 0 ∷ 0 ∷ 0 ∷
-    3 ∷ 0 ∷ 0 ∷ 0 ∷ 1 ∷ 0 ∷
-    4 ∷ 2 ∷ 0 ∷ 0 ∷ 1 ∷ 0 ∷ 0 ∷ 0 ∷ 0 ∷ 0 ∷ 0 ∷ 0 ∷ 1 ∷ []
-
--- calls 5354 to 5365
-calls-5354 :
-    outcomes none
-    (new-line plenty 49153 16384
-    ∷ image-line (lending 29 1000000 1000000) 1000000
-    ∷ call-line plenty (question (ofBlock is-finished-block 4294967296 0))
-    ∷ call-line plenty (mark-as-downloading 1 0 (some 2) 0 (words 5000 []))
-    ∷ call-line (lending 27 1000000 1000000) (abort-download 3 0 (some 0) (words 4352 []))
-    ∷ call-line plenty (mark-as-writing 1 0 (some 1) (words 4352 []))
-    ∷ call-line plenty (question (listOfPicker get-download-queue 1000000))
-    ∷ call-line plenty (pick-pieces (asking 238 1 3 0 (some 3) 4 (255 ∷ []) (3 ∷ [])) 4351 (words 4352 []))
-    ∷ call-line plenty (question (ofPicker total-size))
-    ∷ call-line plenty (mark-as-downloading 1 0 (some 2) 128 (words 4351 []))
-    ∷ call-line plenty (mark-as-downloading 1 0 (some 1) 130 (words 4352 []))
-    ∷ call-line plenty (question (ofBlock block-peer 5 0))
-    ∷ [])
-    ≡ outcome stands image-5354
-    ∷ outcome (bytesTaken (1 ∷ 0 ∷ 0 ∷ 0 ∷ 0 ∷ 0 ∷ 0 ∷ 192 ∷ 1 ∷ 0 ∷ 0 ∷ 64 ∷ 0 ∷ 0 ∷ 0 ∷ 0 ∷ 0 ∷ 0 ∷ 0 ∷ 0 ∷ 0 ∷ 0 ∷ 4 ∷ 1 ∷ 2 ∷ 0 ∷ 0 ∷ 4 ∷ 4 ∷ 0 ∷ 0 ∷ 0 ∷ 0 ∷ 0 ∷ 2 ∷ 0 ∷ 0 ∷ 4 ∷ 4 ∷ 0 ∷ 0 ∷ 0 ∷ 0 ∷ 0 ∷ 2 ∷ 0 ∷ 0 ∷ 4 ∷ 4 ∷ 0 ∷ 0 ∷ 0 ∷ 0 ∷ 0 ∷ 2 ∷ 0 ∷ 0 ∷ 4 ∷ 4 ∷ 0 ∷ 0 ∷ 0 ∷ 0 ∷ 0 ∷ [])) image-5354
-    ∷ outcome (answered (refused OutOfRange)) image-5354
-    ∷ outcome (answered (said true 0)) image-5357
-    ∷ outcome (answered (refused ShortMemory)) image-5357
-    ∷ outcome (answered (said true 0)) image-5359
-    ∷ outcome (answered (replied (numbers ((some 1) ∷ (some 0) ∷ (some 0) ∷ (some 1) ∷ (some 0) ∷ (some 0) ∷ (some 0) ∷ [])))) image-5359
-    ∷ outcome (answered (picked ((pieceBlock 3 0) ∷ []) 2080 (0 ∷ 1 ∷ 0 ∷ 0 ∷ 0 ∷ 0 ∷ 0 ∷ []) 0)) image-5359
-    ∷ outcome (answered (replied (numbers ((some 49153) ∷ [])))) image-5359
-    ∷ outcome (answered (refused FewDraws)) image-5359
-    ∷ outcome (answered (said false 0)) image-5359
-    ∷ outcome (answered (refused OutOfRange)) image-5359
-    ∷ []
-unfolding replaying
-calls-5354 = refl
-
-abbrev image-5489 : List ℕ
-image-5489 =
-    1 ∷ 0 ∷ 0 ∷ 0 ∷ 0 ∷ 0 ∷ 1 ∷ 0 ∷ 0 ∷ 0 ∷ 0 ∷ 128 ∷ 0 ∷ 0 ∷ 0 ∷ 0 ∷ 0 ∷ 0 ∷ 0 ∷ 0 ∷ 0 ∷ 0 ∷ 1 ∷ 1 ∷
-    2 ∷ 0 ∷ 1 ∷ 6 ∷ 4 ∷ 0 ∷ 0 ∷ 0 ∷ 0 ∷ 0 ∷
-    2 ∷ 3 ∷ 231 ∷ 5 ∷ 4 ∷ 0 ∷ 0 ∷ 0 ∷ 0 ∷ 0 ∷
-    3 ∷ 0 ∷ 0 ∷ 0 ∷ 0 ∷ 0 ∷
-    4 ∷ 1 ∷ 0 ∷ 1 ∷ 1 ∷ 0 ∷ 0 ∷ 0 ∷ 0 ∷ 0 ∷ 0 ∷ 0 ∷ 2 ∷
-    4 ∷ 2 ∷ 0 ∷ 0 ∷ 0 ∷ 0 ∷ 0 ∷ 0 ∷ 0 ∷ 0 ∷ 0 ∷ 0 ∷ 0 ∷
-    3 ∷ 0 ∷ 0 ∷ 0 ∷ 1 ∷ 0 ∷
-    4 ∷ 0 ∷ 0 ∷ 0 ∷ 0 ∷ 0 ∷ 0 ∷ 0 ∷ 0 ∷ 0 ∷ 0 ∷ 0 ∷ 0 ∷
-    4 ∷ 2 ∷ 0 ∷ 0 ∷ 1 ∷ 0 ∷ 0 ∷ 0 ∷ 0 ∷ 0 ∷ 0 ∷ 0 ∷ 3 ∷
-    5 ∷ 0 ∷ 0 ∷ 0 ∷ 0 ∷ []
-
-abbrev image-5492 : List ℕ
-image-5492 =
-    1 ∷ 0 ∷ 0 ∷ 0 ∷ 0 ∷ 0 ∷ 1 ∷ 0 ∷ 0 ∷ 0 ∷ 0 ∷ 128 ∷ 0 ∷ 0 ∷ 0 ∷ 0 ∷ 0 ∷ 0 ∷ 0 ∷ 0 ∷ 0 ∷ 0 ∷ 1 ∷ 1 ∷
-    2 ∷ 0 ∷ 1 ∷ 6 ∷ 4 ∷ 0 ∷ 0 ∷ 0 ∷ 0 ∷ 0 ∷
-    2 ∷ 3 ∷ 232 ∷ 5 ∷ 4 ∷ 0 ∷ 0 ∷ 0 ∷ 0 ∷ 0 ∷
-    3 ∷ 0 ∷ 0 ∷ 0 ∷ 0 ∷ 0 ∷
-    4 ∷ 1 ∷ 0 ∷ 1 ∷ 1 ∷ 0 ∷ 0 ∷ 0 ∷ 0 ∷ 0 ∷ 0 ∷ 0 ∷ 2 ∷
-    4 ∷ 2 ∷ 0 ∷ 0 ∷ 0 ∷ 0 ∷ 0 ∷ 0 ∷ 0 ∷ 0 ∷ 0 ∷ 0 ∷ 0 ∷
-    3 ∷ 0 ∷ 0 ∷ 0 ∷ 1 ∷ 0 ∷
-    4 ∷ 0 ∷ 0 ∷ 0 ∷ 0 ∷ 0 ∷ 0 ∷ 0 ∷ 0 ∷ 0 ∷ 0 ∷ 0 ∷ 0 ∷
-    4 ∷ 2 ∷ 0 ∷ 0 ∷ 1 ∷ 0 ∷ 0 ∷ 0 ∷ 0 ∷ 0 ∷ 0 ∷ 0 ∷ 3 ∷
-    5 ∷ 0 ∷ 0 ∷ 0 ∷ 0 ∷ []
-
--- calls 5489 to 5493
-calls-5489 :
-    outcomes none
-    (read-line plenty image-5489
-    ∷ call-line plenty (question (listOfPicker get-availability-vec 1000000))
-    ∷ call-line plenty (inc-refcount 1 (words 4352 []))
-    ∷ call-line plenty (question (ofBlock block-state 0 1))
-    ∷ [])
-    ≡ outcome stands image-5489
-    ∷ outcome (answered (replied (numbers ((some 1) ∷ (some 999) ∷ [])))) image-5489
-    ∷ outcome (answered (done 0)) image-5492
-    ∷ outcome (answered (replied (numbers ((some 2) ∷ [])))) image-5492
-    ∷ []
-unfolding replaying
-calls-5489 = refl
-
-abbrev image-5594 : List ℕ
-image-5594 =
-    1 ∷ 0 ∷ 0 ∷ 0 ∷ 0 ∷ 0 ∷ 2 ∷ 0 ∷ 1 ∷ 0 ∷ 1 ∷ 0 ∷ 0 ∷ 0 ∷ 1 ∷ 0 ∷ 0 ∷ 0 ∷ 1 ∷ 0 ∷ 0 ∷ 0 ∷ 2 ∷ 0 ∷
-    2 ∷ 0 ∷ 1 ∷ 4 ∷ 6 ∷ 0 ∷ 0 ∷ 0 ∷ 0 ∷ 0 ∷
-    2 ∷ 0 ∷ 2 ∷ 4 ∷ 7 ∷ 0 ∷ 0 ∷ 0 ∷ 0 ∷ 0 ∷
-    2 ∷ 0 ∷ 0 ∷ 4 ∷ 0 ∷ 0 ∷ 0 ∷ 0 ∷ 0 ∷ 0 ∷
-    5 ∷ 0 ∷ 0 ∷ 0 ∷ 0 ∷
-    6 ∷ 0 ∷ 0 ∷ 0 ∷ 1 ∷
+    3 ∷ 0 ∷ 0 ∷ 0 ∷ 1 ∷ 1 ∷
+    4 ∷ 1 ∷ 0 ∷ 0 ∷ 1 ∷ 0 ∷ 0 ∷ 0 ∷ 0 ∷ 0 ∷ 0 ∷ 0 ∷ 3 ∷
     6 ∷ 0 ∷ 0 ∷ 0 ∷ 0 ∷ []
 
--- calls 5594 to 5595
-calls-5594 :
-    outcomes none
-    (read-line plenty image-5594
-    ∷ call-line plenty (question (ofPiece piece-priority 1))
-    ∷ [])
-    ≡ outcome stands image-5594
-    ∷ outcome (answered (replied (numbers ((some 7) ∷ [])))) image-5594
-    ∷ []
-unfolding replaying
-calls-5594 = refl
-
-abbrev image-5624 : List ℕ
-image-5624 =
-    1 ∷ 0 ∷ 0 ∷ 0 ∷ 0 ∷ 0 ∷ 0 ∷ 0 ∷ 3 ∷ 0 ∷ 0 ∷ 0 ∷ 3 ∷ 0 ∷ 0 ∷ 0 ∷ 0 ∷ 0 ∷ 0 ∷ 0 ∷ 0 ∷ 0 ∷ 1 ∷ 1 ∷
-    2 ∷ 0 ∷ 0 ∷ 4 ∷ 4 ∷ 0 ∷ 0 ∷ 0 ∷ 0 ∷ 0 ∷ []
-
-abbrev image-5625 : List ℕ
-image-5625 =
-    1 ∷ 0 ∷ 0 ∷ 0 ∷ 0 ∷ 0 ∷ 0 ∷ 0 ∷ 3 ∷ 0 ∷ 0 ∷ 0 ∷ 3 ∷ 0 ∷ 0 ∷ 0 ∷ 0 ∷ 0 ∷ 0 ∷ 0 ∷ 0 ∷ 0 ∷ 1 ∷ 0 ∷
-    2 ∷ 0 ∷ 0 ∷ 4 ∷ 4 ∷ 0 ∷ 0 ∷ 0 ∷ 0 ∷ 0 ∷ []
-
-abbrev image-5627 : List ℕ
-image-5627 =
-    1 ∷ 0 ∷ 0 ∷ 0 ∷ 0 ∷ 0 ∷ 0 ∷ 0 ∷ 3 ∷ 0 ∷ 0 ∷ 0 ∷ 3 ∷ 0 ∷ 0 ∷ 0 ∷ 0 ∷ 0 ∷ 0 ∷ 0 ∷ 0 ∷ 0 ∷ 1 ∷ 0 ∷
-    2 ∷ 0 ∷ 0 ∷ 1 ∷ 4 ∷ 0 ∷ 0 ∷ 0 ∷ 0 ∷ 0 ∷
+abbrev image-5992 : List ℕ
+image-5992 =
+    1 ∷ 0 ∷ 0 ∷ 0 ∷ 0 ∷ 0 ∷ 1 ∷ 0 ∷ 1 ∷ 0 ∷ 1 ∷ 0 ∷ 0 ∷ 0 ∷ 0 ∷ 0 ∷ 0 ∷ 0 ∷ 1 ∷ 0 ∷ 0 ∷ 0 ∷ 0 ∷ 0 ∷
+    2 ∷ 0 ∷ 5 ∷ 0 ∷ 4 ∷ 0 ∷ 0 ∷ 0 ∷ 64 ∷ 0 ∷
+    2 ∷ 0 ∷ 0 ∷ 1 ∷ 7 ∷ 0 ∷ 0 ∷ 0 ∷ 0 ∷ 0 ∷
     3 ∷ 0 ∷ 0 ∷ 0 ∷ 0 ∷ 0 ∷
-    4 ∷ 1 ∷ 0 ∷ 1 ∷ 0 ∷ 0 ∷ 0 ∷ 0 ∷ 0 ∷ 0 ∷ 0 ∷ 0 ∷ 0 ∷ []
+    4 ∷ 0 ∷ 0 ∷ 1 ∷ 1 ∷ 0 ∷ 0 ∷ 0 ∷ 0 ∷ 0 ∷ 0 ∷ 0 ∷ 1 ∷
+    4 ∷ 0 ∷ 0 ∷ 3 ∷ 1 ∷ 0 ∷ 0 ∷ 0 ∷ 0 ∷ 0 ∷ 0 ∷ 0 ∷ 1 ∷
+    4 ∷ 0 ∷ 0 ∷ 0 ∷ 0 ∷ 0 ∷ 0 ∷ 0 ∷ 0 ∷ 0 ∷ 0 ∷ 0 ∷ 0 ∷
+    4 ∷ 3 ∷ 0 ∷ 0 ∷ 1 ∷ 255 ∷ 255 ∷ 255 ∷ 255 ∷ 255 ∷ 255 ∷ 255 ∷ 255 ∷
+    3 ∷ 0 ∷ 0 ∷ 0 ∷ 1 ∷ 1 ∷
+    4 ∷ 1 ∷ 0 ∷ 0 ∷ 1 ∷ 0 ∷ 0 ∷ 0 ∷ 0 ∷ 0 ∷ 0 ∷ 0 ∷ 3 ∷
+    6 ∷ 0 ∷ 0 ∷ 0 ∷ 0 ∷ []
 
--- calls 5624 to 5628
-calls-5624 :
+abbrev image-5994 : List ℕ
+image-5994 =
+    1 ∷ 0 ∷ 0 ∷ 0 ∷ 0 ∷ 0 ∷ 1 ∷ 0 ∷ 1 ∷ 0 ∷ 1 ∷ 0 ∷ 0 ∷ 0 ∷ 0 ∷ 0 ∷ 0 ∷ 0 ∷ 1 ∷ 0 ∷ 0 ∷ 0 ∷ 0 ∷ 0 ∷
+    2 ∷ 0 ∷ 5 ∷ 0 ∷ 4 ∷ 0 ∷ 0 ∷ 0 ∷ 64 ∷ 0 ∷
+    2 ∷ 0 ∷ 1 ∷ 1 ∷ 7 ∷ 0 ∷ 0 ∷ 0 ∷ 0 ∷ 0 ∷
+    3 ∷ 0 ∷ 0 ∷ 0 ∷ 0 ∷ 0 ∷
+    4 ∷ 0 ∷ 0 ∷ 1 ∷ 1 ∷ 0 ∷ 0 ∷ 0 ∷ 0 ∷ 0 ∷ 0 ∷ 0 ∷ 1 ∷
+    4 ∷ 0 ∷ 0 ∷ 3 ∷ 1 ∷ 0 ∷ 0 ∷ 0 ∷ 0 ∷ 0 ∷ 0 ∷ 0 ∷ 1 ∷
+    4 ∷ 0 ∷ 0 ∷ 0 ∷ 0 ∷ 0 ∷ 0 ∷ 0 ∷ 0 ∷ 0 ∷ 0 ∷ 0 ∷ 0 ∷
+    4 ∷ 3 ∷ 0 ∷ 0 ∷ 1 ∷ 255 ∷ 255 ∷ 255 ∷ 255 ∷ 255 ∷ 255 ∷ 255 ∷ 255 ∷
+    3 ∷ 0 ∷ 0 ∷ 0 ∷ 1 ∷ 1 ∷
+    4 ∷ 1 ∷ 0 ∷ 0 ∷ 1 ∷ 0 ∷ 0 ∷ 0 ∷ 0 ∷ 0 ∷ 0 ∷ 0 ∷ 3 ∷
+    6 ∷ 0 ∷ 0 ∷ 0 ∷ 0 ∷ []
+
+abbrev image-5997 : List ℕ
+image-5997 =
+    1 ∷ 0 ∷ 0 ∷ 0 ∷ 0 ∷ 0 ∷ 1 ∷ 0 ∷ 1 ∷ 0 ∷ 1 ∷ 0 ∷ 0 ∷ 0 ∷ 0 ∷ 0 ∷ 0 ∷ 0 ∷ 1 ∷ 0 ∷ 0 ∷ 0 ∷ 0 ∷ 0 ∷
+    2 ∷ 0 ∷ 5 ∷ 0 ∷ 4 ∷ 0 ∷ 0 ∷ 0 ∷ 64 ∷ 0 ∷
+    2 ∷ 0 ∷ 2 ∷ 1 ∷ 7 ∷ 0 ∷ 0 ∷ 0 ∷ 0 ∷ 0 ∷
+    3 ∷ 0 ∷ 0 ∷ 0 ∷ 0 ∷ 0 ∷
+    4 ∷ 0 ∷ 0 ∷ 1 ∷ 1 ∷ 0 ∷ 0 ∷ 0 ∷ 0 ∷ 0 ∷ 0 ∷ 0 ∷ 1 ∷
+    4 ∷ 0 ∷ 0 ∷ 3 ∷ 1 ∷ 0 ∷ 0 ∷ 0 ∷ 0 ∷ 0 ∷ 0 ∷ 0 ∷ 1 ∷
+    4 ∷ 0 ∷ 0 ∷ 0 ∷ 0 ∷ 0 ∷ 0 ∷ 0 ∷ 0 ∷ 0 ∷ 0 ∷ 0 ∷ 0 ∷
+    4 ∷ 3 ∷ 0 ∷ 0 ∷ 1 ∷ 255 ∷ 255 ∷ 255 ∷ 255 ∷ 255 ∷ 255 ∷ 255 ∷ 255 ∷
+    3 ∷ 0 ∷ 0 ∷ 0 ∷ 1 ∷ 1 ∷
+    4 ∷ 1 ∷ 0 ∷ 0 ∷ 1 ∷ 0 ∷ 0 ∷ 0 ∷ 0 ∷ 0 ∷ 0 ∷ 0 ∷ 3 ∷
+    6 ∷ 0 ∷ 0 ∷ 0 ∷ 0 ∷ []
+
+abbrev image-5999 : List ℕ
+image-5999 =
+    1 ∷ 0 ∷ 0 ∷ 0 ∷ 0 ∷ 0 ∷ 1 ∷ 0 ∷ 1 ∷ 0 ∷ 1 ∷ 0 ∷ 0 ∷ 0 ∷ 0 ∷ 0 ∷ 0 ∷ 0 ∷ 1 ∷ 0 ∷ 0 ∷ 0 ∷ 0 ∷ 1 ∷
+    2 ∷ 0 ∷ 4 ∷ 0 ∷ 4 ∷ 0 ∷ 0 ∷ 0 ∷ 64 ∷ 0 ∷
+    2 ∷ 0 ∷ 1 ∷ 1 ∷ 7 ∷ 0 ∷ 0 ∷ 0 ∷ 0 ∷ 0 ∷
+    3 ∷ 0 ∷ 0 ∷ 0 ∷ 0 ∷ 0 ∷
+    4 ∷ 0 ∷ 0 ∷ 1 ∷ 1 ∷ 0 ∷ 0 ∷ 0 ∷ 0 ∷ 0 ∷ 0 ∷ 0 ∷ 1 ∷
+    4 ∷ 0 ∷ 0 ∷ 3 ∷ 1 ∷ 0 ∷ 0 ∷ 0 ∷ 0 ∷ 0 ∷ 0 ∷ 0 ∷ 1 ∷
+    4 ∷ 0 ∷ 0 ∷ 0 ∷ 0 ∷ 0 ∷ 0 ∷ 0 ∷ 0 ∷ 0 ∷ 0 ∷ 0 ∷ 0 ∷
+    4 ∷ 3 ∷ 0 ∷ 0 ∷ 1 ∷ 255 ∷ 255 ∷ 255 ∷ 255 ∷ 255 ∷ 255 ∷ 255 ∷ 255 ∷
+    3 ∷ 0 ∷ 0 ∷ 0 ∷ 1 ∷ 1 ∷
+    4 ∷ 1 ∷ 0 ∷ 0 ∷ 1 ∷ 0 ∷ 0 ∷ 0 ∷ 0 ∷ 0 ∷ 0 ∷ 0 ∷ 3 ∷ []
+
+abbrev image-6001 : List ℕ
+image-6001 =
+    1 ∷ 0 ∷ 0 ∷ 0 ∷ 0 ∷ 0 ∷ 1 ∷ 0 ∷ 1 ∷ 0 ∷ 1 ∷ 0 ∷ 0 ∷ 0 ∷ 0 ∷ 0 ∷ 0 ∷ 0 ∷ 1 ∷ 0 ∷ 0 ∷ 0 ∷ 0 ∷ 1 ∷
+    2 ∷ 0 ∷ 4 ∷ 0 ∷ 4 ∷ 0 ∷ 0 ∷ 0 ∷ 64 ∷ 0 ∷
+    2 ∷ 0 ∷ 1 ∷ 1 ∷ 7 ∷ 0 ∷ 0 ∷ 0 ∷ 0 ∷ 0 ∷
+    3 ∷ 0 ∷ 0 ∷ 0 ∷ 0 ∷ 0 ∷
+    4 ∷ 0 ∷ 0 ∷ 1 ∷ 1 ∷ 0 ∷ 0 ∷ 0 ∷ 0 ∷ 0 ∷ 0 ∷ 0 ∷ 1 ∷
+    4 ∷ 0 ∷ 0 ∷ 3 ∷ 1 ∷ 0 ∷ 0 ∷ 0 ∷ 0 ∷ 0 ∷ 0 ∷ 0 ∷ 1 ∷
+    4 ∷ 0 ∷ 0 ∷ 0 ∷ 0 ∷ 0 ∷ 0 ∷ 0 ∷ 0 ∷ 0 ∷ 0 ∷ 0 ∷ 0 ∷
+    4 ∷ 3 ∷ 0 ∷ 0 ∷ 1 ∷ 255 ∷ 255 ∷ 255 ∷ 255 ∷ 255 ∷ 255 ∷ 255 ∷ 255 ∷
+    3 ∷ 0 ∷ 0 ∷ 0 ∷ 1 ∷ 1 ∷
+    4 ∷ 1 ∷ 0 ∷ 0 ∷ 1 ∷ 255 ∷ 255 ∷ 255 ∷ 255 ∷ 255 ∷ 255 ∷ 255 ∷ 255 ∷ []
+
+abbrev image-6002 : List ℕ
+image-6002 =
+    1 ∷ 0 ∷ 0 ∷ 0 ∷ 0 ∷ 0 ∷ 1 ∷ 0 ∷ 1 ∷ 0 ∷ 1 ∷ 0 ∷ 0 ∷ 0 ∷ 0 ∷ 0 ∷ 0 ∷ 0 ∷ 1 ∷ 0 ∷ 0 ∷ 0 ∷ 0 ∷ 1 ∷
+    2 ∷ 0 ∷ 4 ∷ 0 ∷ 4 ∷ 0 ∷ 0 ∷ 0 ∷ 64 ∷ 0 ∷
+    2 ∷ 0 ∷ 1 ∷ 1 ∷ 7 ∷ 0 ∷ 0 ∷ 0 ∷ 0 ∷ 0 ∷
+    3 ∷ 0 ∷ 0 ∷ 0 ∷ 0 ∷ 2 ∷
+    4 ∷ 0 ∷ 0 ∷ 1 ∷ 1 ∷ 0 ∷ 0 ∷ 0 ∷ 0 ∷ 0 ∷ 0 ∷ 0 ∷ 1 ∷
+    4 ∷ 0 ∷ 0 ∷ 3 ∷ 1 ∷ 0 ∷ 0 ∷ 0 ∷ 0 ∷ 0 ∷ 0 ∷ 0 ∷ 1 ∷
+    4 ∷ 0 ∷ 0 ∷ 0 ∷ 0 ∷ 0 ∷ 0 ∷ 0 ∷ 0 ∷ 0 ∷ 0 ∷ 0 ∷ 0 ∷
+    4 ∷ 3 ∷ 0 ∷ 0 ∷ 1 ∷ 255 ∷ 255 ∷ 255 ∷ 255 ∷ 255 ∷ 255 ∷ 255 ∷ 255 ∷
+    3 ∷ 0 ∷ 0 ∷ 0 ∷ 1 ∷ 1 ∷
+    4 ∷ 1 ∷ 0 ∷ 0 ∷ 1 ∷ 255 ∷ 255 ∷ 255 ∷ 255 ∷ 255 ∷ 255 ∷ 255 ∷ 255 ∷ []
+
+abbrev image-6005 : List ℕ
+image-6005 =
+    1 ∷ 0 ∷ 0 ∷ 0 ∷ 0 ∷ 0 ∷ 1 ∷ 0 ∷ 1 ∷ 0 ∷ 1 ∷ 0 ∷ 0 ∷ 0 ∷ 0 ∷ 0 ∷ 0 ∷ 0 ∷ 1 ∷ 0 ∷ 0 ∷ 0 ∷ 0 ∷ 1 ∷
+    2 ∷ 0 ∷ 4 ∷ 0 ∷ 4 ∷ 0 ∷ 0 ∷ 0 ∷ 64 ∷ 0 ∷
+    2 ∷ 0 ∷ 1 ∷ 4 ∷ 7 ∷ 0 ∷ 0 ∷ 0 ∷ 0 ∷ 0 ∷
+    3 ∷ 0 ∷ 0 ∷ 0 ∷ 0 ∷ 2 ∷
+    4 ∷ 0 ∷ 0 ∷ 1 ∷ 1 ∷ 0 ∷ 0 ∷ 0 ∷ 0 ∷ 0 ∷ 0 ∷ 0 ∷ 1 ∷
+    4 ∷ 0 ∷ 0 ∷ 3 ∷ 1 ∷ 0 ∷ 0 ∷ 0 ∷ 0 ∷ 0 ∷ 0 ∷ 0 ∷ 1 ∷
+    4 ∷ 0 ∷ 0 ∷ 0 ∷ 0 ∷ 0 ∷ 0 ∷ 0 ∷ 0 ∷ 0 ∷ 0 ∷ 0 ∷ 0 ∷
+    4 ∷ 3 ∷ 0 ∷ 0 ∷ 1 ∷ 255 ∷ 255 ∷ 255 ∷ 255 ∷ 255 ∷ 255 ∷ 255 ∷ 255 ∷ []
+
+abbrev image-6006 : List ℕ
+image-6006 =
+    1 ∷ 0 ∷ 0 ∷ 0 ∷ 0 ∷ 0 ∷ 1 ∷ 0 ∷ 1 ∷ 0 ∷ 1 ∷ 0 ∷ 0 ∷ 0 ∷ 0 ∷ 0 ∷ 0 ∷ 0 ∷ 1 ∷ 0 ∷ 0 ∷ 0 ∷ 0 ∷ 1 ∷
+    2 ∷ 0 ∷ 4 ∷ 0 ∷ 4 ∷ 0 ∷ 0 ∷ 0 ∷ 64 ∷ 0 ∷
+    2 ∷ 0 ∷ 1 ∷ 4 ∷ 7 ∷ 0 ∷ 0 ∷ 0 ∷ 0 ∷ 0 ∷
+    3 ∷ 0 ∷ 0 ∷ 0 ∷ 0 ∷ 2 ∷
+    4 ∷ 0 ∷ 0 ∷ 1 ∷ 1 ∷ 0 ∷ 0 ∷ 0 ∷ 0 ∷ 0 ∷ 0 ∷ 0 ∷ 1 ∷
+    4 ∷ 3 ∷ 0 ∷ 3 ∷ 1 ∷ 0 ∷ 0 ∷ 0 ∷ 0 ∷ 0 ∷ 0 ∷ 0 ∷ 1 ∷
+    4 ∷ 0 ∷ 0 ∷ 0 ∷ 0 ∷ 0 ∷ 0 ∷ 0 ∷ 0 ∷ 0 ∷ 0 ∷ 0 ∷ 0 ∷
+    4 ∷ 3 ∷ 0 ∷ 0 ∷ 1 ∷ 255 ∷ 255 ∷ 255 ∷ 255 ∷ 255 ∷ 255 ∷ 255 ∷ 255 ∷ []
+
+abbrev image-6007 : List ℕ
+image-6007 =
+    1 ∷ 0 ∷ 0 ∷ 0 ∷ 0 ∷ 0 ∷ 1 ∷ 0 ∷ 1 ∷ 0 ∷ 1 ∷ 0 ∷ 0 ∷ 0 ∷ 0 ∷ 0 ∷ 0 ∷ 0 ∷ 1 ∷ 0 ∷ 0 ∷ 0 ∷ 0 ∷ 1 ∷
+    2 ∷ 0 ∷ 5 ∷ 0 ∷ 4 ∷ 0 ∷ 0 ∷ 0 ∷ 64 ∷ 0 ∷
+    2 ∷ 0 ∷ 1 ∷ 4 ∷ 7 ∷ 0 ∷ 0 ∷ 0 ∷ 0 ∷ 0 ∷
+    3 ∷ 0 ∷ 0 ∷ 0 ∷ 0 ∷ 2 ∷
+    4 ∷ 0 ∷ 0 ∷ 1 ∷ 1 ∷ 0 ∷ 0 ∷ 0 ∷ 0 ∷ 0 ∷ 0 ∷ 0 ∷ 1 ∷
+    4 ∷ 3 ∷ 0 ∷ 3 ∷ 1 ∷ 0 ∷ 0 ∷ 0 ∷ 0 ∷ 0 ∷ 0 ∷ 0 ∷ 1 ∷
+    4 ∷ 0 ∷ 0 ∷ 0 ∷ 0 ∷ 0 ∷ 0 ∷ 0 ∷ 0 ∷ 0 ∷ 0 ∷ 0 ∷ 0 ∷
+    4 ∷ 3 ∷ 0 ∷ 0 ∷ 1 ∷ 255 ∷ 255 ∷ 255 ∷ 255 ∷ 255 ∷ 255 ∷ 255 ∷ 255 ∷ []
+
+-- calls 5984 to 6010
+calls-5984 :
     outcomes none
-    (new-line plenty 3 3
-    ∷ call-line plenty (pick-pieces (asking 175 3 4 1 (some 1) 1 (255 ∷ []) (0 ∷ 0 ∷ [])) 4351 (words 5000 []))
+    (read-line plenty image-5984
+    ∷ call-line plenty (set-piece-priority 1 7 (words 5000 []))
+    ∷ call-line plenty (dec-refcount 0 (words 4352 []))
+    ∷ call-line plenty (pick-pieces (asking 180 1 3 1000 (some 0) 2 (99 ∷ []) []) 4351 (words 4352 []))
+    ∷ call-line (lending 16 1000000 1000000) (question (listOfPicker get-availability-vec 1000000))
+    ∷ call-line plenty (mark-as-canceled 1 0 (some 3) (words 5000 []))
+    ∷ call-line plenty (mark-as-finished 0 3 (some 18446744073709551615) (words 4352 []))
+    ∷ call-line plenty (dec-refcount 0 (words 4352 []))
+    ∷ call-line plenty (pick-pieces (asking 75 3 3 10 (some 0) 2 (255 ∷ []) []) 4351 (words 4352 []))
+    ∷ call-line plenty (inc-refcount 1 (words 4352 []))
+    ∷ call-line plenty (question (list-place 1))
+    ∷ call-line plenty (question (ofPicker is-seeding))
+    ∷ call-line plenty (inc-refcount 1 (words 4352 []))
+    ∷ call-line plenty (mark-as-finished 1 0 none (words 4352 []))
+    ∷ call-line plenty dec-refcount-all
+    ∷ call-line plenty (mark-as-finished 1 0 none (words 4352 []))
+    ∷ call-line plenty (mark-as-canceled 1 0 (some 18446744073709551615) (words 4352 []))
+    ∷ call-line plenty (lock-piece 0)
     ∷ call-line plenty (question (listOfPicker get-availability-vec 1000000))
-    ∷ call-line plenty (mark-as-downloading 0 0 none 61 (words 4352 []))
-    ∷ call-line plenty (lock-piece 1)
-    ∷ [])
-    ≡ outcome stands image-5624
-    ∷ outcome (answered (picked ((pieceBlock 0 0) ∷ []) 10272 (0 ∷ 2 ∷ 0 ∷ 0 ∷ 0 ∷ 0 ∷ 0 ∷ []) 0)) image-5625
-    ∷ outcome (answered (replied (numbers ((some 0) ∷ [])))) image-5625
-    ∷ outcome (answered (said true 0)) image-5627
-    ∷ outcome (answered (refused OutOfRange)) image-5627
-    ∷ []
-unfolding replaying
-calls-5624 = refl
-
-abbrev image-5714 : List ℕ
-image-5714 =
-    1 ∷ 0 ∷ 0 ∷ 0 ∷ 0 ∷ 0 ∷ 1 ∷ 0 ∷ 0 ∷ 0 ∷ 0 ∷ 64 ∷ 0 ∷ 0 ∷ 1 ∷ 0 ∷ 0 ∷ 0 ∷ 2 ∷ 0 ∷ 0 ∷ 0 ∷ 0 ∷ 0 ∷
-    2 ∷ 0 ∷ 0 ∷ 2 ∷ 7 ∷ 0 ∷ 0 ∷ 0 ∷ 0 ∷ 0 ∷
-    2 ∷ 0 ∷ 3 ∷ 3 ∷ 0 ∷ 0 ∷ 0 ∷ 0 ∷ 0 ∷ 0 ∷
-    2 ∷ 3 ∷ 230 ∷ 2 ∷ 4 ∷ 0 ∷ 0 ∷ 0 ∷ 0 ∷ 0 ∷
-    2 ∷ 0 ∷ 1 ∷ 6 ∷ 7 ∷ 0 ∷ 0 ∷ 0 ∷ 0 ∷ 0 ∷
-    3 ∷ 0 ∷ 0 ∷ 0 ∷ 0 ∷ 4 ∷
-    4 ∷ 0 ∷ 3 ∷ 232 ∷ 1 ∷ 255 ∷ 255 ∷ 255 ∷ 255 ∷ 255 ∷ 255 ∷ 255 ∷ 255 ∷
-    3 ∷ 0 ∷ 0 ∷ 0 ∷ 1 ∷ 0 ∷
-    4 ∷ 0 ∷ 0 ∷ 3 ∷ 1 ∷ 0 ∷ 0 ∷ 0 ∷ 0 ∷ 0 ∷ 0 ∷ 0 ∷ 2 ∷
-    3 ∷ 0 ∷ 0 ∷ 0 ∷ 2 ∷ 0 ∷
-    4 ∷ 0 ∷ 0 ∷ 1 ∷ 1 ∷ 0 ∷ 0 ∷ 0 ∷ 0 ∷ 0 ∷ 0 ∷ 0 ∷ 2 ∷
-    3 ∷ 0 ∷ 0 ∷ 0 ∷ 3 ∷ 0 ∷
-    4 ∷ 1 ∷ 3 ∷ 231 ∷ 1 ∷ 0 ∷ 0 ∷ 0 ∷ 0 ∷ 0 ∷ 0 ∷ 0 ∷ 2 ∷
-    6 ∷ 0 ∷ 0 ∷ 0 ∷ 3 ∷ []
-
--- calls 5714 to 5716
-calls-5714 :
-    outcomes none
-    (read-line plenty image-5714
-    ∷ call-line plenty (mark-as-downloading 2 0 (some 0) 227 (words 4351 []))
-    ∷ call-line plenty (question (listOfPiece blocks-for-piece 2 1000000))
-    ∷ [])
-    ≡ outcome stands image-5714
-    ∷ outcome (answered (refused FewDraws)) image-5714
-    ∷ outcome (answered (replied (numbers ((some 0) ∷ (some 1) ∷ (some 2) ∷ [])))) image-5714
-    ∷ []
-unfolding replaying
-calls-5714 = refl
-
-abbrev image-5894 : List ℕ
-image-5894 =
-    1 ∷ 0 ∷ 0 ∷ 0 ∷ 0 ∷ 0 ∷ 0 ∷ 149 ∷ 108 ∷ 0 ∷ 0 ∷ 64 ∷ 0 ∷ 0 ∷ 2 ∷ 0 ∷ 0 ∷ 0 ∷ 3 ∷ 0 ∷ 0 ∷ 0 ∷ 1 ∷ 1 ∷
-    2 ∷ 0 ∷ 2 ∷ 2 ∷ 7 ∷ 0 ∷ 0 ∷ 0 ∷ 0 ∷ 0 ∷
-    2 ∷ 0 ∷ 2 ∷ 4 ∷ 1 ∷ 0 ∷ 0 ∷ 0 ∷ 0 ∷ 0 ∷
-    2 ∷ 0 ∷ 0 ∷ 4 ∷ 1 ∷ 0 ∷ 0 ∷ 0 ∷ 0 ∷ 0 ∷
-    3 ∷ 0 ∷ 0 ∷ 0 ∷ 0 ∷ 5 ∷
-    4 ∷ 3 ∷ 0 ∷ 0 ∷ 0 ∷ 0 ∷ 0 ∷ 0 ∷ 0 ∷ 0 ∷ 0 ∷ 0 ∷ 0 ∷ []
-
-abbrev image-5896 : List ℕ
-image-5896 =
-    1 ∷ 0 ∷ 0 ∷ 0 ∷ 0 ∷ 0 ∷ 0 ∷ 149 ∷ 108 ∷ 0 ∷ 0 ∷ 64 ∷ 0 ∷ 0 ∷ 2 ∷ 0 ∷ 0 ∷ 0 ∷ 3 ∷ 0 ∷ 0 ∷ 0 ∷ 0 ∷ 1 ∷
-    2 ∷ 0 ∷ 2 ∷ 4 ∷ 7 ∷ 1 ∷ 0 ∷ 0 ∷ 0 ∷ 0 ∷
-    2 ∷ 0 ∷ 2 ∷ 4 ∷ 1 ∷ 0 ∷ 0 ∷ 0 ∷ 0 ∷ 0 ∷
-    2 ∷ 0 ∷ 0 ∷ 4 ∷ 1 ∷ 0 ∷ 0 ∷ 0 ∷ 0 ∷ 0 ∷ []
-
--- calls 5894 to 5896
-calls-5894 :
-    outcomes none
-    (read-line plenty image-5894
-    ∷ call-line plenty (piece-passed 1)
-    ∷ call-line plenty (piece-passed 0)
-    ∷ [])
-    ≡ outcome stands image-5894
-    ∷ outcome (answered (done 0)) image-5894
-    ∷ outcome (answered (done 0)) image-5896
-    ∷ []
-unfolding replaying
-calls-5894 = refl
-
-abbrev image-5924 : List ℕ
-image-5924 =
-    1 ∷ 0 ∷ 0 ∷ 0 ∷ 0 ∷ 0 ∷ 0 ∷ 0 ∷ 14 ∷ 0 ∷ 0 ∷ 0 ∷ 3 ∷ 0 ∷ 0 ∷ 0 ∷ 0 ∷ 0 ∷ 2 ∷ 0 ∷ 0 ∷ 0 ∷ 3 ∷ 0 ∷
-    2 ∷ 0 ∷ 3 ∷ 4 ∷ 0 ∷ 1 ∷ 0 ∷ 0 ∷ 0 ∷ 0 ∷
-    2 ∷ 0 ∷ 1 ∷ 4 ∷ 4 ∷ 0 ∷ 0 ∷ 0 ∷ 0 ∷ 3 ∷
-    2 ∷ 3 ∷ 231 ∷ 4 ∷ 4 ∷ 0 ∷ 0 ∷ 0 ∷ 0 ∷ 0 ∷
-    2 ∷ 0 ∷ 2 ∷ 4 ∷ 4 ∷ 0 ∷ 0 ∷ 0 ∷ 0 ∷ 1 ∷
-    2 ∷ 0 ∷ 0 ∷ 4 ∷ 7 ∷ 0 ∷ 0 ∷ 0 ∷ 0 ∷ 0 ∷
-    5 ∷ 0 ∷ 0 ∷ 0 ∷ 0 ∷
-    6 ∷ 0 ∷ 0 ∷ 0 ∷ 1 ∷
-    6 ∷ 0 ∷ 0 ∷ 0 ∷ 3 ∷
-    6 ∷ 0 ∷ 0 ∷ 0 ∷ 2 ∷ []
-
-abbrev image-5925 : List ℕ
-image-5925 =
-    1 ∷ 0 ∷ 0 ∷ 0 ∷ 0 ∷ 0 ∷ 0 ∷ 0 ∷ 14 ∷ 0 ∷ 0 ∷ 0 ∷ 3 ∷ 0 ∷ 0 ∷ 0 ∷ 0 ∷ 0 ∷ 2 ∷ 0 ∷ 0 ∷ 0 ∷ 3 ∷ 0 ∷
-    2 ∷ 0 ∷ 3 ∷ 4 ∷ 0 ∷ 1 ∷ 0 ∷ 0 ∷ 0 ∷ 0 ∷
-    2 ∷ 0 ∷ 1 ∷ 4 ∷ 4 ∷ 0 ∷ 0 ∷ 0 ∷ 0 ∷ 3 ∷
-    2 ∷ 3 ∷ 230 ∷ 4 ∷ 4 ∷ 0 ∷ 0 ∷ 0 ∷ 0 ∷ 0 ∷
-    2 ∷ 0 ∷ 2 ∷ 4 ∷ 4 ∷ 0 ∷ 0 ∷ 0 ∷ 0 ∷ 1 ∷
-    2 ∷ 0 ∷ 0 ∷ 4 ∷ 7 ∷ 0 ∷ 0 ∷ 0 ∷ 0 ∷ 0 ∷
-    5 ∷ 0 ∷ 0 ∷ 0 ∷ 0 ∷
-    6 ∷ 0 ∷ 0 ∷ 0 ∷ 1 ∷
-    6 ∷ 0 ∷ 0 ∷ 0 ∷ 3 ∷
-    6 ∷ 0 ∷ 0 ∷ 0 ∷ 2 ∷ []
-
-abbrev image-5928 : List ℕ
-image-5928 =
-    1 ∷ 0 ∷ 0 ∷ 0 ∷ 0 ∷ 0 ∷ 0 ∷ 0 ∷ 14 ∷ 0 ∷ 0 ∷ 0 ∷ 3 ∷ 0 ∷ 0 ∷ 0 ∷ 0 ∷ 0 ∷ 2 ∷ 0 ∷ 0 ∷ 0 ∷ 3 ∷ 0 ∷
-    2 ∷ 0 ∷ 3 ∷ 4 ∷ 0 ∷ 1 ∷ 0 ∷ 0 ∷ 0 ∷ 0 ∷
-    2 ∷ 0 ∷ 1 ∷ 4 ∷ 4 ∷ 0 ∷ 0 ∷ 0 ∷ 0 ∷ 3 ∷
-    2 ∷ 3 ∷ 230 ∷ 2 ∷ 4 ∷ 0 ∷ 0 ∷ 0 ∷ 0 ∷ 0 ∷
-    2 ∷ 0 ∷ 2 ∷ 4 ∷ 4 ∷ 0 ∷ 0 ∷ 0 ∷ 0 ∷ 1 ∷
-    2 ∷ 0 ∷ 0 ∷ 4 ∷ 7 ∷ 0 ∷ 0 ∷ 0 ∷ 0 ∷ 0 ∷
-    3 ∷ 0 ∷ 0 ∷ 0 ∷ 2 ∷ 0 ∷
-    4 ∷ 3 ∷ 0 ∷ 0 ∷ 0 ∷ 0 ∷ 0 ∷ 0 ∷ 0 ∷ 0 ∷ 0 ∷ 0 ∷ 0 ∷
-    5 ∷ 0 ∷ 0 ∷ 0 ∷ 0 ∷
-    6 ∷ 0 ∷ 0 ∷ 0 ∷ 1 ∷
-    6 ∷ 0 ∷ 0 ∷ 0 ∷ 3 ∷ []
-
-abbrev image-5930 : List ℕ
-image-5930 =
-    1 ∷ 0 ∷ 0 ∷ 0 ∷ 0 ∷ 0 ∷ 0 ∷ 0 ∷ 14 ∷ 0 ∷ 0 ∷ 0 ∷ 3 ∷ 0 ∷ 0 ∷ 0 ∷ 0 ∷ 0 ∷ 2 ∷ 0 ∷ 0 ∷ 0 ∷ 3 ∷ 0 ∷
-    2 ∷ 0 ∷ 4 ∷ 4 ∷ 0 ∷ 1 ∷ 0 ∷ 0 ∷ 0 ∷ 0 ∷
-    2 ∷ 0 ∷ 1 ∷ 4 ∷ 4 ∷ 0 ∷ 0 ∷ 0 ∷ 0 ∷ 3 ∷
-    2 ∷ 3 ∷ 230 ∷ 2 ∷ 4 ∷ 0 ∷ 0 ∷ 0 ∷ 0 ∷ 0 ∷
-    2 ∷ 0 ∷ 2 ∷ 4 ∷ 4 ∷ 0 ∷ 0 ∷ 0 ∷ 0 ∷ 1 ∷
-    2 ∷ 0 ∷ 0 ∷ 4 ∷ 7 ∷ 0 ∷ 0 ∷ 0 ∷ 0 ∷ 0 ∷
-    3 ∷ 0 ∷ 0 ∷ 0 ∷ 2 ∷ 0 ∷
-    4 ∷ 3 ∷ 0 ∷ 0 ∷ 0 ∷ 0 ∷ 0 ∷ 0 ∷ 0 ∷ 0 ∷ 0 ∷ 0 ∷ 0 ∷
-    5 ∷ 0 ∷ 0 ∷ 0 ∷ 0 ∷
-    6 ∷ 0 ∷ 0 ∷ 0 ∷ 1 ∷
-    6 ∷ 0 ∷ 0 ∷ 0 ∷ 3 ∷ []
-
--- calls 5924 to 5933
-calls-5924 :
-    outcomes none
-    (read-line plenty image-5924
-    ∷ call-line plenty (dec-refcount 2 (words 4352 []))
-    ∷ call-line plenty (question (list-place 2))
-    ∷ call-line plenty (mark-as-downloading 0 0 (some 3) 63658 (words 4352 []))
-    ∷ call-line plenty (mark-as-finished 2 0 none (words 4352 []))
-    ∷ call-line plenty (abort-download 2 0 (some 2) (words 4352 []))
+    ∷ call-line plenty (mark-as-downloading 0 2 (some 3) 130 (words 1 []))
+    ∷ call-line plenty (abort-download 1 0 (some 18446744073709551615) (words 4352 []))
+    ∷ call-line plenty (mark-as-finished 0 1 (some 1) (words 4352 []))
     ∷ call-line plenty (inc-refcount 0 (words 4352 []))
-    ∷ call-line plenty (mark-as-finished 0 0 none (words 4352 []))
-    ∷ call-line plenty (mark-as-downloading 2 0 (some 1) 61505 (words 4352 []))
-    ∷ call-line (lending 30 35 4) (question (ofPiece get-availability 1))
+    ∷ call-line plenty (abort-download 0 2 (some 2) (words 5000 []))
+    ∷ call-line plenty (mark-as-writing 0 3 (some 18446744073709551615) (words 4352 []))
+    ∷ call-line (lending 27 32 1) (question (ofPiece get-availability 0))
     ∷ [])
-    ≡ outcome stands image-5924
-    ∷ outcome (answered (done 0)) image-5925
-    ∷ outcome (answered (replied (numbers ((some 2) ∷ [])))) image-5925
-    ∷ outcome (answered (refused HavePiece)) image-5925
-    ∷ outcome (answered (done 0)) image-5928
-    ∷ outcome (answered (done 0)) image-5928
-    ∷ outcome (answered (done 0)) image-5930
-    ∷ outcome (answered (done 0)) image-5930
-    ∷ outcome (answered (said false 0)) image-5930
-    ∷ outcome (answered (refused ShortMemory)) image-5930
+    ≡ outcome stands image-5984
+    ∷ outcome (answered (said false 0)) image-5986
+    ∷ outcome (answered (done 0)) image-5987
+    ∷ outcome (answered (picked [] 10240 (0 ∷ 0 ∷ 0 ∷ 0 ∷ 0 ∷ 0 ∷ 0 ∷ []) 0)) image-5988
+    ∷ outcome (answered (refused ShortMemory)) image-5988
+    ∷ outcome (answered (done 0)) image-5990
+    ∷ outcome (answered (done 0)) image-5991
+    ∷ outcome (answered (done 0)) image-5992
+    ∷ outcome (answered (picked ((pieceBlock 0 0) ∷ (pieceBlock 0 1) ∷ (pieceBlock 0 2) ∷ []) 2054 (1 ∷ 0 ∷ 0 ∷ 0 ∷ 0 ∷ 0 ∷ 0 ∷ []) 0)) image-5992
+    ∷ outcome (answered (done 0)) image-5994
+    ∷ outcome (answered (refused OutOfRange)) image-5994
+    ∷ outcome (answered (replied (numbers ((some 0) ∷ [])))) image-5994
+    ∷ outcome (answered (done 0)) image-5997
+    ∷ outcome (answered (refused NotWriting)) image-5997
+    ∷ outcome (answered (done 0)) image-5999
+    ∷ outcome (answered (refused NotWriting)) image-5999
+    ∷ outcome (answered (done 0)) image-6001
+    ∷ outcome (answered (done 0)) image-6002
+    ∷ outcome (answered (replied (numbers ((some 4) ∷ (some 1) ∷ [])))) image-6002
+    ∷ outcome (answered (refused FewDraws)) image-6002
+    ∷ outcome (answered (done 0)) image-6005
+    ∷ outcome (answered (done 0)) image-6006
+    ∷ outcome (answered (done 0)) image-6007
+    ∷ outcome (answered (done 0)) image-6007
+    ∷ outcome (answered (said false 0)) image-6007
+    ∷ outcome (answered (refused ShortMemory)) image-6007
     ∷ []
 unfolding replaying
-calls-5924 = refl
-
-abbrev image-5985 : List ℕ
-image-5985 =
-    1 ∷ 0 ∷ 0 ∷ 0 ∷ 0 ∷ 0 ∷ 0 ∷ 0 ∷ 3 ∷ 0 ∷ 0 ∷ 0 ∷ 3 ∷ 0 ∷ 2 ∷ 0 ∷ 0 ∷ 0 ∷ 0 ∷ 0 ∷ 0 ∷ 0 ∷ 1 ∷ 1 ∷
-    2 ∷ 0 ∷ 2 ∷ 3 ∷ 0 ∷ 0 ∷ 0 ∷ 0 ∷ 0 ∷ 0 ∷
-    3 ∷ 0 ∷ 0 ∷ 0 ∷ 0 ∷ 0 ∷
-    4 ∷ 0 ∷ 0 ∷ 0 ∷ 0 ∷ 0 ∷ 0 ∷ 0 ∷ 0 ∷ 0 ∷ 0 ∷ 0 ∷ 0 ∷ []
-
--- calls 5985 to 5987
-calls-5985 :
-    outcomes none
-    (read-line plenty image-5985
-    ∷ call-line plenty (pick-pieces (asking 3502 40 2 0 (some 2) 1 (255 ∷ []) []) 4351 (words 4352 (2653057237 ∷ [])))
-    ∷ call-line plenty (mark-as-writing 0 0 (some 2) (words 1 []))
-    ∷ [])
-    ≡ outcome stands image-5985
-    ∷ outcome (answered (picked [] 10240 (0 ∷ 0 ∷ 0 ∷ 0 ∷ 1 ∷ 0 ∷ 0 ∷ []) 1)) image-5985
-    ∷ outcome (answered (refused FewDraws)) image-5985
-    ∷ []
-unfolding replaying
-calls-5985 = refl
+calls-5984 = refl
 
 abbrev image-6055 : List ℕ
 image-6055 =
@@ -656,6 +310,71 @@ calls-6055 :
     ∷ []
 unfolding replaying
 calls-6055 = refl
+
+abbrev image-6186 : List ℕ
+image-6186 =
+    1 ∷ 0 ∷ 0 ∷ 0 ∷ 0 ∷ 0 ∷ 0 ∷ 0 ∷ 2 ∷ 0 ∷ 0 ∷ 0 ∷ 1 ∷ 0 ∷ 0 ∷ 0 ∷ 0 ∷ 0 ∷ 0 ∷ 0 ∷ 0 ∷ 0 ∷ 2 ∷ 0 ∷
+    2 ∷ 0 ∷ 1 ∷ 1 ∷ 4 ∷ 0 ∷ 0 ∷ 0 ∷ 0 ∷ 0 ∷
+    2 ∷ 0 ∷ 1 ∷ 4 ∷ 4 ∷ 0 ∷ 0 ∷ 0 ∷ 0 ∷ 0 ∷
+    3 ∷ 0 ∷ 0 ∷ 0 ∷ 0 ∷ 0 ∷
+    4 ∷ 0 ∷ 0 ∷ 2 ∷ 0 ∷ 0 ∷ 0 ∷ 0 ∷ 0 ∷ 0 ∷ 0 ∷ 0 ∷ 0 ∷
+    6 ∷ 0 ∷ 0 ∷ 0 ∷ 1 ∷ []
+
+abbrev image-6187 : List ℕ
+image-6187 =
+    1 ∷ 0 ∷ 0 ∷ 0 ∷ 0 ∷ 0 ∷ 0 ∷ 0 ∷ 2 ∷ 0 ∷ 0 ∷ 0 ∷ 1 ∷ 0 ∷ 0 ∷ 0 ∷ 0 ∷ 0 ∷ 0 ∷ 0 ∷ 0 ∷ 0 ∷ 2 ∷ 0 ∷
+    2 ∷ 0 ∷ 1 ∷ 1 ∷ 4 ∷ 0 ∷ 0 ∷ 0 ∷ 0 ∷ 0 ∷
+    2 ∷ 0 ∷ 1 ∷ 4 ∷ 4 ∷ 0 ∷ 0 ∷ 0 ∷ 0 ∷ 0 ∷
+    3 ∷ 0 ∷ 0 ∷ 0 ∷ 0 ∷ 0 ∷
+    4 ∷ 0 ∷ 0 ∷ 2 ∷ 1 ∷ 0 ∷ 0 ∷ 0 ∷ 0 ∷ 0 ∷ 0 ∷ 0 ∷ 4 ∷
+    6 ∷ 0 ∷ 0 ∷ 0 ∷ 1 ∷ []
+
+-- calls 6186 to 6190
+calls-6186 :
+    outcomes none
+    (read-line plenty image-6186
+    ∷ call-line plenty (mark-as-canceled 0 0 (some 4) (words 4352 []))
+    ∷ call-line plenty (question (ofPiece download-state 0))
+    ∷ call-line plenty (question (ofBlock block-peer 0 0))
+    ∷ call-line plenty (question (ofBlock block-num-peers 0 0))
+    ∷ [])
+    ≡ outcome stands image-6186
+    ∷ outcome (answered (done 0)) image-6187
+    ∷ outcome (answered (replied (numbers ((some 1) ∷ [])))) image-6187
+    ∷ outcome (answered (replied (numbers ((some 4) ∷ [])))) image-6187
+    ∷ outcome (answered (replied (numbers ((some 2) ∷ [])))) image-6187
+    ∷ []
+unfolding replaying
+calls-6186 = refl
+
+abbrev image-6225 : List ℕ
+image-6225 =
+    1 ∷ 0 ∷ 0 ∷ 0 ∷ 0 ∷ 0 ∷ 1 ∷ 0 ∷ 0 ∷ 0 ∷ 0 ∷ 128 ∷ 0 ∷ 0 ∷ 0 ∷ 0 ∷ 0 ∷ 0 ∷ 0 ∷ 0 ∷ 0 ∷ 0 ∷ 2 ∷ 1 ∷
+    2 ∷ 0 ∷ 0 ∷ 4 ∷ 4 ∷ 0 ∷ 0 ∷ 0 ∷ 0 ∷ 0 ∷
+    2 ∷ 0 ∷ 0 ∷ 4 ∷ 4 ∷ 0 ∷ 0 ∷ 0 ∷ 0 ∷ 0 ∷ []
+
+abbrev image-6226 : List ℕ
+image-6226 =
+    1 ∷ 0 ∷ 0 ∷ 0 ∷ 0 ∷ 0 ∷ 1 ∷ 0 ∷ 0 ∷ 0 ∷ 0 ∷ 128 ∷ 0 ∷ 0 ∷ 0 ∷ 0 ∷ 0 ∷ 0 ∷ 0 ∷ 0 ∷ 0 ∷ 0 ∷ 2 ∷ 1 ∷
+    2 ∷ 0 ∷ 0 ∷ 0 ∷ 4 ∷ 0 ∷ 0 ∷ 0 ∷ 0 ∷ 0 ∷
+    2 ∷ 0 ∷ 0 ∷ 4 ∷ 4 ∷ 0 ∷ 0 ∷ 0 ∷ 0 ∷ 0 ∷
+    3 ∷ 0 ∷ 0 ∷ 0 ∷ 0 ∷ 0 ∷
+    4 ∷ 2 ∷ 0 ∷ 0 ∷ 1 ∷ 0 ∷ 0 ∷ 0 ∷ 0 ∷ 0 ∷ 0 ∷ 0 ∷ 5 ∷
+    4 ∷ 0 ∷ 0 ∷ 0 ∷ 0 ∷ 0 ∷ 0 ∷ 0 ∷ 0 ∷ 0 ∷ 0 ∷ 0 ∷ 0 ∷ []
+
+-- calls 6225 to 6227
+calls-6225 :
+    outcomes none
+    (new-line plenty 65536 32768
+    ∷ call-line plenty (mark-as-writing 0 0 (some 5) (words 4352 []))
+    ∷ call-line (lending 15 1000000 1000000) (mark-as-canceled 2 0 none (words 4351 []))
+    ∷ [])
+    ≡ outcome stands image-6225
+    ∷ outcome (answered (said true 0)) image-6226
+    ∷ outcome (answered (refused ShortMemory)) image-6226
+    ∷ []
+unfolding replaying
+calls-6225 = refl
 
 -- call 6413
 calls-6413 :
@@ -778,7 +497,7 @@ image-6548 =
     4 ∷ 3 ∷ 0 ∷ 0 ∷ 0 ∷ 0 ∷ 0 ∷ 0 ∷ 0 ∷ 0 ∷ 0 ∷ 0 ∷ 0 ∷
     5 ∷ 0 ∷ 0 ∷ 0 ∷ 0 ∷ []
 
--- calls 6548 to 6573
+-- calls 6548 to 6627
 calls-6548 :
     outcomes none
     (read-line plenty image-6548
@@ -807,6 +526,60 @@ calls-6548 :
     ∷ call-line plenty (question (listOfPicker get-download-queue 1000000))
     ∷ call-line plenty (question (ofPicker total-size))
     ∷ call-line plenty (question (ofPicker full-piece-size))
+    ∷ call-line plenty (question (ofPicker dirty?))
+    ∷ call-line plenty (question (ofPiece blocks-in-piece 0))
+    ∷ call-line plenty (question (ofPiece blocks-in-piece 1))
+    ∷ call-line plenty (question (ofPiece blocks-in-piece 2))
+    ∷ call-line plenty (question (ofPiece payload-blocks-in-piece 0))
+    ∷ call-line plenty (question (ofPiece payload-blocks-in-piece 1))
+    ∷ call-line plenty (question (ofPiece payload-blocks-in-piece 2))
+    ∷ call-line plenty (question (ofPiece piece-size 0))
+    ∷ call-line plenty (question (ofPiece piece-size 1))
+    ∷ call-line plenty (question (ofPiece piece-size 2))
+    ∷ call-line plenty (question (ofPiece pad-bytes-in-piece 0))
+    ∷ call-line plenty (question (ofPiece pad-bytes-in-piece 1))
+    ∷ call-line plenty (question (ofPiece pad-bytes-in-piece 2))
+    ∷ call-line plenty (question (ofPiece get-availability 0))
+    ∷ call-line plenty (question (ofPiece get-availability 1))
+    ∷ call-line plenty (question (ofPiece get-availability 2))
+    ∷ call-line plenty (question (ofPiece have-piece 0))
+    ∷ call-line plenty (question (ofPiece have-piece 1))
+    ∷ call-line plenty (question (ofPiece have-piece 2))
+    ∷ call-line plenty (question (ofPiece is-piece-finished 0))
+    ∷ call-line plenty (question (ofPiece is-piece-finished 1))
+    ∷ call-line plenty (question (ofPiece is-piece-finished 2))
+    ∷ call-line plenty (question (ofPiece is-downloading 0))
+    ∷ call-line plenty (question (ofPiece is-downloading 1))
+    ∷ call-line plenty (question (ofPiece is-downloading 2))
+    ∷ call-line plenty (question (ofPiece is-hashing 0))
+    ∷ call-line plenty (question (ofPiece is-hashing 1))
+    ∷ call-line plenty (question (ofPiece is-hashing 2))
+    ∷ call-line plenty (question (ofPiece is-piece-flushed 0))
+    ∷ call-line plenty (question (ofPiece is-piece-flushed 1))
+    ∷ call-line plenty (question (ofPiece is-piece-flushed 2))
+    ∷ call-line plenty (question (ofPiece piece-priority 0))
+    ∷ call-line plenty (question (ofPiece piece-priority 1))
+    ∷ call-line plenty (question (ofPiece piece-priority 2))
+    ∷ call-line plenty (question (ofPiece piece-stats 0))
+    ∷ call-line plenty (question (ofPiece piece-stats 1))
+    ∷ call-line plenty (question (ofPiece piece-stats 2))
+    ∷ call-line plenty (question (ofPiece piece-info 0))
+    ∷ call-line plenty (question (ofPiece piece-info 1))
+    ∷ call-line plenty (question (ofPiece piece-info 2))
+    ∷ call-line plenty (question (listOfPiece get-downloaders 0 1000000))
+    ∷ call-line plenty (question (listOfPiece get-downloaders 1 1000000))
+    ∷ call-line plenty (question (listOfPiece get-downloaders 2 1000000))
+    ∷ call-line plenty (question (listOfPiece blocks-for-piece 0 1000000))
+    ∷ call-line plenty (question (listOfPiece blocks-for-piece 1 1000000))
+    ∷ call-line plenty (question (listOfPiece blocks-for-piece 2 1000000))
+    ∷ call-line plenty (question (ofPiece peer-count 0))
+    ∷ call-line plenty (question (ofPiece peer-count 1))
+    ∷ call-line plenty (question (ofPiece peer-count 2))
+    ∷ call-line plenty (question (ofPiece download-state 0))
+    ∷ call-line plenty (question (ofPiece download-state 1))
+    ∷ call-line plenty (question (ofPiece download-state 2))
+    ∷ call-line plenty (question (ofPiece passed-hash-check 0))
+    ∷ call-line plenty (question (ofPiece passed-hash-check 1))
     ∷ [])
     ≡ outcome stands image-6548
     ∷ outcome (answered (replied (numbers ((some 3) ∷ [])))) image-6548
@@ -834,6 +607,60 @@ calls-6548 :
     ∷ outcome (answered (replied (numbers ((some 0) ∷ (some 1) ∷ (some 0) ∷ (some 0) ∷ (some 1) ∷ (some 1) ∷ (some 1) ∷ [])))) image-6548
     ∷ outcome (answered (replied (numbers ((some 98299) ∷ [])))) image-6548
     ∷ outcome (answered (replied (numbers ((some 32768) ∷ [])))) image-6548
+    ∷ outcome (answered (replied (numbers ((some 1) ∷ [])))) image-6548
+    ∷ outcome (answered (replied (numbers ((some 2) ∷ [])))) image-6548
+    ∷ outcome (answered (replied (numbers ((some 2) ∷ [])))) image-6548
+    ∷ outcome (answered (replied (numbers ((some 2) ∷ [])))) image-6548
+    ∷ outcome (answered (replied (numbers ((some 1) ∷ [])))) image-6548
+    ∷ outcome (answered (replied (numbers ((some 2) ∷ [])))) image-6548
+    ∷ outcome (answered (replied (numbers ((some 2) ∷ [])))) image-6548
+    ∷ outcome (answered (replied (numbers ((some 32768) ∷ [])))) image-6548
+    ∷ outcome (answered (replied (numbers ((some 32768) ∷ [])))) image-6548
+    ∷ outcome (answered (replied (numbers ((some 32763) ∷ [])))) image-6548
+    ∷ outcome (answered (replied (numbers ((some 16384) ∷ [])))) image-6548
+    ∷ outcome (answered (replied (numbers ((some 0) ∷ [])))) image-6548
+    ∷ outcome (answered (replied (numbers ((some 7) ∷ [])))) image-6548
+    ∷ outcome (answered (replied (numbers ((some 3) ∷ [])))) image-6548
+    ∷ outcome (answered (replied (numbers ((some 1) ∷ [])))) image-6548
+    ∷ outcome (answered (replied (numbers ((some 2) ∷ [])))) image-6548
+    ∷ outcome (answered (replied (numbers ((some 0) ∷ [])))) image-6548
+    ∷ outcome (answered (replied (numbers ((some 0) ∷ [])))) image-6548
+    ∷ outcome (answered (replied (numbers ((some 1) ∷ [])))) image-6548
+    ∷ outcome (answered (replied (numbers ((some 0) ∷ [])))) image-6548
+    ∷ outcome (answered (replied (numbers ((some 0) ∷ [])))) image-6548
+    ∷ outcome (answered (replied (numbers ((some 1) ∷ [])))) image-6548
+    ∷ outcome (answered (replied (numbers ((some 1) ∷ [])))) image-6548
+    ∷ outcome (answered (replied (numbers ((some 0) ∷ [])))) image-6548
+    ∷ outcome (answered (replied (numbers ((some 0) ∷ [])))) image-6548
+    ∷ outcome (answered (replied (numbers ((some 1) ∷ [])))) image-6548
+    ∷ outcome (answered (replied (numbers ((some 0) ∷ [])))) image-6548
+    ∷ outcome (answered (replied (numbers ((some 0) ∷ [])))) image-6548
+    ∷ outcome (answered (replied (numbers ((some 0) ∷ [])))) image-6548
+    ∷ outcome (answered (replied (numbers ((some 0) ∷ [])))) image-6548
+    ∷ outcome (answered (replied (numbers ((some 1) ∷ [])))) image-6548
+    ∷ outcome (answered (replied (numbers ((some 7) ∷ [])))) image-6548
+    ∷ outcome (answered (replied (numbers ((some 0) ∷ [])))) image-6548
+    ∷ outcome (answered (replied (numbers ((some 4) ∷ [])))) image-6548
+    ∷ outcome (answered (replied (numbers ((some 3) ∷ none ∷ (some 0) ∷ (some 1) ∷ [])))) image-6548
+    ∷ outcome (answered (replied (numbers ((some 1) ∷ none ∷ (some 0) ∷ (some 0) ∷ [])))) image-6548
+    ∷ outcome (answered (replied (numbers ((some 2) ∷ none ∷ (some 1) ∷ (some 0) ∷ [])))) image-6548
+    ∷ outcome (answered (replied (numbers ((some 0) ∷ (some 1) ∷ (some 0) ∷ (some 0) ∷ (some 1) ∷ (some 1) ∷ (some 1) ∷ [])))) image-6548
+    ∷ outcome (answered (replied (numbers ((some 1) ∷ (some 0) ∷ (some 0) ∷ (some 0) ∷ (some 0) ∷ (some 0) ∷ (some 0) ∷ [])))) image-6548
+    ∷ outcome (answered (replied (numbers ((some 2) ∷ (some 2) ∷ (some 0) ∷ (some 0) ∷ (some 0) ∷ (some 0) ∷ (some 0) ∷ [])))) image-6548
+    ∷ outcome (answered (replied (numbers ((some 18446744073709551615) ∷ none ∷ [])))) image-6548
+    ∷ outcome (answered (replied (numbers (none ∷ none ∷ [])))) image-6548
+    ∷ outcome (answered (replied (numbers (none ∷ none ∷ [])))) image-6548
+    ∷ outcome (answered (replied (numbers ((some 1) ∷ (some 2) ∷ (some 18446744073709551615) ∷ (some 3) ∷ (some 0) ∷ none ∷ [])))) image-6548
+    ∷ outcome (answered (replied nothing)) image-6548
+    ∷ outcome (answered (replied nothing)) image-6548
+    ∷ outcome (answered (replied (numbers ((some 2) ∷ [])))) image-6548
+    ∷ outcome (answered (replied (numbers ((some 0) ∷ [])))) image-6548
+    ∷ outcome (answered (replied (numbers ((some 1) ∷ [])))) image-6548
+    ∷ outcome (answered (replied (numbers ((some 1) ∷ [])))) image-6548
+    ∷ outcome (answered (replied (numbers ((some 4) ∷ [])))) image-6548
+    ∷ outcome (answered (replied (numbers ((some 4) ∷ [])))) image-6548
+    ∷ outcome (answered (replied (numbers ((some 0) ∷ [])))) image-6548
+    ∷ outcome (answered (replied nothing)) image-6548
     ∷ []
 unfolding replaying
 calls-6548 = refl
@@ -936,30 +763,6 @@ calls-6709 :
 unfolding replaying
 calls-6709 = refl
 
-abbrev image-6759 : List ℕ
-image-6759 =
-    1 ∷ 0 ∷ 0 ∷ 0 ∷ 0 ∷ 0 ∷ 1 ∷ 128 ∷ 0 ∷ 0 ∷ 0 ∷ 128 ∷ 0 ∷ 0 ∷ 0 ∷ 0 ∷ 0 ∷ 0 ∷ 0 ∷ 0 ∷ 0 ∷ 0 ∷ 3 ∷ 1 ∷
-    2 ∷ 3 ∷ 232 ∷ 0 ∷ 4 ∷ 0 ∷ 0 ∷ 0 ∷ 0 ∷ 0 ∷
-    2 ∷ 0 ∷ 0 ∷ 4 ∷ 4 ∷ 0 ∷ 0 ∷ 0 ∷ 0 ∷ 0 ∷
-    2 ∷ 0 ∷ 0 ∷ 4 ∷ 4 ∷ 1 ∷ 0 ∷ 0 ∷ 0 ∷ 0 ∷
-    3 ∷ 0 ∷ 0 ∷ 0 ∷ 0 ∷ 0 ∷
-    4 ∷ 1 ∷ 3 ∷ 232 ∷ 1 ∷ 0 ∷ 0 ∷ 0 ∷ 0 ∷ 0 ∷ 0 ∷ 0 ∷ 4 ∷
-    4 ∷ 0 ∷ 3 ∷ 232 ∷ 0 ∷ 0 ∷ 0 ∷ 0 ∷ 0 ∷ 0 ∷ 0 ∷ 0 ∷ 0 ∷ []
-
--- calls 6759 to 6761
-calls-6759 :
-    outcomes none
-    (read-line plenty image-6759
-    ∷ call-line plenty (inc-refcount 0 (words 4352 []))
-    ∷ call-line plenty inc-refcount-all
-    ∷ [])
-    ≡ outcome stands image-6759
-    ∷ outcome (answered (refused TooManyPeers)) image-6759
-    ∷ outcome (answered (refused TooManyPeers)) image-6759
-    ∷ []
-unfolding replaying
-calls-6759 = refl
-
 abbrev image-6797 : List ℕ
 image-6797 =
     1 ∷ 0 ∷ 0 ∷ 0 ∷ 0 ∷ 0 ∷ 1 ∷ 128 ∷ 0 ∷ 0 ∷ 0 ∷ 128 ∷ 0 ∷ 0 ∷ 0 ∷ 0 ∷ 0 ∷ 0 ∷ 0 ∷ 0 ∷ 0 ∷ 0 ∷ 3 ∷ 1 ∷
@@ -989,50 +792,30 @@ image-6816 =
     4 ∷ 0 ∷ 0 ∷ 0 ∷ 0 ∷ 0 ∷ 0 ∷ 0 ∷ 0 ∷ 0 ∷ 0 ∷ 0 ∷ 0 ∷
     6 ∷ 0 ∷ 0 ∷ 0 ∷ 1 ∷ []
 
--- calls 6816 to 6817
+abbrev image-6818 : List ℕ
+image-6818 =
+    1 ∷ 0 ∷ 0 ∷ 0 ∷ 0 ∷ 0 ∷ 1 ∷ 0 ∷ 0 ∷ 0 ∷ 0 ∷ 128 ∷ 0 ∷ 0 ∷ 0 ∷ 0 ∷ 0 ∷ 0 ∷ 0 ∷ 0 ∷ 0 ∷ 0 ∷ 2 ∷ 1 ∷
+    2 ∷ 0 ∷ 1 ∷ 5 ∷ 4 ∷ 0 ∷ 0 ∷ 0 ∷ 0 ∷ 0 ∷
+    2 ∷ 0 ∷ 1 ∷ 4 ∷ 4 ∷ 0 ∷ 0 ∷ 0 ∷ 0 ∷ 0 ∷
+    3 ∷ 0 ∷ 0 ∷ 0 ∷ 0 ∷ 0 ∷
+    4 ∷ 0 ∷ 0 ∷ 0 ∷ 0 ∷ 0 ∷ 0 ∷ 0 ∷ 0 ∷ 0 ∷ 0 ∷ 0 ∷ 0 ∷
+    4 ∷ 1 ∷ 0 ∷ 1 ∷ 1 ∷ 0 ∷ 0 ∷ 0 ∷ 0 ∷ 0 ∷ 0 ∷ 0 ∷ 3 ∷ []
+
+-- calls 6816 to 6819
 calls-6816 :
     outcomes none
     (read-line plenty image-6816
     ∷ call-line plenty (question (list-place 0))
+    ∷ call-line plenty (mark-as-downloading 0 1 (some 3) 2 (words 4352 []))
+    ∷ call-line plenty (question (list-place 0))
     ∷ [])
     ≡ outcome stands image-6816
     ∷ outcome (answered (replied (numbers ((some 1) ∷ [])))) image-6816
+    ∷ outcome (answered (said true 0)) image-6818
+    ∷ outcome (answered (replied staleList)) image-6818
     ∷ []
 unfolding replaying
 calls-6816 = refl
-
-abbrev image-6823 : List ℕ
-image-6823 =
-    1 ∷ 0 ∷ 0 ∷ 0 ∷ 0 ∷ 0 ∷ 0 ∷ 128 ∷ 0 ∷ 0 ∷ 0 ∷ 64 ∷ 0 ∷ 0 ∷ 0 ∷ 0 ∷ 0 ∷ 0 ∷ 0 ∷ 0 ∷ 0 ∷ 0 ∷ 2 ∷ 0 ∷
-    2 ∷ 0 ∷ 1 ∷ 1 ∷ 4 ∷ 0 ∷ 0 ∷ 0 ∷ 0 ∷ 0 ∷
-    2 ∷ 0 ∷ 1 ∷ 4 ∷ 4 ∷ 0 ∷ 0 ∷ 0 ∷ 0 ∷ 0 ∷
-    3 ∷ 0 ∷ 0 ∷ 0 ∷ 0 ∷ 0 ∷
-    4 ∷ 0 ∷ 0 ∷ 0 ∷ 0 ∷ 0 ∷ 0 ∷ 0 ∷ 0 ∷ 0 ∷ 0 ∷ 0 ∷ 0 ∷
-    6 ∷ 0 ∷ 0 ∷ 0 ∷ 1 ∷ []
-
-abbrev image-6824 : List ℕ
-image-6824 =
-    1 ∷ 0 ∷ 0 ∷ 0 ∷ 0 ∷ 0 ∷ 0 ∷ 128 ∷ 0 ∷ 0 ∷ 0 ∷ 64 ∷ 0 ∷ 0 ∷ 0 ∷ 0 ∷ 0 ∷ 0 ∷ 0 ∷ 0 ∷ 0 ∷ 0 ∷ 2 ∷ 1 ∷
-    2 ∷ 0 ∷ 1 ∷ 6 ∷ 4 ∷ 0 ∷ 0 ∷ 0 ∷ 0 ∷ 0 ∷
-    2 ∷ 0 ∷ 1 ∷ 4 ∷ 4 ∷ 0 ∷ 0 ∷ 0 ∷ 0 ∷ 0 ∷
-    3 ∷ 0 ∷ 0 ∷ 0 ∷ 0 ∷ 0 ∷
-    4 ∷ 1 ∷ 0 ∷ 1 ∷ 1 ∷ 0 ∷ 0 ∷ 0 ∷ 0 ∷ 0 ∷ 0 ∷ 0 ∷ 3 ∷ []
-
--- calls 6823 to 6826
-calls-6823 :
-    outcomes none
-    (read-line plenty image-6823
-    ∷ call-line plenty (mark-as-downloading 0 0 (some 3) 2 (words 4352 []))
-    ∷ call-line plenty (question (ofPiece download-state 0))
-    ∷ call-line plenty (question (ofPicker dirty?))
-    ∷ [])
-    ≡ outcome stands image-6823
-    ∷ outcome (answered (said true 0)) image-6824
-    ∷ outcome (answered (replied (numbers ((some 6) ∷ [])))) image-6824
-    ∷ outcome (answered (replied (numbers ((some 1) ∷ [])))) image-6824
-    ∷ []
-unfolding replaying
-calls-6823 = refl
 
 abbrev image-6875 : List ℕ
 image-6875 =
@@ -1048,18 +831,20 @@ image-6876 =
     3 ∷ 0 ∷ 0 ∷ 0 ∷ 1 ∷ 0 ∷
     4 ∷ 2 ∷ 0 ∷ 0 ∷ 1 ∷ 0 ∷ 0 ∷ 0 ∷ 0 ∷ 0 ∷ 0 ∷ 0 ∷ 7 ∷ []
 
--- calls 6875 to 6878
+-- calls 6875 to 6879
 calls-6875 :
     outcomes none
     (new-line plenty 32769 32768
     ∷ call-line plenty (mark-as-writing 1 0 (some 7) (words 4352 []))
     ∷ call-line plenty (question (listOfPiece get-downloaders 1 1))
     ∷ call-line plenty (question (listOfPiece get-downloaders 1 2))
+    ∷ call-line plenty (question (listOfPiece blocks-for-piece 1 1))
     ∷ [])
     ≡ outcome stands image-6875
     ∷ outcome (answered (said true 0)) image-6876
     ∷ outcome (answered (refused ShortMemory)) image-6876
     ∷ outcome (answered (replied (numbers ((some 7) ∷ [])))) image-6876
+    ∷ outcome (answered (refused ShortMemory)) image-6876
     ∷ []
 unfolding replaying
 calls-6875 = refl
@@ -1071,167 +856,17 @@ image-6904 =
     2 ∷ 0 ∷ 0 ∷ 4 ∷ 4 ∷ 0 ∷ 0 ∷ 0 ∷ 0 ∷ 0 ∷
     2 ∷ 0 ∷ 0 ∷ 4 ∷ 4 ∷ 0 ∷ 0 ∷ 0 ∷ 0 ∷ 0 ∷ []
 
-abbrev image-6909 : List ℕ
-image-6909 =
-    1 ∷ 0 ∷ 0 ∷ 0 ∷ 0 ∷ 0 ∷ 0 ∷ 0 ∷ 3 ∷ 0 ∷ 0 ∷ 0 ∷ 1 ∷ 0 ∷ 0 ∷ 0 ∷ 0 ∷ 0 ∷ 0 ∷ 0 ∷ 0 ∷ 0 ∷ 3 ∷ 1 ∷
-    2 ∷ 0 ∷ 1 ∷ 4 ∷ 4 ∷ 0 ∷ 0 ∷ 0 ∷ 0 ∷ 0 ∷
-    2 ∷ 0 ∷ 0 ∷ 4 ∷ 4 ∷ 0 ∷ 0 ∷ 0 ∷ 0 ∷ 0 ∷
-    2 ∷ 0 ∷ 0 ∷ 4 ∷ 4 ∷ 0 ∷ 0 ∷ 0 ∷ 0 ∷ 0 ∷ []
-
-abbrev image-6910 : List ℕ
-image-6910 =
-    1 ∷ 0 ∷ 0 ∷ 0 ∷ 0 ∷ 0 ∷ 0 ∷ 0 ∷ 3 ∷ 0 ∷ 0 ∷ 0 ∷ 1 ∷ 0 ∷ 0 ∷ 0 ∷ 0 ∷ 0 ∷ 0 ∷ 0 ∷ 0 ∷ 0 ∷ 3 ∷ 1 ∷
-    2 ∷ 0 ∷ 1 ∷ 4 ∷ 4 ∷ 0 ∷ 0 ∷ 0 ∷ 0 ∷ 0 ∷
-    2 ∷ 0 ∷ 1 ∷ 4 ∷ 4 ∷ 0 ∷ 0 ∷ 0 ∷ 0 ∷ 0 ∷
-    2 ∷ 0 ∷ 0 ∷ 4 ∷ 4 ∷ 0 ∷ 0 ∷ 0 ∷ 0 ∷ 0 ∷ []
-
-abbrev image-6912 : List ℕ
-image-6912 =
-    1 ∷ 0 ∷ 0 ∷ 0 ∷ 0 ∷ 0 ∷ 0 ∷ 0 ∷ 3 ∷ 0 ∷ 0 ∷ 0 ∷ 1 ∷ 0 ∷ 0 ∷ 0 ∷ 0 ∷ 0 ∷ 0 ∷ 0 ∷ 0 ∷ 0 ∷ 3 ∷ 1 ∷
-    2 ∷ 0 ∷ 1 ∷ 4 ∷ 4 ∷ 0 ∷ 0 ∷ 0 ∷ 0 ∷ 0 ∷
-    2 ∷ 0 ∷ 1 ∷ 4 ∷ 4 ∷ 0 ∷ 0 ∷ 0 ∷ 0 ∷ 0 ∷
-    2 ∷ 0 ∷ 1 ∷ 4 ∷ 4 ∷ 0 ∷ 0 ∷ 0 ∷ 0 ∷ 0 ∷ []
-
-abbrev image-6916 : List ℕ
-image-6916 =
-    1 ∷ 0 ∷ 0 ∷ 0 ∷ 0 ∷ 0 ∷ 0 ∷ 0 ∷ 3 ∷ 0 ∷ 0 ∷ 0 ∷ 1 ∷ 0 ∷ 0 ∷ 0 ∷ 0 ∷ 0 ∷ 0 ∷ 0 ∷ 0 ∷ 0 ∷ 3 ∷ 1 ∷
-    2 ∷ 0 ∷ 1 ∷ 6 ∷ 4 ∷ 0 ∷ 0 ∷ 0 ∷ 0 ∷ 0 ∷
-    2 ∷ 0 ∷ 1 ∷ 4 ∷ 4 ∷ 0 ∷ 0 ∷ 0 ∷ 0 ∷ 0 ∷
-    2 ∷ 0 ∷ 1 ∷ 4 ∷ 4 ∷ 0 ∷ 0 ∷ 0 ∷ 0 ∷ 0 ∷
-    3 ∷ 0 ∷ 0 ∷ 0 ∷ 0 ∷ 0 ∷
-    4 ∷ 1 ∷ 0 ∷ 1 ∷ 1 ∷ 255 ∷ 255 ∷ 255 ∷ 255 ∷ 255 ∷ 255 ∷ 255 ∷ 255 ∷
-    5 ∷ 0 ∷ 0 ∷ 0 ∷ 0 ∷ []
-
-abbrev image-6917 : List ℕ
-image-6917 =
-    1 ∷ 0 ∷ 0 ∷ 0 ∷ 0 ∷ 0 ∷ 0 ∷ 0 ∷ 3 ∷ 0 ∷ 0 ∷ 0 ∷ 1 ∷ 0 ∷ 0 ∷ 0 ∷ 0 ∷ 0 ∷ 0 ∷ 0 ∷ 0 ∷ 0 ∷ 3 ∷ 1 ∷
-    2 ∷ 0 ∷ 1 ∷ 6 ∷ 4 ∷ 0 ∷ 0 ∷ 0 ∷ 0 ∷ 0 ∷
-    2 ∷ 0 ∷ 1 ∷ 4 ∷ 4 ∷ 0 ∷ 0 ∷ 0 ∷ 0 ∷ 0 ∷
-    2 ∷ 0 ∷ 1 ∷ 4 ∷ 4 ∷ 0 ∷ 0 ∷ 0 ∷ 0 ∷ 0 ∷
-    3 ∷ 0 ∷ 0 ∷ 0 ∷ 0 ∷ 0 ∷
-    4 ∷ 1 ∷ 0 ∷ 1 ∷ 1 ∷ 0 ∷ 0 ∷ 0 ∷ 0 ∷ 0 ∷ 0 ∷ 0 ∷ 0 ∷
-    5 ∷ 0 ∷ 0 ∷ 0 ∷ 0 ∷ []
-
--- calls 6904 to 6918
+-- calls 6904 to 6905
 calls-6904 :
     outcomes none
     (new-line (lending 9223372036854775807 9223372036854775807 9223372036854775807) 3 1
     ∷ read-line plenty (171 ∷ 205 ∷ [])
-    ∷ read-line plenty []
-    ∷ call-line (lending 0 1000000 1000000) (question (ofPicker num-pieces))
-    ∷ call-line (lending 9223372036854775807 1000000 9223372036854775807) (question (ofPicker num-pieces))
-    ∷ call-line (lending 1000000 9223372036854775807 1000000) (inc-refcount 0 (words 4352 []))
-    ∷ call-line (lending 1000000 1000000 9223372036854775807) (inc-refcount 1 (words 5000 []))
-    ∷ call-line plenty (inc-refcount 2 (words 0 []))
-    ∷ call-line plenty (inc-refcount 2 (words 4352 []))
-    ∷ call-line plenty (pick-pieces (asking 0 1 0 0 (some 0) 3 (255 ∷ []) []) 9223372036854775807 (words 5000 (3839455607 ∷ [])))
-    ∷ call-line plenty (mark-as-downloading 0 0 (some 18446744073709551615) 65535 (words 5000 []))
-    ∷ call-line plenty (mark-as-canceled 0 0 (some 0) (words 4352 []))
-    ∷ call-line plenty (question (listOfPicker get-availability-vec 0))
     ∷ [])
     ≡ outcome stands image-6904
     ∷ outcome (notDone (IllFormedImage 0)) image-6904
-    ∷ outcome (notDone (IllFormedImage 0)) image-6904
-    ∷ outcome (answered (refused ShortMemory)) image-6904
-    ∷ outcome (answered (replied (numbers ((some 3) ∷ [])))) image-6904
-    ∷ outcome (answered (done 0)) image-6909
-    ∷ outcome (answered (done 0)) image-6910
-    ∷ outcome (answered (refused FewDraws)) image-6910
-    ∷ outcome (answered (done 0)) image-6912
-    ∷ outcome (answered (picked ((pieceBlock 2 0) ∷ []) 1024 (0 ∷ 0 ∷ 0 ∷ 0 ∷ 0 ∷ 0 ∷ 0 ∷ []) 1)) image-6912
-    ∷ outcome (answered (said true 0)) image-6916
-    ∷ outcome (answered (done 0)) image-6917
-    ∷ outcome (answered (refused ShortMemory)) image-6917
     ∷ []
 unfolding replaying
 calls-6904 = refl
-
-abbrev image-7133 : List ℕ
-image-7133 =
-    1 ∷ 0 ∷ 0 ∷ 0 ∷ 0 ∷ 0 ∷ 1 ∷ 128 ∷ 2 ∷ 0 ∷ 0 ∷ 192 ∷ 1 ∷ 0 ∷ 1 ∷ 0 ∷ 0 ∷ 0 ∷ 0 ∷ 0 ∷ 0 ∷ 0 ∷ 1 ∷ 0 ∷
-    2 ∷ 0 ∷ 0 ∷ 4 ∷ 4 ∷ 0 ∷ 0 ∷ 0 ∷ 0 ∷ 0 ∷
-    2 ∷ 0 ∷ 1 ∷ 5 ∷ 7 ∷ 0 ∷ 0 ∷ 0 ∷ 64 ∷ 0 ∷
-    3 ∷ 0 ∷ 0 ∷ 0 ∷ 1 ∷ 4 ∷
-    4 ∷ 3 ∷ 0 ∷ 0 ∷ 1 ∷ 255 ∷ 255 ∷ 255 ∷ 255 ∷ 255 ∷ 255 ∷ 255 ∷ 255 ∷
-    4 ∷ 0 ∷ 0 ∷ 0 ∷ 1 ∷ 255 ∷ 255 ∷ 255 ∷ 255 ∷ 255 ∷ 255 ∷ 255 ∷ 255 ∷
-    4 ∷ 0 ∷ 3 ∷ 232 ∷ 1 ∷ 255 ∷ 255 ∷ 255 ∷ 255 ∷ 255 ∷ 255 ∷ 255 ∷ 255 ∷
-    4 ∷ 1 ∷ 0 ∷ 1 ∷ 1 ∷ 255 ∷ 255 ∷ 255 ∷ 255 ∷ 255 ∷ 255 ∷ 255 ∷ 255 ∷
-    5 ∷ 0 ∷ 0 ∷ 0 ∷ 0 ∷
-    6 ∷ 0 ∷ 0 ∷ 0 ∷ 1 ∷
-    6 ∷ 0 ∷ 0 ∷ 0 ∷ 0 ∷ []
-
--- calls 7133 to 7134
-calls-7133 :
-    outcomes none
-    (read-line plenty image-7133
-    ∷ call-line plenty (pick-pieces (asking 75 2 8 10 (some 18446744073709551615) 2 (255 ∷ []) (1 ∷ [])) 4351 (words 4352 []))
-    ∷ [])
-    ≡ outcome stands image-7133
-    ∷ outcome (answered (picked ((pieceBlock 1 1) ∷ (pieceBlock 1 2) ∷ []) 2054 (1 ∷ 0 ∷ 0 ∷ 0 ∷ 0 ∷ 0 ∷ 0 ∷ []) 0)) image-7133
-    ∷ []
-unfolding replaying
-calls-7133 = refl
-
-abbrev image-7741 : List ℕ
-image-7741 =
-    1 ∷ 0 ∷ 0 ∷ 0 ∷ 0 ∷ 0 ∷ 0 ∷ 0 ∷ 28 ∷ 0 ∷ 0 ∷ 0 ∷ 5 ∷ 0 ∷ 0 ∷ 0 ∷ 0 ∷ 0 ∷ 4 ∷ 0 ∷ 0 ∷ 0 ∷ 6 ∷ 1 ∷
-    2 ∷ 0 ∷ 3 ∷ 1 ∷ 7 ∷ 0 ∷ 0 ∷ 0 ∷ 0 ∷ 5 ∷
-    2 ∷ 3 ∷ 232 ∷ 6 ∷ 7 ∷ 0 ∷ 0 ∷ 0 ∷ 0 ∷ 0 ∷
-    2 ∷ 0 ∷ 2 ∷ 1 ∷ 4 ∷ 0 ∷ 0 ∷ 0 ∷ 0 ∷ 0 ∷
-    2 ∷ 0 ∷ 0 ∷ 3 ∷ 7 ∷ 0 ∷ 0 ∷ 0 ∷ 0 ∷ 0 ∷
-    2 ∷ 3 ∷ 231 ∷ 2 ∷ 1 ∷ 0 ∷ 0 ∷ 0 ∷ 0 ∷ 0 ∷
-    2 ∷ 0 ∷ 0 ∷ 0 ∷ 4 ∷ 0 ∷ 0 ∷ 0 ∷ 0 ∷ 0 ∷
-    3 ∷ 0 ∷ 0 ∷ 0 ∷ 0 ∷ 0 ∷
-    4 ∷ 1 ∷ 0 ∷ 1 ∷ 1 ∷ 0 ∷ 0 ∷ 0 ∷ 0 ∷ 0 ∷ 0 ∷ 0 ∷ 2 ∷
-    3 ∷ 0 ∷ 0 ∷ 0 ∷ 1 ∷ 4 ∷
-    4 ∷ 1 ∷ 0 ∷ 1 ∷ 1 ∷ 0 ∷ 0 ∷ 0 ∷ 0 ∷ 0 ∷ 0 ∷ 0 ∷ 3 ∷
-    3 ∷ 0 ∷ 0 ∷ 0 ∷ 2 ∷ 0 ∷
-    4 ∷ 1 ∷ 0 ∷ 3 ∷ 0 ∷ 0 ∷ 0 ∷ 0 ∷ 0 ∷ 0 ∷ 0 ∷ 0 ∷ 0 ∷
-    3 ∷ 0 ∷ 0 ∷ 0 ∷ 3 ∷ 0 ∷
-    4 ∷ 0 ∷ 0 ∷ 0 ∷ 1 ∷ 0 ∷ 0 ∷ 0 ∷ 0 ∷ 0 ∷ 0 ∷ 0 ∷ 2 ∷
-    3 ∷ 0 ∷ 0 ∷ 0 ∷ 4 ∷ 1 ∷
-    4 ∷ 2 ∷ 0 ∷ 0 ∷ 0 ∷ 0 ∷ 0 ∷ 0 ∷ 0 ∷ 0 ∷ 0 ∷ 0 ∷ 0 ∷
-    3 ∷ 0 ∷ 0 ∷ 0 ∷ 5 ∷ 2 ∷
-    4 ∷ 0 ∷ 3 ∷ 232 ∷ 1 ∷ 0 ∷ 0 ∷ 0 ∷ 0 ∷ 0 ∷ 0 ∷ 0 ∷ 2 ∷
-    5 ∷ 0 ∷ 0 ∷ 0 ∷ 0 ∷ []
-
-abbrev image-7742 : List ℕ
-image-7742 =
-    1 ∷ 0 ∷ 0 ∷ 0 ∷ 0 ∷ 0 ∷ 0 ∷ 0 ∷ 28 ∷ 0 ∷ 0 ∷ 0 ∷ 5 ∷ 0 ∷ 0 ∷ 0 ∷ 0 ∷ 0 ∷ 4 ∷ 0 ∷ 0 ∷ 0 ∷ 6 ∷ 0 ∷
-    2 ∷ 0 ∷ 3 ∷ 1 ∷ 7 ∷ 0 ∷ 0 ∷ 0 ∷ 0 ∷ 5 ∷
-    2 ∷ 3 ∷ 232 ∷ 6 ∷ 7 ∷ 0 ∷ 0 ∷ 0 ∷ 0 ∷ 0 ∷
-    2 ∷ 0 ∷ 2 ∷ 1 ∷ 4 ∷ 0 ∷ 0 ∷ 0 ∷ 0 ∷ 0 ∷
-    2 ∷ 0 ∷ 0 ∷ 3 ∷ 7 ∷ 0 ∷ 0 ∷ 0 ∷ 0 ∷ 0 ∷
-    2 ∷ 3 ∷ 231 ∷ 2 ∷ 1 ∷ 0 ∷ 0 ∷ 0 ∷ 0 ∷ 0 ∷
-    2 ∷ 0 ∷ 0 ∷ 0 ∷ 4 ∷ 0 ∷ 0 ∷ 0 ∷ 0 ∷ 0 ∷
-    3 ∷ 0 ∷ 0 ∷ 0 ∷ 0 ∷ 0 ∷
-    4 ∷ 1 ∷ 0 ∷ 1 ∷ 1 ∷ 0 ∷ 0 ∷ 0 ∷ 0 ∷ 0 ∷ 0 ∷ 0 ∷ 2 ∷
-    3 ∷ 0 ∷ 0 ∷ 0 ∷ 1 ∷ 4 ∷
-    4 ∷ 1 ∷ 0 ∷ 1 ∷ 1 ∷ 0 ∷ 0 ∷ 0 ∷ 0 ∷ 0 ∷ 0 ∷ 0 ∷ 3 ∷
-    3 ∷ 0 ∷ 0 ∷ 0 ∷ 2 ∷ 0 ∷
-    4 ∷ 1 ∷ 0 ∷ 3 ∷ 0 ∷ 0 ∷ 0 ∷ 0 ∷ 0 ∷ 0 ∷ 0 ∷ 0 ∷ 0 ∷
-    3 ∷ 0 ∷ 0 ∷ 0 ∷ 3 ∷ 0 ∷
-    4 ∷ 0 ∷ 0 ∷ 0 ∷ 1 ∷ 0 ∷ 0 ∷ 0 ∷ 0 ∷ 0 ∷ 0 ∷ 0 ∷ 2 ∷
-    3 ∷ 0 ∷ 0 ∷ 0 ∷ 4 ∷ 1 ∷
-    4 ∷ 2 ∷ 0 ∷ 0 ∷ 0 ∷ 0 ∷ 0 ∷ 0 ∷ 0 ∷ 0 ∷ 0 ∷ 0 ∷ 0 ∷
-    3 ∷ 0 ∷ 0 ∷ 0 ∷ 5 ∷ 2 ∷
-    4 ∷ 0 ∷ 3 ∷ 232 ∷ 1 ∷ 0 ∷ 0 ∷ 0 ∷ 0 ∷ 0 ∷ 0 ∷ 0 ∷ 2 ∷
-    5 ∷ 0 ∷ 0 ∷ 0 ∷ 0 ∷
-    6 ∷ 0 ∷ 0 ∷ 0 ∷ 1 ∷ []
-
--- calls 7741 to 7743
-calls-7741 :
-    outcomes none
-    (read-line plenty image-7741
-    ∷ call-line plenty (pick-pieces (asking 18 2 3 10 (some 3) 6 (75 ∷ []) []) 4351 (words 4352 (3 ∷ [])))
-    ∷ call-line plenty (pick-pieces (asking 193 11 0 0 (some 3) 6 (255 ∷ []) (1 ∷ [])) 4351 (words 4352 (3097071445 ∷ 1949205856 ∷ 3284149954 ∷ [])))
-    ∷ [])
-    ≡ outcome stands image-7741
-    ∷ outcome (answered (picked [] 14416 (0 ∷ 0 ∷ 1 ∷ 0 ∷ 0 ∷ 0 ∷ 1 ∷ []) 1)) image-7742
-    ∷ outcome (answered (picked ((pieceBlock 0 0) ∷ []) 106541 (1 ∷ 1 ∷ 0 ∷ 1 ∷ 0 ∷ 0 ∷ 2 ∷ []) 3)) image-7742
-    ∷ []
-unfolding replaying
-calls-7741 = refl
 
 -- call 8165
 calls-8165 :
