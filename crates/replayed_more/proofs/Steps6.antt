@@ -1,4 +1,4 @@
--- Recorded calls 5741 to 8286, those that are replayed, computed. Written by compare/steps.py: not to be edited.
+-- Recorded calls 5741 to 8290, those that are replayed, computed. Written by compare/steps.py: not to be edited.
 use mathlib.Core.Path.{_≡_, refl}
 use mathlib.Core.Bool.{true, false}
 use Prim.Native.Nat.{ℕ}
@@ -817,22 +817,22 @@ calls-6816 :
 unfolding replaying
 calls-6816 = refl
 
-abbrev image-6875 : List ℕ
-image-6875 =
+abbrev image-6879 : List ℕ
+image-6879 =
     1 ∷ 0 ∷ 0 ∷ 0 ∷ 0 ∷ 0 ∷ 0 ∷ 128 ∷ 1 ∷ 0 ∷ 0 ∷ 128 ∷ 0 ∷ 0 ∷ 0 ∷ 0 ∷ 0 ∷ 0 ∷ 0 ∷ 0 ∷ 0 ∷ 0 ∷ 2 ∷ 1 ∷
     2 ∷ 0 ∷ 0 ∷ 4 ∷ 4 ∷ 0 ∷ 0 ∷ 0 ∷ 0 ∷ 0 ∷
     2 ∷ 0 ∷ 0 ∷ 4 ∷ 4 ∷ 0 ∷ 0 ∷ 0 ∷ 0 ∷ 0 ∷ []
 
-abbrev image-6876 : List ℕ
-image-6876 =
+abbrev image-6880 : List ℕ
+image-6880 =
     1 ∷ 0 ∷ 0 ∷ 0 ∷ 0 ∷ 0 ∷ 0 ∷ 128 ∷ 1 ∷ 0 ∷ 0 ∷ 128 ∷ 0 ∷ 0 ∷ 0 ∷ 0 ∷ 0 ∷ 0 ∷ 0 ∷ 0 ∷ 0 ∷ 0 ∷ 2 ∷ 1 ∷
     2 ∷ 0 ∷ 0 ∷ 4 ∷ 4 ∷ 0 ∷ 0 ∷ 0 ∷ 0 ∷ 0 ∷
     2 ∷ 0 ∷ 0 ∷ 2 ∷ 4 ∷ 0 ∷ 0 ∷ 0 ∷ 0 ∷ 0 ∷
     3 ∷ 0 ∷ 0 ∷ 0 ∷ 1 ∷ 0 ∷
     4 ∷ 2 ∷ 0 ∷ 0 ∷ 1 ∷ 0 ∷ 0 ∷ 0 ∷ 0 ∷ 0 ∷ 0 ∷ 0 ∷ 7 ∷ []
 
--- calls 6875 to 6879
-calls-6875 :
+-- calls 6879 to 6883
+calls-6879 :
     outcomes none
     (new-line plenty 32769 32768
     ∷ call-line plenty (mark-as-writing 1 0 (some 7) (words 4352 []))
@@ -840,46 +840,46 @@ calls-6875 :
     ∷ call-line plenty (question (listOfPiece get-downloaders 1 2))
     ∷ call-line plenty (question (listOfPiece blocks-for-piece 1 1))
     ∷ [])
-    ≡ outcome stands image-6875
-    ∷ outcome (answered (said true 0)) image-6876
-    ∷ outcome (answered (refused ShortMemory)) image-6876
-    ∷ outcome (answered (replied (numbers ((some 7) ∷ [])))) image-6876
-    ∷ outcome (answered (refused ShortMemory)) image-6876
+    ≡ outcome stands image-6879
+    ∷ outcome (answered (said true 0)) image-6880
+    ∷ outcome (answered (refused ShortMemory)) image-6880
+    ∷ outcome (answered (replied (numbers ((some 7) ∷ [])))) image-6880
+    ∷ outcome (answered (refused ShortMemory)) image-6880
     ∷ []
 unfolding replaying
-calls-6875 = refl
+calls-6879 = refl
 
-abbrev image-6904 : List ℕ
-image-6904 =
+abbrev image-6908 : List ℕ
+image-6908 =
     1 ∷ 0 ∷ 0 ∷ 0 ∷ 0 ∷ 0 ∷ 0 ∷ 0 ∷ 3 ∷ 0 ∷ 0 ∷ 0 ∷ 1 ∷ 0 ∷ 0 ∷ 0 ∷ 0 ∷ 0 ∷ 0 ∷ 0 ∷ 0 ∷ 0 ∷ 3 ∷ 1 ∷
     2 ∷ 0 ∷ 0 ∷ 4 ∷ 4 ∷ 0 ∷ 0 ∷ 0 ∷ 0 ∷ 0 ∷
     2 ∷ 0 ∷ 0 ∷ 4 ∷ 4 ∷ 0 ∷ 0 ∷ 0 ∷ 0 ∷ 0 ∷
     2 ∷ 0 ∷ 0 ∷ 4 ∷ 4 ∷ 0 ∷ 0 ∷ 0 ∷ 0 ∷ 0 ∷ []
 
--- calls 6904 to 6905
-calls-6904 :
+-- calls 6908 to 6909
+calls-6908 :
     outcomes none
     (new-line (lending 9223372036854775807 9223372036854775807 9223372036854775807) 3 1
     ∷ read-line plenty (171 ∷ 205 ∷ [])
     ∷ [])
-    ≡ outcome stands image-6904
-    ∷ outcome (notDone (IllFormedImage 0)) image-6904
+    ≡ outcome stands image-6908
+    ∷ outcome (notDone (IllFormedImage 0)) image-6908
     ∷ []
 unfolding replaying
-calls-6904 = refl
+calls-6908 = refl
 
--- call 8165
-calls-8165 :
+-- call 8169
+calls-8169 :
     outcomes none
     (read-line plenty (1 ∷ 0 ∷ 0 ∷ 0 ∷ 0 ∷ 0 ∷ 0 ∷ 128 ∷ 0 ∷ 0 ∷ 0 ∷ 64 ∷ 0 ∷ 1 ∷ 46 ∷ 0 ∷ 0 ∷ 0 ∷ 0 ∷ 0 ∷ 0 ∷ 0 ∷ 1 ∷ 1 ∷ 2 ∷ 0 ∷ 3 ∷ 6 ∷ 1 ∷ 0 ∷ 0 ∷ 0 ∷ 32 ∷ 215 ∷ 2 ∷ 2 ∷ 186 ∷ 1 ∷ 4 ∷ 0 ∷ 0 ∷ 0 ∷ 64 ∷ 0 ∷ 3 ∷ 0 ∷ 0 ∷ 0 ∷ 0 ∷ 6 ∷ 4 ∷ 1 ∷ 0 ∷ 1 ∷ 0 ∷ 0 ∷ 0 ∷ 0 ∷ 0 ∷ [])
     ∷ [])
     ≡ outcome (notDone (IllFormedImage 50)) []
     ∷ []
 unfolding replaying
-calls-8165 = refl
+calls-8169 = refl
 
-abbrev image-8283 : List ℕ
-image-8283 =
+abbrev image-8287 : List ℕ
+image-8287 =
     1 ∷ 0 ∷ 0 ∷ 0 ∷ 0 ∷ 0 ∷ 0 ∷ 2 ∷ 1 ∷ 0 ∷ 0 ∷ 0 ∷ 1 ∷ 0 ∷ 1 ∷ 0 ∷ 0 ∷ 0 ∷ 8 ∷ 0 ∷ 0 ∷ 1 ∷ 183 ∷ 0 ∷
     2 ∷ 0 ∷ 1 ∷ 1 ∷ 4 ∷ 0 ∷ 0 ∷ 0 ∷ 0 ∷ 1 ∷
     2 ∷ 0 ∷ 1 ∷ 3 ∷ 0 ∷ 0 ∷ 0 ∷ 0 ∷ 0 ∷ 1 ∷
@@ -2582,18 +2582,18 @@ image-8283 =
     6 ∷ 0 ∷ 0 ∷ 0 ∷ 108 ∷
     6 ∷ 0 ∷ 0 ∷ 0 ∷ 175 ∷ []
 
--- calls 8283 to 8286
-calls-8283 :
+-- calls 8287 to 8290
+calls-8287 :
     outcomes none
-    (read-line plenty image-8283
+    (read-line plenty image-8287
     ∷ call-line plenty (mark-as-downloading 512 0 none 0 (words 4352 []))
     ∷ call-line plenty (mark-as-writing 512 0 (some 1) (words 4352 []))
     ∷ call-line plenty (mark-as-finished 512 0 (some 1) (words 4352 []))
     ∷ [])
-    ≡ outcome stands image-8283
-    ∷ outcome (answered (refused TooManyPartials)) image-8283
-    ∷ outcome (answered (refused TooManyPartials)) image-8283
-    ∷ outcome (answered (refused TooManyPartials)) image-8283
+    ≡ outcome stands image-8287
+    ∷ outcome (answered (refused TooManyPartials)) image-8287
+    ∷ outcome (answered (refused TooManyPartials)) image-8287
+    ∷ outcome (answered (refused TooManyPartials)) image-8287
     ∷ []
 unfolding replaying
-calls-8283 = refl
+calls-8287 = refl
