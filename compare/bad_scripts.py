@@ -8,7 +8,7 @@ from typing import NamedTuple
 TOP = os.path.dirname(os.path.dirname(os.path.abspath(__file__)))
 BAD_LINES = os.path.join(TOP, "oracle", "tests", "bad_lines.txt")
 LONGEST_MESSAGE = 250
-LEAST = 147
+LEAST = 157
 
 # what a line of the file cannot say: bytes, line ends, and words of any length; a script and the line to be named
 BAD_SCRIPTS = {
@@ -37,7 +37,7 @@ BAD_SCRIPTS = {
     "a number of 10,000 digits": (b"new 5 " + b"9" * 10_000 + b"\nend\n", 1),
     "a number below 0 of 10,000 digits": (b"new -" + b"9" * 10_000 + b" 5\nend\n", 1),
     "10,000 zeros in front": (b"new 5 " + b"0" * 10_000 + b"5\nend\n", 1),
-    "a length of 10,000 digits": (b"num_pieces mem=" + b"1" * 10_000 + b"\nend\n", 1),
+    "a length of 10,000 digits": (b"num_pieces words=" + b"1" * 10_000 + b"\nend\n", 1),
     "lent words of 10,000 digits": (b"inc_refcount 0 draws=" + b"1" * 10_000 + b"\nend\n", 1),
     "a word of 10,000 digits": (b"inc_refcount 0 draws=4352:" + b"1" * 10_000 + b"\nend\n", 1),
     "a seed of 10,000 digits": (b"inc_refcount 0 draws=4352~" + b"1" * 10_000 + b"\nend\n", 1),

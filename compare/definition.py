@@ -7,7 +7,7 @@ recorded outcomes, for which no oracle is needed, `--programs` the pick program'
 definitions from another folder.
 
 The driver's and not the definition's, since the definition starts from a picker that stands:
-- where no picker stands (`zero`, or nothing read or made before), the answers of docs/DECISIONS.md 4: 2 for memory shorter than the
+- where no picker stands (`zero`, or nothing read or made before), the answers of docs/DECISIONS.md 4: 2 for words shorter than the
   head, else 3. So refusal 3 is the driver's alone;
 - a negative number is lent as 2^63, as the code's contracts read it (`numberOf`): out of range wherever a range is judged;
 - `none` among the numbers of a question is printed as `0 0` for a peer, -1 for a bucket."""
@@ -35,6 +35,7 @@ PROGRAM = "program"  # the pick program, from its bytes on
 REFUSAL_NUMBER, REFUSAL_VALUES = "refusalNumber", "refusalValues"
 REFUSALS = "Rattle.types.specs.Refusal"  # the module of these two
 ACTION, QUESTION = "Action", "Question"  # the types of what a call does, and of what it asks
+MEMORY = ("words", "cells", "partials")  # fields of the lent memory, as the script has them
 CALL = ("lent", "action")  # fields of a call, and of a step
 ANSWER, AFTER = "answer", "after"
 BLOCK = ("piece", "block")  # fields of a picked block
@@ -204,8 +205,11 @@ class Definition:
         if self.program.call(WELL_FORMED, picker) is not True:
             raise Stuck("the picker after the call is not well-formed")
 
+    def memory(self, call):
+        return self.program.make(MEMORY, call.memory._asdict())
+
     def take(self, call):
-        kind, what = self.program.call(TAKE, self.picker, call.mem, call.room)
+        kind, what = self.program.call(TAKE, self.picker, self.memory(call), call.room)
         return self.refused(what) if kind.name == "notTaken" else f"bytes {bytes(what).hex()}"
 
     def step(self, call):
@@ -215,14 +219,14 @@ class Definition:
             self.zero()
             return "done"
         if call.name == "new":
-            return self.made(run(NEW, call.mem, *map(natural, call.args)))
+            return self.made(run(NEW, self.memory(call), *map(natural, call.args)))
         if call.name == "read":
-            return self.made(run(READ, call.mem, call.args[0]))
+            return self.made(run(READ, self.memory(call), call.args[0]))
         if self.picker is None:
-            return f"refused {2 if call.mem < HEAD_WORDS else 3}"
+            return f"refused {2 if call.memory.words < HEAD_WORDS else 3}"
         if call.name == "image":
             return self.take(call)
-        out = run(STEP, self.picker, self.program.make(CALL, dict(zip(CALL, (call.mem, self.action(call))))))
+        out = run(STEP, self.picker, self.program.make(CALL, dict(zip(CALL, (self.memory(call), self.action(call))))))
         after = self.program.get(out, AFTER)
         if after is not self.picker:
             self.change(after)

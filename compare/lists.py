@@ -5,7 +5,7 @@ from typing import NamedTuple
 from compare.states import PEERS, a_picker, huge_geometry, small_geometry, wide_geometry
 from reference import questions
 from reference.calls import Outcome, step
-from reference.geometry import blocks_in_piece, blocks_per_piece, num_extents, num_pieces, words_needed
+from reference.geometry import HEAD_WORDS, blocks_in_piece, blocks_per_piece, memory_needed, num_pieces
 from reference.image import image, read
 from reference.options import RAREST_FIRST, SEQUENTIAL
 from reference.script import call_of
@@ -13,6 +13,8 @@ from reference.state import MAX_PARTIALS, MIN_DRAWS
 
 WRONG = 0.04
 CROWDED = 0.01
+RESTARTED = 0.01
+BARE_MEMORY = ["", " words=15", " words=16", " words=15 cells=0", " words=16 cells=0 partials=0", " partials=0"]
 
 
 class Step(NamedTuple):
@@ -61,11 +63,17 @@ def some_draws(rng):
     return f" draws={rng.choice([MIN_DRAWS, MIN_DRAWS, 5000])}~{rng.getrandbits(32)}"
 
 
-def some_memory(rng, s):
-    if s is None or rng.random() > 0.02:
+def a_length(rng, need):
+    return rng.choice([0, HEAD_WORDS - 1, HEAD_WORDS, need - 1, need, need, need + 1])
+
+
+def some_memory(rng, s, share=0.03):
+    """In a share of cases one buffer short, exact or longer, or all three."""
+    if s is None or rng.random() > share:
         return ""
-    need = words_needed(num_pieces(s), blocks_per_piece(s))
-    return f" mem={rng.choice([0, 15, 16, need - 1, need, need + 1])}"
+    need = memory_needed(s)._asdict()
+    given = rng.choice([[name] for name in need] + [list(need)])
+    return "".join(f" {name}={a_length(rng, need[name])}" for name in given)
 
 
 # ---- calls
@@ -223,9 +231,15 @@ def start_line(rng, geometry):
     return f"read {image(a_picker(rng, total, size)).hex()}"
 
 
+def restart_line(rng, geometry):
+    """A start where a picker stands already; it may find the memory too short."""
+    line = start_line(rng, geometry)
+    return line + some_memory(rng, step(None, call_of(line)).state, 0.4)
+
+
 def bare_line(rng):
     """A call where no picker stands."""
-    return rng.choice(["num_pieces", "image", "inc_refcount 0", "list_place 0", "pick_pieces 0 1 0 0 - 1 80 -"]) + rng.choice(["", " mem=15", " mem=16"])
+    return rng.choice(["num_pieces", "image", "inc_refcount 0", "list_place 0", "pick_pieces 0 1 0 0 - 1 80 -"]) + rng.choice(BARE_MEMORY)
 
 
 def check_limits(call, outcome, before):
@@ -265,7 +279,7 @@ def a_list(rng, geometry, length):
     steps = follow(lines)
     state = None if steps[-1].image is None else read(steps[-1].image)
     while state is not None and len(steps) < length:
-        line = start_line(rng, geometry) if rng.random() < 0.01 else a_line(rng, state)
+        line = restart_line(rng, geometry) if rng.random() < RESTARTED else a_line(rng, state)
         outcome = led(state, line)
         now = steps[-1].image if outcome.state is state else image(outcome.state)
         state = outcome.state

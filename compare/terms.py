@@ -27,10 +27,11 @@ REPLAY = "specs.Replay"
 NEW, READ, TAKE, CALL = "new-line", "read-line", "image-line", "call-line"
 STANDS, NOT_DONE, BYTES_TAKEN, ANSWERED = "stands", "notDone", "bytesTaken", "answered"
 OUTCOMES_OF, OUTCOME, WORDS, ASKING = "outcomes", "outcome", "words", "asking"
+PLENTY, LENDING = "plenty", "lending"
 # of crates/replayed/proofs/Replaying.antt
 OPENING, REPLAYING = "proofs.Replaying", "replaying"
 
-# words and places lent where the script lends enough
+# places lent where the script lends enough, and the length of a buffer; `plenty` is three such
 MANY = 1000000
 ENOUGH_WORDS = 5000
 # numbers of a question's answer for each record, and which of them are a peer's flag and number
@@ -124,16 +125,23 @@ def action(t, step):
     return t.call(t.take(ACTIONS, kebab(name)), *terms, *([words(t, step)] if name in WITH_DRAWS else []))
 
 
+def memory(t, step):
+    """The lengths of the three buffers."""
+    if all(length == ENOUGH for length in step.call.memory):
+        return t.take(REPLAY, PLENTY)
+    return t.call(t.take(REPLAY, LENDING), *map(lent, step.call.memory))
+
+
 def line(t, step, image):
     """A line of the script; `image` is the name of the image after it."""
-    name, args, memory = step.call.name, step.call.args, lent(step.call.mem)
+    name, args, buffers = step.call.name, step.call.args, memory(t, step)
     if name == "new":
-        return " ".join(map(str, (t.take(REPLAY, NEW), memory, *args)))
+        return " ".join(map(str, (t.take(REPLAY, NEW), buffers, *args)))
     if name == "read":
-        return f"{t.take(REPLAY, READ)} {memory} {image if step.makes() else t.numbers(args[0])}"
+        return f"{t.take(REPLAY, READ)} {buffers} {image if step.makes() else t.numbers(args[0])}"
     if name == "image":
-        return f"{t.take(REPLAY, TAKE)} {memory} {lent(step.call.room)}"
-    return f"{t.take(REPLAY, CALL)} {memory} {action(t, step)}"
+        return f"{t.take(REPLAY, TAKE)} {buffers} {lent(step.call.room)}"
+    return f"{t.take(REPLAY, CALL)} {buffers} {action(t, step)}"
 
 
 def told_numbers(name, words):

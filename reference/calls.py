@@ -3,7 +3,7 @@ from typing import NamedTuple, Optional
 
 from . import changes, questions
 from .blocks import Ask
-from .geometry import HEAD_WORDS, blocks_in_piece, blocks_per_piece, new, num_pieces, pieces_of, valid_geometry, words_needed
+from .geometry import HEAD_WORDS, Memory, blocks_in_piece, blocks_per_piece, is_short, memory_needed, new, num_pieces, valid_geometry
 from .image import Fault, image, read
 from .options import RAREST_FIRST, SEQUENTIAL, contains
 from .partials import find
@@ -47,7 +47,7 @@ class Seeded(NamedTuple):
 class Call(NamedTuple):
     name: str
     args: tuple
-    mem: int
+    memory: Memory
     draws: object
     room: int
     free: int
@@ -74,9 +74,9 @@ def refuse(number, test):
 
 def check_memory(s, call, room=0):
     """2, 3 and 2: the head must be there and well-formed before it says how much is needed."""
-    refuse(2, call.mem < HEAD_WORDS)
+    refuse(2, call.memory.words < HEAD_WORDS)
     refuse(3, s is None)
-    refuse(2, call.mem < words_needed(num_pieces(s), blocks_per_piece(s)))
+    refuse(2, is_short(call.memory, memory_needed(s)))
     refuse(2, call.room < room)
 
 
@@ -274,7 +274,7 @@ def step_new(s, call):
     total, size = call.args
     refuse(1, not valid_geometry(total, size) if size > 0 else True)
     out = new(total, size)
-    refuse(2, call.mem < words_needed(num_pieces(out), blocks_per_piece(out)))
+    refuse(2, is_short(call.memory, memory_needed(out)))
     return Outcome("done", out, 0)
 
 
@@ -283,7 +283,7 @@ def step_read(s, call):
         out = read(call.args[0])
     except Fault as fault:
         raise Refused(13, fault.place)
-    refuse(2, call.mem < words_needed(num_pieces(out), blocks_per_piece(out)))
+    refuse(2, is_short(call.memory, memory_needed(out)))
     return Outcome("done", out, 0)
 
 

@@ -1,5 +1,7 @@
 """Lengths as BEP 3 has them: the total cut into pieces of one length, pieces into blocks of 2^14 bytes, the last of each shorter
-where it does not come out even. Extents are runs of pieces of 4 MiB."""
+where it does not come out even. Extents are runs of pieces of 4 MiB. A picker stands in three lent buffers."""
+from typing import NamedTuple
+
 from .state import FRESH_PIECE, MAX_PARTIALS, MAX_PIECE_SIZE, MAX_PIECES, Picker
 
 BLOCK = 2**14
@@ -73,9 +75,27 @@ def extent_pieces(s, e):
 HEAD_WORDS = 16
 
 
-def words_needed(n, b):
-    """Words of memory for a picker of n pieces with b blocks each."""
-    return HEAD_WORDS + 6 * n + min(n, MAX_PARTIALS) * (3 + 4 * b)
+class Memory(NamedTuple):
+    """Lengths of the three lent buffers."""
+
+    words: int
+    cells: int
+    partials: int
+
+
+def memory_for(n, b):
+    """Words, cells and records for a picker of n pieces with b blocks each."""
+    partials = min(n, MAX_PARTIALS)
+    return Memory(HEAD_WORDS + 2 * n + partials * b, 4 * n + 3 * partials * b, partials)
+
+
+def memory_needed(s):
+    return memory_for(num_pieces(s), blocks_per_piece(s))
+
+
+def is_short(lent, need):
+    """One of the buffers is shorter than it has to be."""
+    return any(have < least for have, least in zip(lent, need))
 
 
 def new(total, size):

@@ -2,6 +2,7 @@
 import re
 
 from .calls import DRAWING, ENOUGH, Call, Seeded, Zeros
+from .geometry import Memory
 from .questions import LISTS, LISTS_OF_PIECE, OF_BLOCK, OF_PIECE, OF_PLACE, WHOLE
 from .state import MIN_DRAWS
 
@@ -87,7 +88,7 @@ def lent_words(text):
 
 
 def allowed(name):
-    return {"mem"} | ({"draws"} if name in WITH_DRAWS else set()) | ({"room"} if name in WITH_ROOM else set()) | (
+    return set(Memory._fields) | ({"draws"} if name in WITH_DRAWS else set()) | ({"room"} if name in WITH_ROOM else set()) | (
         {"free"} if name == "pick_pieces" else set()
     )
 
@@ -114,7 +115,7 @@ def call_of(line):
     return Call(
         name,
         args,
-        opts.get("mem", ENOUGH),
+        Memory(*(opts.get(buffer, ENOUGH) for buffer in Memory._fields)),
         opts.get("draws", Zeros(MIN_DRAWS, ())),
         opts.get("room", ENOUGH),
         opts.get("free", DEFAULT_FREE),

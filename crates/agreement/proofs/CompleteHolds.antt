@@ -23,7 +23,8 @@ use Rattle.model.specs.pick.Blocks.{PieceBlock}
 use Rattle.model.specs.pick.Pick.{isForced, forcedRequest, effectiveRequest, startPick, inRange, pickPieces}
 use Rattle.model.specs.image.WellFormed.{wellFormed}
 use Rattle.model.specs.image.Sound.{Sound}
-use Rattle.model.specs.Calls.{pick-pieces, picked, memoryNeeded, check, refusal, answering, lentRequest, picking, act, unlessRefused, step}
+use Rattle.model.specs.Memory.{memoryNeeded, isShort}
+use Rattle.model.specs.Calls.{pick-pieces, picked, check, refusal, answering, lentRequest, picking, act, unlessRefused, step}
 use Rattle.model.proofs.base.Phases.{cond-arms}
 use Rattle.model.proofs.base.Truths.{by-test}
 use Rattle.model.proofs.pick.PhaseLaws.{startPick-keeps}
@@ -208,5 +209,5 @@ complete-holds = record {
   answersAll = λ s ok a lent free draws blocks flags loops used e few i j f g.
       answers s ok a draws blocks
       (answer-out s a free draws
-      (check (ltb lent (memoryNeeded s)) ShortMemory (refusal s (pick-pieces a free draws))) blocks flags loops used e) few i j f g;
+      (check (isShort lent (memoryNeeded s)) ShortMemory (refusal s (pick-pieces a free draws))) blocks flags loops used e) few i j f g;
 }

@@ -12,7 +12,8 @@ use Rattle.model.specs.State.{Picker, validGeometry, new}
 use Rattle.model.specs.image.WellFormed.{wellFormed}
 use Rattle.model.specs.image.Sound.{Sound}
 use Rattle.model.specs.image.Image.{image, Read, accepted, faultAt, readImage}
-use Rattle.model.specs.Calls.{Call, step, answers, run, memoryNeeded, made, notMade, within, newPicker, readWithin, readPicker, taken}
+use Rattle.model.specs.Memory.{Memory, memoryNeeded, isShort}
+use Rattle.model.specs.Calls.{Call, step, answers, run, made, notMade, within, newPicker, readWithin, readPicker, taken}
 use Rattle.model.specs.Calls.{notTaken, takeImage}
 use Rattle.model.proofs.sound.NewSound.{new-sound}
 use Rattle.model.proofs.keep.KeepCalls.{run-keeps}
@@ -24,15 +25,15 @@ use Rattle.model.proofs.image.Replies.{pickers-same}
 
 -- ---- what a call makes
 -- a picker that is made with enough memory is the one that was to be made
-within-made : (lent : ℕ) (s t : Picker) → within lent s ≡ made t → s ≡ t
+within-made : (lent : Memory) (s t : Picker) → within lent s ≡ made t → s ≡ t
 unfolding within
-within-made lent s t e = go (ltb lent (memoryNeeded s)) e
+within-made lent s t e = go (isShort lent (memoryNeeded s)) e
   where
     go : (b : Bool) → cond b (notMade ShortMemory) (made s) ≡ made t → s ≡ t
     go true e = let z : _≡_ {A = ℕ} 0 1 = cc in absurd (omega arith)
     go false e = cc
 
-made-new : (lent totalSize pieceSize : ℕ) (s : Picker) → newPicker lent totalSize pieceSize ≡ made s
+made-new : (lent : Memory) (totalSize pieceSize : ℕ) (s : Picker) → newPicker lent totalSize pieceSize ≡ made s
     → (validGeometry totalSize pieceSize ≡ true) × (new totalSize pieceSize ≡ s)
 unfolding newPicker
 made-new lent totalSize pieceSize s e = go (validGeometry totalSize pieceSize) refl e
@@ -42,7 +43,7 @@ made-new lent totalSize pieceSize s e = go (validGeometry totalSize pieceSize) r
     go true p e = (p, within-made lent (new totalSize pieceSize) s e)
     go false p e = let z : _≡_ {A = ℕ} 0 1 = cc in absurd (omega arith)
 
-made-read : (lent : ℕ) (bytes : List ℕ) (s : Picker) → readPicker lent bytes ≡ made s → readImage bytes ≡ accepted s
+made-read : (lent : Memory) (bytes : List ℕ) (s : Picker) → readPicker lent bytes ≡ made s → readImage bytes ≡ accepted s
 unfolding readPicker readWithin
 made-read lent bytes s e = go (readImage bytes) refl e
   where
@@ -50,20 +51,21 @@ made-read lent bytes s e = go (readImage bytes) refl e
     go (accepted t) p e = p ∙ ap accepted (within-made lent t s e)
     go (faultAt k) p e = let z : _≡_ {A = ℕ} 0 1 = cc in absurd (omega arith)
 
-within-enough : (lent : ℕ) (s : Picker) → memoryNeeded s ≤ lent → within lent s ≡ made s
+within-enough : (lent : Memory) (s : Picker) → isShort lent (memoryNeeded s) ≡ false → within lent s ≡ made s
 unfolding within
-within-enough lent s h = rw (le-ltb lent (memoryNeeded s) h)
+within-enough lent s h = rw h
 
 -- ---- taking the image
 -- with memory and room enough
-image-taken : (s : Picker) (lent room : ℕ) → memoryNeeded s ≤ lent → len (image s) ≤ room → takeImage s lent room ≡ taken (image s)
+image-taken : (s : Picker) (lent : Memory) (room : ℕ) → isShort lent (memoryNeeded s) ≡ false → len (image s) ≤ room
+    → takeImage s lent room ≡ taken (image s)
 unfolding takeImage
-image-taken s lent room h g = rw (le-ltb lent (memoryNeeded s) h, le-ltb room (len (image s)) g)
+image-taken s lent room h g = rw (h, le-ltb room (len (image s)) g)
 
 -- what is taken is the image
-taken-image : (s : Picker) (lent room : ℕ) (bytes : List ℕ) → takeImage s lent room ≡ taken bytes → bytes ≡ image s
+taken-image : (s : Picker) (lent : Memory) (room : ℕ) (bytes : List ℕ) → takeImage s lent room ≡ taken bytes → bytes ≡ image s
 unfolding takeImage
-taken-image s lent room bytes e = go (ltb lent (memoryNeeded s)) (ltb room (len (image s))) e
+taken-image s lent room bytes e = go (isShort lent (memoryNeeded s)) (ltb room (len (image s))) e
   where
     go : (a b : Bool) → cond a (notTaken ShortMemory) (cond b (notTaken ShortMemory) (taken (image s))) ≡ taken bytes → bytes ≡ image s
     go true b e = let z : _≡_ {A = ℕ} 0 1 = cc in absurd (omega arith)
@@ -94,7 +96,7 @@ reached-stays : (s : Picker) → Reached s → (calls : List Call) → Reached (
 reached-stays _ (after {s} b before) calls = subst Reached (sym (run-append s before calls)) (after b (before ++ calls))
 
 -- ---- the image is accepted
-accepted-back : (s : Picker) → Reached s → (lent : ℕ) → memoryNeeded s ≤ lent → readPicker lent (image s) ≡ made s
+accepted-back : (s : Picker) → Reached s → (lent : Memory) → isShort lent (memoryNeeded s) ≡ false → readPicker lent (image s) ≡ made s
 unfolding readPicker readWithin
 accepted-back s r lent h = ap (readWithin lent) (image-accepted s (reached-well r)) ∙ within-enough lent s h
 

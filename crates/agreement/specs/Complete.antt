@@ -18,6 +18,7 @@ use Rattle.model.specs.change.Partials.{partialOf, blockAt, progress}
 use Rattle.model.specs.pick.Blocks.{PickRequest, option, isPieceFree, PieceBlock, byAnother}
 use Rattle.model.specs.pick.Pick.{inRange, pickPieces}
 use Rattle.model.specs.image.WellFormed.{wellFormed}
+use Rattle.model.specs.Memory.{Memory}
 use Rattle.model.specs.Calls.{pick-pieces, picked, lentRequest, step}
 
 -- ---- free blocks, and blocks given
@@ -63,7 +64,7 @@ pub record Complete : Type 0 where
       → (i j : ℕ) → isPieceFree a s i ≡ true → isFree s i j ≡ true → (isGiven i j (pickPieces draws s a .out) ≡ true) ⊎ PassedOver s a i
   -- the same of a call's answer, where it has fewer blocks than N
   pub answersAll :
-      (s : Picker) → wellFormed s ≡ true → (a : PickRequest) (lent free : ℕ) (draws : Draws) (blocks : List PieceBlock) (flags : ℕ)
-      (loops : List ℕ) (used : ℕ)
+      (s : Picker) → wellFormed s ≡ true → (a : PickRequest) (lent : Memory) (free : ℕ) (draws : Draws) (blocks : List PieceBlock)
+      (flags : ℕ) (loops : List ℕ) (used : ℕ)
       → step s (record { lent = lent; action = pick-pieces a free draws }) .answer ≡ picked blocks flags loops used → len blocks < a .wanted
       → (i j : ℕ) → isPieceFree a s i ≡ true → isFree s i j ≡ true → (isGiven i j blocks ≡ true) ⊎ PassedOver s (lentRequest a) i

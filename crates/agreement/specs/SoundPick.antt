@@ -14,6 +14,7 @@ use Rattle.model.specs.change.Partials.{partialOf, blockAt}
 use Rattle.model.specs.pick.Blocks.{PickRequest, option, hasBit, PieceBlock, requestedFrom}
 use Rattle.model.specs.pick.Pick.{pickPieces}
 use Rattle.model.specs.image.WellFormed.{wellFormed}
+use Rattle.model.specs.Memory.{Memory}
 use Rattle.model.specs.Calls.{lentRequest, pick-pieces, picked, requestFits, step}
 
 -- the block lies in a piece that the peer has, that is not flushed, and that has a priority above 0
@@ -56,7 +57,7 @@ pub record SoundPick : Type 0 where
       → pickPieces draws s request .out ≡ before ++ (b ∷ after) → Given s request b after
   -- and so each block in the answer of a call that was not refused; its peer is a number of 64 bits
   pub answered :
-      (s : Picker) → wellFormed s ≡ true → (lent : ℕ) (request : PickRequest) (free : ℕ) (draws : Draws)
+      (s : Picker) → wellFormed s ≡ true → (lent : Memory) (request : PickRequest) (free : ℕ) (draws : Draws)
       → (before : List PieceBlock) (b : PieceBlock) (after : List PieceBlock) (flags : ℕ) (loops : List ℕ) (used : ℕ)
       → step s (record { lent = lent; action = pick-pieces request free draws }) .answer ≡ picked (before ++ (b ∷ after)) flags loops used
       → Given s (lentRequest request) b after

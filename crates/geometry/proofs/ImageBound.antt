@@ -15,16 +15,16 @@ use Rattle.model.specs.State.{piecesIn, blocksPerPiece, blocksInPiece, listOf}
 use Rattle.model.specs.list.Order.{withBucket, rank}
 use Rattle.model.specs.image.WellFormed.{partialOk, partialsOk, extentOk, extentsOk, listingOk, wellFormed, headOk, piecesOk}
 use Rattle.model.specs.image.Image.{image}
-use Rattle.model.specs.Calls.{memoryNeeded}
+use Rattle.model.specs.Memory.{memoryNeeded}
 use Rattle.model.specs.Bep3.{numPieces}
 use Rattle.model.proofs.base.Bep3Laws.{blocksInPiece-le}
 use Rattle.model.proofs.base.Truths.{both-true, true-or-false}
 use Rattle.model.proofs.base.Counts.{length-from}
 use Rattle.model.proofs.sound.PartialLaws.{size-filter-le}
-use Rattle.geometry.specs.Needs.{imageLength, largestImage, blocksOf, wordsFor, bytesFor}
+use Rattle.geometry.specs.Needs.{imageLength, largestImage, blocksOf, memoryOf, bytesFor}
 use Rattle.geometry.proofs.PartLaws.{least-most}
 use Rattle.geometry.proofs.ValidLaws.{bounds}
-use Rattle.geometry.proofs.NeedLaws.{words-valid, bytes-valid}
+use Rattle.geometry.proofs.NeedLaws.{memory-valid, bytes-valid}
 use Rattle.geometry.proofs.ImageLength.{size-image}
 
 -- ---- partials
@@ -127,8 +127,8 @@ module _ (s : Picker) (well : wellFormed s ≡ true) where
       let t = tests s well in
       rw (← bytes-valid (s .totalSize) (s .pieceSize) (t .valid), ← t .many) image-most
 
-  pub memory-same : memoryNeeded s ≡ wordsFor (s .totalSize) (s .pieceSize)
+  pub memory-same : memoryNeeded s ≡ memoryOf (s .totalSize) (s .pieceSize)
   unfolding memoryNeeded blocksPerPiece
   memory-same =
       let t = tests s well in
-      rw (← words-valid (s .totalSize) (s .pieceSize) (t .valid), t .many)
+      rw (← memory-valid (s .totalSize) (s .pieceSize) (t .valid), t .many)

@@ -7,17 +7,14 @@ use native.Mathlib.Omega.{arith}
 use Rattle.model.specs.Lists.{least}
 use Rattle.model.specs.Bep3.{numPieces, wholePieceBlocks}
 use Rattle.model.specs.State.{validGeometry}
-use Rattle.model.specs.Calls.{wordsNeeded}
-use Rattle.geometry.specs.Needs.{Small, Parts, largestImage, wordsFor, bytesFor}
+use Rattle.model.specs.Memory.{Memory, partialsNeeded, wordsNeeded, cellsNeeded, memoryFor}
+use Rattle.geometry.specs.Needs.{Small, Parts, largestImage, noMemory, memoryOf, Lengths, bytesFor}
 use Rattle.geometry.proofs.PartLaws.{least-le}
 
 -- ---- as many partials as there can be
 module _ (n b : ℕ) {m : ℕ} (small : Small n b) (is : m ≡ least n 512) where
   few : m ≤ 512
   few = omega (arith, least-le n 512 .1)
-
-  pub words-most : m * (3 + 4 * b) ≤ 525824
-  words-most = let h : 3 + 4 * b ≤ 1027 = omega arith in mul-le-mul few h
 
   pub blocks-most : m * b ≤ 131072
   blocks-most = mul-le-mul few (small .blocks-most)
@@ -31,15 +28,29 @@ module _ (n b : ℕ) {m : ℕ} (small : Small n b) (is : m ≡ least n 512) wher
     places-most = small .pieces-most;
   }
 
+-- the blocks of all partials that can stand
+pub held-most : (n b : ℕ) {m : ℕ} → Small n b → m ≡ partialsNeeded n → m * b ≤ 131072
+unfolding partialsNeeded
+held-most n b small is = blocks-most n b small is
+
 -- ---- of a geometry
 module _ (totalSize pieceSize : ℕ) where
-  pub words-valid : validGeometry totalSize pieceSize ≡ true → wordsNeeded (numPieces totalSize pieceSize) (wholePieceBlocks pieceSize) ≡ wordsFor totalSize pieceSize
-  unfolding wordsFor
-  words-valid h = rw h
+  pub memory-valid : validGeometry totalSize pieceSize ≡ true
+      → memoryFor (numPieces totalSize pieceSize) (wholePieceBlocks pieceSize) ≡ memoryOf totalSize pieceSize
+  unfolding memoryOf
+  memory-valid h = rw h
 
-  pub words-none : validGeometry totalSize pieceSize ≡ false → 0 ≡ wordsFor totalSize pieceSize
-  unfolding wordsFor
-  words-none h = rw h
+  -- each length by itself
+  pub lengths-valid : validGeometry totalSize pieceSize ≡ true → {n b words cells partials : ℕ} → n ≡ numPieces totalSize pieceSize
+      → b ≡ wholePieceBlocks pieceSize → words ≡ wordsNeeded n b → cells ≡ cellsNeeded n b → partials ≡ partialsNeeded n
+      → Lengths (memoryOf totalSize pieceSize) words cells partials
+  unfolding memoryOf memoryFor
+  lengths-valid h e f w c p =
+      record { words-same = rw (h, w, e, f); cells-same = rw (h, c, e, f); partials-same = rw (h, p, e) }
+
+  pub lengths-none : validGeometry totalSize pieceSize ≡ false → Lengths (memoryOf totalSize pieceSize) 0 0 0
+  unfolding memoryOf noMemory
+  lengths-none h = record { words-same = rw h; cells-same = rw h; partials-same = rw h }
 
   pub bytes-valid : validGeometry totalSize pieceSize ≡ true → largestImage (numPieces totalSize pieceSize) (wholePieceBlocks pieceSize) ≡ bytesFor totalSize pieceSize
   unfolding bytesFor

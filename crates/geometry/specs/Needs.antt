@@ -1,12 +1,13 @@
 -- What a picker needs of memory, and how long its image is. Assumes nothing.
 -- `n` is the number of pieces, `b` the number of blocks of a whole piece.
+use mathlib.Core.Path.{_≡_}
 use mathlib.Core.Bool.{cond}
 use mathlib.Core.List.{List, [], _∷_}
 use Prim.Native.Nat.{ℕ, _+_, _*_, _≤_}
 use Rattle.model.specs.Lists.{least, len}
 use Rattle.model.specs.Bep3.{numPieces, wholePieceBlocks}
 use Rattle.model.specs.State.{DownloadingPiece, validGeometry, maxPieces, maxPartials, maxExtents, extentBlocks}
-use Rattle.model.specs.Calls.{wordsNeeded}
+use Rattle.model.specs.Memory.{Memory, memoryFor}
 
 -- ---- limits
 -- what every valid geometry keeps to
@@ -57,8 +58,20 @@ unfoldable pub largestImage : (n b : ℕ) → ℕ
 largestImage n b = imageLength n (least n maxPartials) (least n maxPartials * b) maxExtents n
 
 -- ---- of a geometry, 0 where it is not valid
-unfoldable pub wordsFor : (totalSize pieceSize : ℕ) → ℕ
-wordsFor totalSize pieceSize = cond (validGeometry totalSize pieceSize) (wordsNeeded (numPieces totalSize pieceSize) (wholePieceBlocks pieceSize)) 0
+unfoldable pub noMemory : Memory
+noMemory = record { words = 0; cells = 0; partials = 0 }
 
+-- the lengths of the buffers
+unfoldable pub memoryOf : (totalSize pieceSize : ℕ) → Memory
+memoryOf totalSize pieceSize =
+    cond (validGeometry totalSize pieceSize) (memoryFor (numPieces totalSize pieceSize) (wholePieceBlocks pieceSize)) noMemory
+
+-- these are its lengths
+pub record Lengths (memory : Memory) (words cells partials : ℕ) : Type 0 where
+  pub words-same : words ≡ memory .words
+  pub cells-same : cells ≡ memory .cells
+  pub partials-same : partials ≡ memory .partials
+
+-- the bytes of an image
 unfoldable pub bytesFor : (totalSize pieceSize : ℕ) → ℕ
 bytesFor totalSize pieceSize = cond (validGeometry totalSize pieceSize) (largestImage (numPieces totalSize pieceSize) (wholePieceBlocks pieceSize)) 0

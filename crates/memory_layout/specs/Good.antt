@@ -11,20 +11,23 @@ use Rattle.types.specs.declared.refusal.Refusal.the-variants.{ShortMemory, IllF
 use Rattle.model.specs.Lists.{every, from, member}
 use Rattle.model.specs.State.{maxExtents, validGeometry}
 use Rattle.model.specs.list.Order.{rank}
+use Rattle.model.specs.Memory.{Memory, memoryFor, isShort}
 use Rattle.model.specs.image.WellFormed.{headOk, piecesOk, partialsOk, extentsOk, listingOk}
 use Rattle.list_groups.specs.Words.{listedPiece, listedRank}
 use Rattle.memory_records.specs.declared.record.DownloadingPiece.{DownloadingPiece as Record}
 use Rattle.memory_layout.specs.Tables.{tabulate}
-use Rattle.memory_layout.specs.Offsets.{placesFor, headLength, wordsFor, cellsFor}
+use Rattle.memory_layout.specs.Offsets.{placesFor, headLength}
 use Rattle.memory_layout.specs.Decode.{headWord, pieceWord, pieceCell, blockCell, recordAt, piecesOn, blocksOn, blocksOf}
 use Rattle.memory_layout.specs.Decode.{decode}
 
 -- ---- lengths
+-- the memory that is lent
+unfoldable pub lengths : (lent : ℕ) (words cells : List ℕ) → Memory
+lengths lent words cells = record { words = length words; cells = length cells; partials = lent }
+
 -- a buffer is shorter than the geometry of the head needs
 unfoldable pub short : (lent : ℕ) (words cells : List ℕ) → Bool
-short lent words cells =
-    not (leb (wordsFor (piecesOn words) (blocksOn words)) (length words)
-    && (leb (cellsFor (piecesOn words) (blocksOn words)) (length cells) && leb (placesFor (piecesOn words)) lent))
+short lent words cells = isShort (lengths lent words cells) (memoryFor (piecesOn words) (blocksOn words))
 
 -- ---- numbers that an image could hold
 -- dirty is 0 or 1, and the numbers of list places, partials and extents have room; a dirty list has no place

@@ -1,6 +1,6 @@
 -- Calls: every question, change and pick with all that is lent to it, the refusals in the table's order, a step, and lists of calls.
 -- Assumes nothing.
-use Prim.Native.Nat.{ℕ, _+_, _*_, _%_, _^_}
+use Prim.Native.Nat.{ℕ, _+_, _%_, _^_}
 use mathlib.Core.Bool.{Bool, true, false, cond, not, _&&_}
 use mathlib.Core.List.{List, [], _∷_}
 use mathlib.Core.Option.{Option, none, some}
@@ -10,11 +10,12 @@ use Rattle.types.specs.declared.refusal.Refusal.{Refusal}
 use Rattle.types.specs.declared.refusal.Refusal.the-variants.{Geometry, ShortMemory, FewDraws, OutOfRange, TooManyPeers, NoPeerToTake}
 use Rattle.types.specs.declared.refusal.Refusal.the-variants.{HavePiece, NotWriting, TooManyPartials, PickArguments, ShortOutput}
 use Rattle.types.specs.declared.refusal.Refusal.the-variants.{IllFormedImage}
-use Rattle.model.specs.Lists.{least, any, len}
+use Rattle.model.specs.Lists.{any, len}
 use Rattle.model.specs.Bep3.{bitfieldBytes}
 use Rattle.model.specs.State.{Piece, Block, Picker, Listing, dirty, fresh, maxPeers, maxPartials, maxPriority, maxWanted}
 use Rattle.model.specs.State.{maxContiguous, maxSuggestions, spareOutput, minDraws, isOpen, sameBlockState, validGeometry, new}
 use Rattle.model.specs.State.{pieceAt, piecesIn, blocksPerPiece, blocksInPiece}
+use Rattle.model.specs.Memory.{Memory, partialsNeeded, memoryNeeded, isShort}
 use Rattle.model.specs.Options.{rarestFirst, sequential}
 use Rattle.model.specs.list.Order.{Draws, Drawing, drawing}
 use Rattle.model.specs.change.Partials.{partialOf}
@@ -40,9 +41,9 @@ pub data Action : Type 0 where
   lock-piece piece-passed : (piece : ℕ) → Action
   pick-pieces : PickRequest → (free : ℕ) → (draws : Draws) → Action
 
--- `lent` are the words of memory that the picker stands in
+-- `lent` is the memory that the picker stands in
 pub record Call : Type 0 where
-  pub lent : ℕ
+  pub lent : Memory
   pub action : Action
 
 -- a refusal; a change done, or answered true or false, with the draws used; what a question is told; what a pick gives
@@ -53,20 +54,11 @@ pub data Answer : Type 0 where
   replied : Reply → Answer
   picked : List PieceBlock → (flags : ℕ) → (loops : List ℕ) → (used : ℕ) → Answer
 
--- ---- needs
--- words of memory for a picker of n pieces of b blocks: a head, six fields of a piece, three of a partial and four of a block
-unfoldable pub wordsNeeded : (pieces blocks : ℕ) → ℕ
-wordsNeeded pieces blocks = 16 + 6 * pieces + least pieces maxPartials * (3 + 4 * blocks)
-
--- the memory of a picker
-unfoldable pub memoryNeeded : (s : Picker) → ℕ
-memoryNeeded s = wordsNeeded (piecesIn s) (blocksPerPiece s)
-
--- records of an answer
+-- ---- records of an answer
 unfoldable pub recordsNeeded : (s : Picker) (list : ListOfPicker) → ℕ
 recordsNeeded s get-availability-vec = piecesIn s
 recordsNeeded s piece-priorities = piecesIn s
-recordsNeeded s get-download-queue = least (piecesIn s) maxPartials
+recordsNeeded s get-download-queue = partialsNeeded (piecesIn s)
 
 -- ---- refusals: the first of the table that holds
 -- a refusal that is met, or what the rest of the table says
@@ -230,7 +222,7 @@ unlessRefused (some why) s action = answering (refused why) s
 
 -- 2 of the picker's memory first
 unfoldable pub step : (s : Picker) (c : Call) → Step
-step s c = unlessRefused (check (ltb (c .lent) (memoryNeeded s)) ShortMemory (refusal s (c .action))) s (c .action)
+step s c = unlessRefused (check (isShort (c .lent) (memoryNeeded s)) ShortMemory (refusal s (c .action))) s (c .action)
 
 -- ---- lists of calls
 -- what they answer, each led by those before it
@@ -250,20 +242,20 @@ pub data Made : Type 0 where
   notMade : Refusal → Made
 
 -- the picker, given memory enough
-unfoldable pub within : (lent : ℕ) (s : Picker) → Made
-within lent s = cond (ltb lent (memoryNeeded s)) (notMade ShortMemory) (made s)
+unfoldable pub within : (lent : Memory) (s : Picker) → Made
+within lent s = cond (isShort lent (memoryNeeded s)) (notMade ShortMemory) (made s)
 
 -- `new`
-unfoldable pub newPicker : (lent totalSize pieceSize : ℕ) → Made
+unfoldable pub newPicker : (lent : Memory) (totalSize pieceSize : ℕ) → Made
 newPicker lent totalSize pieceSize = cond (validGeometry totalSize pieceSize) (within lent (new totalSize pieceSize)) (notMade Geometry)
 
 -- the picker of an accepted image
-unfoldable pub readWithin : (lent : ℕ) (read : Read Picker) → Made
+unfoldable pub readWithin : (lent : Memory) (read : Read Picker) → Made
 readWithin lent (accepted s) = within lent s
 readWithin lent (faultAt k) = notMade (IllFormedImage k)
 
 -- a reader of bytes looks at them before it looks at the memory
-unfoldable pub readPicker : (lent : ℕ) (bs : List ℕ) → Made
+unfoldable pub readPicker : (lent : Memory) (bs : List ℕ) → Made
 readPicker lent bs = readWithin lent (readImage bs)
 
 -- the image, or why it is not taken
@@ -272,6 +264,6 @@ pub data Taken : Type 0 where
   notTaken : Refusal → Taken
 
 -- taking the image needs room for it
-unfoldable pub takeImage : (s : Picker) (lent room : ℕ) → Taken
+unfoldable pub takeImage : (s : Picker) (lent : Memory) (room : ℕ) → Taken
 takeImage s lent room =
-    cond (ltb lent (memoryNeeded s)) (notTaken ShortMemory) (cond (ltb room (len (image s))) (notTaken ShortMemory) (taken (image s)))
+    cond (isShort lent (memoryNeeded s)) (notTaken ShortMemory) (cond (ltb room (len (image s))) (notTaken ShortMemory) (taken (image s)))

@@ -19,6 +19,7 @@
 --   image/WellFormed the rules of a well-formed picker, record by record
 --   image/Sound      the same field by field, as the laws use them
 --   image/Image      the bytes of a picker, and the reader that accepts them or says where they are at fault
+--   Memory           the lent memory: the lengths of its three buffers, and how long they have to be
 --   Calls            calls with all that is lent to them, the table of refusals, a step, lists of calls
 --   image/Program    the pick program: an image and a pick record in, an answer or a refusal out
 -- For what the picker does read State, list/Order, change, pick and Calls; for terms 1 and 3 also image.
@@ -31,4 +32,5 @@ pub mod change
 pub mod ask
 pub mod pick
 pub mod image
+pub mod Memory
 pub mod Calls

@@ -7,15 +7,24 @@ use Rattle.types.specs.declared.refusal.Refusal.{Refusal}
 use Rattle.model.specs.State.{Picker}
 use Rattle.model.specs.pick.Blocks.{PickRequest}
 use Rattle.model.specs.image.Image.{image}
+use Rattle.model.specs.Memory.{Memory}
 use Rattle.model.specs.Calls.{Action, Answer, Step, Made, made, notMade, Taken, taken, notTaken, step, newPicker, readPicker, takeImage}
 
 -- ---- a script's line
--- `lent` are words of memory, `room` the bytes lent for an image
+-- `lent` is the memory, `room` the bytes lent for an image
 pub data Line : Type 0 where
-  new-line : (lent totalSize pieceSize : ℕ) → Line
-  read-line : (lent : ℕ) → List ℕ → Line
-  image-line : (lent room : ℕ) → Line
-  call-line : (lent : ℕ) → Action → Line
+  new-line : (lent : Memory) → (totalSize pieceSize : ℕ) → Line
+  read-line : (lent : Memory) → List ℕ → Line
+  image-line : (lent : Memory) → (room : ℕ) → Line
+  call-line : (lent : Memory) → Action → Line
+
+-- so many words, cells and records
+abbrev pub lending : ℕ → ℕ → ℕ → Memory
+lending w c p = record { words = w; cells = c; partials = p }
+
+-- more than is needed
+abbrev pub plenty : Memory
+plenty = lending 1000000 1000000 1000000
 
 -- n lent words: those listed, then zeros
 abbrev pub words : ℕ → List ℕ → List ℕ

@@ -1,586 +1,293 @@
--- Recorded calls 4926 to 8252, those that are replayed, computed. Written by compare/steps.py: not to be edited.
+-- Recorded calls 5741 to 8290, those that are replayed, computed. Written by compare/steps.py: not to be edited.
 use mathlib.Core.Path.{_≡_, refl}
 use mathlib.Core.Bool.{true, false}
 use Prim.Native.Nat.{ℕ}
 use mathlib.Core.List.{List, [], _∷_}
 use mathlib.Core.Option.{none, some}
-use Rattle.model.specs.Calls.{abort-download, done, inc-refcount, inc-refcount-all, lock-piece, mark-as-canceled, mark-as-downloading, mark-as-finished, mark-as-writing, pick-pieces, picked, piece-passed, question, refused, replied, said, set-piece-priority}
-use Rattle.model.specs.ask.Questions.{all-pieces, block-num-peers, block-peer, block-size, block-state, blocks-for-piece, blocks-in-piece, blocks-per-piece, cursor?, dirty?, distributed-copies, download-state, full-piece-size, get-availability, get-availability-vec, get-download-queue, get-download-queue-size, get-download-queue-sizes, get-downloaders, have, have-piece, have-want, is-downloading, is-finished, is-finished-block, is-hashing, is-piece-finished, is-piece-flushed, is-requested, is-seeding, list-place, listOfPicker, listOfPiece, locked?, nothing, num-filtered, num-have, num-have-filtered, num-pad-bytes, num-pieces, num-seeds, num-want-left, numbers, ofBlock, ofPicker, ofPiece, pad-bytes-in-piece, partial-at, passed-hash-check, payload-blocks-in-piece, peer-count, piece-info, piece-priorities, piece-priority, piece-size, piece-stats, recent-extent, reverse-cursor?, staleList, total-size, want}
+use Rattle.model.specs.Calls.{abort-download, dec-refcount, dec-refcount-all, done, inc-refcount, inc-refcount-all, lock-piece, mark-as-canceled, mark-as-downloading, mark-as-finished, mark-as-writing, pick-pieces, picked, piece-passed, question, refused, replied, said, set-piece-priority}
+use Rattle.model.specs.ask.Questions.{all-pieces, block-num-peers, block-peer, block-size, blocks-for-piece, blocks-in-piece, blocks-per-piece, cursor?, dirty?, distributed-copies, download-state, full-piece-size, get-availability, get-availability-vec, get-download-queue, get-download-queue-size, get-download-queue-sizes, get-downloaders, have, have-piece, have-want, is-downloading, is-finished, is-hashing, is-piece-finished, is-piece-flushed, is-requested, is-seeding, list-place, listOfPicker, listOfPiece, nothing, num-filtered, num-have, num-have-filtered, num-pad-bytes, num-pieces, num-seeds, num-want-left, numbers, ofBlock, ofPicker, ofPiece, pad-bytes-in-piece, passed-hash-check, payload-blocks-in-piece, peer-count, piece-info, piece-priorities, piece-priority, piece-size, piece-stats, reverse-cursor?, staleList, total-size, want}
 use Rattle.model.specs.pick.Blocks.{pieceBlock}
 use Rattle.replayed.proofs.Replaying.{replaying}
-use Rattle.replayed.specs.Replay.{answered, asking, bytesTaken, call-line, image-line, new-line, notDone, outcome, outcomes, read-line, stands, words}
-use Rattle.types.specs.declared.refusal.Refusal.the-variants.{FewDraws, IllFormedImage, OutOfRange, PickArguments, ShortMemory, TooManyPartials, TooManyPeers}
+use Rattle.replayed.specs.Replay.{answered, asking, bytesTaken, call-line, image-line, lending, new-line, notDone, outcome, outcomes, plenty, read-line, stands, words}
+use Rattle.types.specs.declared.refusal.Refusal.the-variants.{FewDraws, IllFormedImage, NotWriting, OutOfRange, ShortMemory, TooManyPartials, TooManyPeers}
 
-abbrev image-4926 : List ℕ
-image-4926 =
-    1 ∷ 0 ∷ 0 ∷ 0 ∷ 0 ∷ 0 ∷ 2 ∷ 32 ∷ 218 ∷ 0 ∷ 0 ∷ 128 ∷ 0 ∷ 0 ∷ 0 ∷ 0 ∷ 0 ∷ 0 ∷ 0 ∷ 0 ∷ 0 ∷ 0 ∷ 5 ∷ 1 ∷
-    2 ∷ 0 ∷ 0 ∷ 4 ∷ 4 ∷ 0 ∷ 0 ∷ 0 ∷ 0 ∷ 0 ∷
-    2 ∷ 0 ∷ 0 ∷ 4 ∷ 4 ∷ 0 ∷ 0 ∷ 0 ∷ 0 ∷ 0 ∷
-    2 ∷ 0 ∷ 0 ∷ 4 ∷ 4 ∷ 0 ∷ 0 ∷ 0 ∷ 0 ∷ 0 ∷
-    2 ∷ 0 ∷ 0 ∷ 4 ∷ 4 ∷ 0 ∷ 0 ∷ 0 ∷ 0 ∷ 0 ∷
-    2 ∷ 0 ∷ 0 ∷ 4 ∷ 4 ∷ 0 ∷ 0 ∷ 0 ∷ 0 ∷ 0 ∷ []
+abbrev image-5741 : List ℕ
+image-5741 =
+    1 ∷ 0 ∷ 0 ∷ 0 ∷ 0 ∷ 0 ∷ 0 ∷ 0 ∷ 12 ∷ 0 ∷ 0 ∷ 0 ∷ 3 ∷ 0 ∷ 1 ∷ 0 ∷ 0 ∷ 0 ∷ 2 ∷ 0 ∷ 0 ∷ 0 ∷ 4 ∷ 1 ∷
+    2 ∷ 0 ∷ 1 ∷ 6 ∷ 4 ∷ 0 ∷ 0 ∷ 0 ∷ 0 ∷ 0 ∷
+    2 ∷ 0 ∷ 1 ∷ 4 ∷ 4 ∷ 0 ∷ 0 ∷ 0 ∷ 0 ∷ 0 ∷
+    2 ∷ 3 ∷ 231 ∷ 4 ∷ 1 ∷ 0 ∷ 0 ∷ 0 ∷ 0 ∷ 0 ∷
+    2 ∷ 0 ∷ 2 ∷ 4 ∷ 4 ∷ 1 ∷ 0 ∷ 0 ∷ 0 ∷ 0 ∷
+    3 ∷ 0 ∷ 0 ∷ 0 ∷ 0 ∷ 0 ∷
+    4 ∷ 1 ∷ 0 ∷ 1 ∷ 1 ∷ 0 ∷ 0 ∷ 0 ∷ 0 ∷ 0 ∷ 0 ∷ 0 ∷ 0 ∷ []
 
--- calls 4926 to 4928
-calls-4926 :
+-- calls 5741 to 5742
+calls-5741 :
     outcomes none
-    (new-line 1000000 139482 32768
-    ∷ call-line 1000000 (question (ofPiece piece-size 4))
-    ∷ call-line 1000000 (mark-as-canceled 2 0 (some 18446744073709551615) (words 0 []))
+    (read-line plenty image-5741
+    ∷ call-line plenty inc-refcount-all
     ∷ [])
-    ≡ outcome stands image-4926
-    ∷ outcome (answered (replied (numbers ((some 8410) ∷ [])))) image-4926
-    ∷ outcome (answered (refused FewDraws)) image-4926
+    ≡ outcome stands image-5741
+    ∷ outcome (answered (refused TooManyPeers)) image-5741
     ∷ []
 unfolding replaying
-calls-4926 = refl
+calls-5741 = refl
 
-abbrev image-5008 : List ℕ
-image-5008 =
-    1 ∷ 0 ∷ 0 ∷ 0 ∷ 0 ∷ 0 ∷ 0 ∷ 192 ∷ 0 ∷ 0 ∷ 0 ∷ 64 ∷ 0 ∷ 0 ∷ 1 ∷ 0 ∷ 0 ∷ 0 ∷ 2 ∷ 0 ∷ 0 ∷ 0 ∷ 2 ∷ 0 ∷
-    2 ∷ 0 ∷ 1 ∷ 4 ∷ 4 ∷ 0 ∷ 0 ∷ 0 ∷ 57 ∷ 31 ∷
-    2 ∷ 3 ∷ 231 ∷ 4 ∷ 4 ∷ 0 ∷ 0 ∷ 0 ∷ 64 ∷ 0 ∷
-    2 ∷ 3 ∷ 231 ∷ 4 ∷ 6 ∷ 0 ∷ 0 ∷ 0 ∷ 64 ∷ 0 ∷
-    5 ∷ 0 ∷ 0 ∷ 0 ∷ 0 ∷
-    6 ∷ 0 ∷ 0 ∷ 0 ∷ 0 ∷
-    6 ∷ 0 ∷ 0 ∷ 0 ∷ 2 ∷
-    6 ∷ 0 ∷ 0 ∷ 0 ∷ 1 ∷ []
-
--- calls 5008 to 5009
-calls-5008 :
-    outcomes none
-    (read-line 1000000 image-5008
-    ∷ call-line 1000000 (question (ofBlock block-state 1 0))
-    ∷ [])
-    ≡ outcome stands image-5008
-    ∷ outcome (answered (replied nothing)) image-5008
-    ∷ []
-unfolding replaying
-calls-5008 = refl
-
-abbrev image-5256 : List ℕ
-image-5256 =
-    1 ∷ 0 ∷ 0 ∷ 0 ∷ 0 ∷ 0 ∷ 0 ∷ 0 ∷ 1 ∷ 0 ∷ 1 ∷ 0 ∷ 0 ∷ 0 ∷ 1 ∷ 0 ∷ 0 ∷ 0 ∷ 0 ∷ 0 ∷ 0 ∷ 0 ∷ 1 ∷ 0 ∷
-    2 ∷ 0 ∷ 0 ∷ 3 ∷ 0 ∷ 0 ∷ 0 ∷ 0 ∷ 0 ∷ 0 ∷
+abbrev image-5984 : List ℕ
+image-5984 =
+    1 ∷ 0 ∷ 0 ∷ 0 ∷ 0 ∷ 0 ∷ 1 ∷ 0 ∷ 1 ∷ 0 ∷ 1 ∷ 0 ∷ 0 ∷ 0 ∷ 0 ∷ 0 ∷ 0 ∷ 0 ∷ 1 ∷ 0 ∷ 0 ∷ 0 ∷ 0 ∷ 1 ∷
+    2 ∷ 0 ∷ 7 ∷ 1 ∷ 4 ∷ 0 ∷ 0 ∷ 0 ∷ 64 ∷ 0 ∷
+    2 ∷ 0 ∷ 0 ∷ 1 ∷ 4 ∷ 0 ∷ 0 ∷ 0 ∷ 0 ∷ 0 ∷
     3 ∷ 0 ∷ 0 ∷ 0 ∷ 0 ∷ 0 ∷
-    4 ∷ 0 ∷ 0 ∷ 2 ∷ 1 ∷ 0 ∷ 0 ∷ 0 ∷ 0 ∷ 0 ∷ 0 ∷ 0 ∷ 2 ∷ []
+    4 ∷ 0 ∷ 0 ∷ 1 ∷ 1 ∷ 0 ∷ 0 ∷ 0 ∷ 0 ∷ 0 ∷ 0 ∷ 0 ∷ 1 ∷
+    4 ∷ 0 ∷ 0 ∷ 3 ∷ 1 ∷ 0 ∷ 0 ∷ 0 ∷ 0 ∷ 0 ∷ 0 ∷ 0 ∷ 1 ∷
+    4 ∷ 0 ∷ 0 ∷ 0 ∷ 0 ∷ 0 ∷ 0 ∷ 0 ∷ 0 ∷ 0 ∷ 0 ∷ 0 ∷ 0 ∷
+    4 ∷ 0 ∷ 0 ∷ 0 ∷ 1 ∷ 0 ∷ 0 ∷ 0 ∷ 0 ∷ 0 ∷ 0 ∷ 0 ∷ 3 ∷
+    3 ∷ 0 ∷ 0 ∷ 0 ∷ 1 ∷ 1 ∷
+    4 ∷ 1 ∷ 0 ∷ 0 ∷ 1 ∷ 255 ∷ 255 ∷ 255 ∷ 255 ∷ 255 ∷ 255 ∷ 255 ∷ 255 ∷ []
 
-abbrev image-5257 : List ℕ
-image-5257 =
-    1 ∷ 0 ∷ 0 ∷ 0 ∷ 0 ∷ 0 ∷ 0 ∷ 0 ∷ 1 ∷ 0 ∷ 1 ∷ 0 ∷ 0 ∷ 0 ∷ 1 ∷ 0 ∷ 0 ∷ 0 ∷ 0 ∷ 0 ∷ 0 ∷ 0 ∷ 1 ∷ 0 ∷
-    2 ∷ 0 ∷ 0 ∷ 3 ∷ 0 ∷ 0 ∷ 0 ∷ 0 ∷ 0 ∷ 0 ∷
+abbrev image-5986 : List ℕ
+image-5986 =
+    1 ∷ 0 ∷ 0 ∷ 0 ∷ 0 ∷ 0 ∷ 1 ∷ 0 ∷ 1 ∷ 0 ∷ 1 ∷ 0 ∷ 0 ∷ 0 ∷ 0 ∷ 0 ∷ 0 ∷ 0 ∷ 1 ∷ 0 ∷ 0 ∷ 0 ∷ 0 ∷ 1 ∷
+    2 ∷ 0 ∷ 7 ∷ 1 ∷ 4 ∷ 0 ∷ 0 ∷ 0 ∷ 64 ∷ 0 ∷
+    2 ∷ 0 ∷ 0 ∷ 1 ∷ 7 ∷ 0 ∷ 0 ∷ 0 ∷ 0 ∷ 0 ∷
     3 ∷ 0 ∷ 0 ∷ 0 ∷ 0 ∷ 0 ∷
-    4 ∷ 1 ∷ 0 ∷ 3 ∷ 1 ∷ 0 ∷ 0 ∷ 0 ∷ 0 ∷ 0 ∷ 0 ∷ 0 ∷ 0 ∷ []
+    4 ∷ 0 ∷ 0 ∷ 1 ∷ 1 ∷ 0 ∷ 0 ∷ 0 ∷ 0 ∷ 0 ∷ 0 ∷ 0 ∷ 1 ∷
+    4 ∷ 0 ∷ 0 ∷ 3 ∷ 1 ∷ 0 ∷ 0 ∷ 0 ∷ 0 ∷ 0 ∷ 0 ∷ 0 ∷ 1 ∷
+    4 ∷ 0 ∷ 0 ∷ 0 ∷ 0 ∷ 0 ∷ 0 ∷ 0 ∷ 0 ∷ 0 ∷ 0 ∷ 0 ∷ 0 ∷
+    4 ∷ 0 ∷ 0 ∷ 0 ∷ 1 ∷ 0 ∷ 0 ∷ 0 ∷ 0 ∷ 0 ∷ 0 ∷ 0 ∷ 3 ∷
+    3 ∷ 0 ∷ 0 ∷ 0 ∷ 1 ∷ 1 ∷
+    4 ∷ 1 ∷ 0 ∷ 0 ∷ 1 ∷ 255 ∷ 255 ∷ 255 ∷ 255 ∷ 255 ∷ 255 ∷ 255 ∷ 255 ∷ []
 
-abbrev image-5258 : List ℕ
-image-5258 =
-    1 ∷ 0 ∷ 0 ∷ 0 ∷ 0 ∷ 0 ∷ 0 ∷ 0 ∷ 1 ∷ 0 ∷ 1 ∷ 0 ∷ 0 ∷ 0 ∷ 2 ∷ 0 ∷ 0 ∷ 0 ∷ 0 ∷ 0 ∷ 0 ∷ 0 ∷ 1 ∷ 0 ∷
-    2 ∷ 0 ∷ 0 ∷ 3 ∷ 0 ∷ 0 ∷ 0 ∷ 0 ∷ 0 ∷ 0 ∷
+abbrev image-5987 : List ℕ
+image-5987 =
+    1 ∷ 0 ∷ 0 ∷ 0 ∷ 0 ∷ 0 ∷ 1 ∷ 0 ∷ 1 ∷ 0 ∷ 1 ∷ 0 ∷ 0 ∷ 0 ∷ 0 ∷ 0 ∷ 0 ∷ 0 ∷ 1 ∷ 0 ∷ 0 ∷ 0 ∷ 0 ∷ 1 ∷
+    2 ∷ 0 ∷ 6 ∷ 1 ∷ 4 ∷ 0 ∷ 0 ∷ 0 ∷ 64 ∷ 0 ∷
+    2 ∷ 0 ∷ 0 ∷ 1 ∷ 7 ∷ 0 ∷ 0 ∷ 0 ∷ 0 ∷ 0 ∷
     3 ∷ 0 ∷ 0 ∷ 0 ∷ 0 ∷ 0 ∷
-    4 ∷ 1 ∷ 0 ∷ 3 ∷ 1 ∷ 0 ∷ 0 ∷ 0 ∷ 0 ∷ 0 ∷ 0 ∷ 0 ∷ 0 ∷ []
+    4 ∷ 0 ∷ 0 ∷ 1 ∷ 1 ∷ 0 ∷ 0 ∷ 0 ∷ 0 ∷ 0 ∷ 0 ∷ 0 ∷ 1 ∷
+    4 ∷ 0 ∷ 0 ∷ 3 ∷ 1 ∷ 0 ∷ 0 ∷ 0 ∷ 0 ∷ 0 ∷ 0 ∷ 0 ∷ 1 ∷
+    4 ∷ 0 ∷ 0 ∷ 0 ∷ 0 ∷ 0 ∷ 0 ∷ 0 ∷ 0 ∷ 0 ∷ 0 ∷ 0 ∷ 0 ∷
+    4 ∷ 0 ∷ 0 ∷ 0 ∷ 1 ∷ 0 ∷ 0 ∷ 0 ∷ 0 ∷ 0 ∷ 0 ∷ 0 ∷ 3 ∷
+    3 ∷ 0 ∷ 0 ∷ 0 ∷ 1 ∷ 1 ∷
+    4 ∷ 1 ∷ 0 ∷ 0 ∷ 1 ∷ 255 ∷ 255 ∷ 255 ∷ 255 ∷ 255 ∷ 255 ∷ 255 ∷ 255 ∷ []
 
-abbrev image-5260 : List ℕ
-image-5260 =
-    1 ∷ 0 ∷ 0 ∷ 0 ∷ 0 ∷ 0 ∷ 0 ∷ 0 ∷ 1 ∷ 0 ∷ 1 ∷ 0 ∷ 0 ∷ 0 ∷ 2 ∷ 0 ∷ 0 ∷ 0 ∷ 0 ∷ 0 ∷ 0 ∷ 0 ∷ 1 ∷ 0 ∷
-    2 ∷ 0 ∷ 0 ∷ 3 ∷ 0 ∷ 0 ∷ 0 ∷ 0 ∷ 0 ∷ 0 ∷
+abbrev image-5988 : List ℕ
+image-5988 =
+    1 ∷ 0 ∷ 0 ∷ 0 ∷ 0 ∷ 0 ∷ 1 ∷ 0 ∷ 1 ∷ 0 ∷ 1 ∷ 0 ∷ 0 ∷ 0 ∷ 0 ∷ 0 ∷ 0 ∷ 0 ∷ 1 ∷ 0 ∷ 0 ∷ 0 ∷ 0 ∷ 0 ∷
+    2 ∷ 0 ∷ 6 ∷ 1 ∷ 4 ∷ 0 ∷ 0 ∷ 0 ∷ 64 ∷ 0 ∷
+    2 ∷ 0 ∷ 0 ∷ 1 ∷ 7 ∷ 0 ∷ 0 ∷ 0 ∷ 0 ∷ 0 ∷
+    3 ∷ 0 ∷ 0 ∷ 0 ∷ 0 ∷ 0 ∷
+    4 ∷ 0 ∷ 0 ∷ 1 ∷ 1 ∷ 0 ∷ 0 ∷ 0 ∷ 0 ∷ 0 ∷ 0 ∷ 0 ∷ 1 ∷
+    4 ∷ 0 ∷ 0 ∷ 3 ∷ 1 ∷ 0 ∷ 0 ∷ 0 ∷ 0 ∷ 0 ∷ 0 ∷ 0 ∷ 1 ∷
+    4 ∷ 0 ∷ 0 ∷ 0 ∷ 0 ∷ 0 ∷ 0 ∷ 0 ∷ 0 ∷ 0 ∷ 0 ∷ 0 ∷ 0 ∷
+    4 ∷ 0 ∷ 0 ∷ 0 ∷ 1 ∷ 0 ∷ 0 ∷ 0 ∷ 0 ∷ 0 ∷ 0 ∷ 0 ∷ 3 ∷
+    3 ∷ 0 ∷ 0 ∷ 0 ∷ 1 ∷ 1 ∷
+    4 ∷ 1 ∷ 0 ∷ 0 ∷ 1 ∷ 255 ∷ 255 ∷ 255 ∷ 255 ∷ 255 ∷ 255 ∷ 255 ∷ 255 ∷ []
+
+abbrev image-5990 : List ℕ
+image-5990 =
+    1 ∷ 0 ∷ 0 ∷ 0 ∷ 0 ∷ 0 ∷ 1 ∷ 0 ∷ 1 ∷ 0 ∷ 1 ∷ 0 ∷ 0 ∷ 0 ∷ 0 ∷ 0 ∷ 0 ∷ 0 ∷ 1 ∷ 0 ∷ 0 ∷ 0 ∷ 0 ∷ 0 ∷
+    2 ∷ 0 ∷ 6 ∷ 1 ∷ 4 ∷ 0 ∷ 0 ∷ 0 ∷ 64 ∷ 0 ∷
+    2 ∷ 0 ∷ 0 ∷ 1 ∷ 7 ∷ 0 ∷ 0 ∷ 0 ∷ 0 ∷ 0 ∷
+    3 ∷ 0 ∷ 0 ∷ 0 ∷ 0 ∷ 0 ∷
+    4 ∷ 0 ∷ 0 ∷ 1 ∷ 1 ∷ 0 ∷ 0 ∷ 0 ∷ 0 ∷ 0 ∷ 0 ∷ 0 ∷ 1 ∷
+    4 ∷ 0 ∷ 0 ∷ 3 ∷ 1 ∷ 0 ∷ 0 ∷ 0 ∷ 0 ∷ 0 ∷ 0 ∷ 0 ∷ 1 ∷
+    4 ∷ 0 ∷ 0 ∷ 0 ∷ 0 ∷ 0 ∷ 0 ∷ 0 ∷ 0 ∷ 0 ∷ 0 ∷ 0 ∷ 0 ∷
+    4 ∷ 0 ∷ 0 ∷ 0 ∷ 1 ∷ 0 ∷ 0 ∷ 0 ∷ 0 ∷ 0 ∷ 0 ∷ 0 ∷ 3 ∷
+    3 ∷ 0 ∷ 0 ∷ 0 ∷ 1 ∷ 1 ∷
+    4 ∷ 1 ∷ 0 ∷ 0 ∷ 1 ∷ 0 ∷ 0 ∷ 0 ∷ 0 ∷ 0 ∷ 0 ∷ 0 ∷ 3 ∷ []
+
+abbrev image-5991 : List ℕ
+image-5991 =
+    1 ∷ 0 ∷ 0 ∷ 0 ∷ 0 ∷ 0 ∷ 1 ∷ 0 ∷ 1 ∷ 0 ∷ 1 ∷ 0 ∷ 0 ∷ 0 ∷ 0 ∷ 0 ∷ 0 ∷ 0 ∷ 1 ∷ 0 ∷ 0 ∷ 0 ∷ 0 ∷ 0 ∷
+    2 ∷ 0 ∷ 6 ∷ 0 ∷ 4 ∷ 0 ∷ 0 ∷ 0 ∷ 64 ∷ 0 ∷
+    2 ∷ 0 ∷ 0 ∷ 1 ∷ 7 ∷ 0 ∷ 0 ∷ 0 ∷ 0 ∷ 0 ∷
+    3 ∷ 0 ∷ 0 ∷ 0 ∷ 0 ∷ 0 ∷
+    4 ∷ 0 ∷ 0 ∷ 1 ∷ 1 ∷ 0 ∷ 0 ∷ 0 ∷ 0 ∷ 0 ∷ 0 ∷ 0 ∷ 1 ∷
+    4 ∷ 0 ∷ 0 ∷ 3 ∷ 1 ∷ 0 ∷ 0 ∷ 0 ∷ 0 ∷ 0 ∷ 0 ∷ 0 ∷ 1 ∷
+    4 ∷ 0 ∷ 0 ∷ 0 ∷ 0 ∷ 0 ∷ 0 ∷ 0 ∷ 0 ∷ 0 ∷ 0 ∷ 0 ∷ 0 ∷
+    4 ∷ 3 ∷ 0 ∷ 0 ∷ 1 ∷ 255 ∷ 255 ∷ 255 ∷ 255 ∷ 255 ∷ 255 ∷ 255 ∷ 255 ∷
+    3 ∷ 0 ∷ 0 ∷ 0 ∷ 1 ∷ 1 ∷
+    4 ∷ 1 ∷ 0 ∷ 0 ∷ 1 ∷ 0 ∷ 0 ∷ 0 ∷ 0 ∷ 0 ∷ 0 ∷ 0 ∷ 3 ∷
+    6 ∷ 0 ∷ 0 ∷ 0 ∷ 0 ∷ []
+
+abbrev image-5992 : List ℕ
+image-5992 =
+    1 ∷ 0 ∷ 0 ∷ 0 ∷ 0 ∷ 0 ∷ 1 ∷ 0 ∷ 1 ∷ 0 ∷ 1 ∷ 0 ∷ 0 ∷ 0 ∷ 0 ∷ 0 ∷ 0 ∷ 0 ∷ 1 ∷ 0 ∷ 0 ∷ 0 ∷ 0 ∷ 0 ∷
+    2 ∷ 0 ∷ 5 ∷ 0 ∷ 4 ∷ 0 ∷ 0 ∷ 0 ∷ 64 ∷ 0 ∷
+    2 ∷ 0 ∷ 0 ∷ 1 ∷ 7 ∷ 0 ∷ 0 ∷ 0 ∷ 0 ∷ 0 ∷
+    3 ∷ 0 ∷ 0 ∷ 0 ∷ 0 ∷ 0 ∷
+    4 ∷ 0 ∷ 0 ∷ 1 ∷ 1 ∷ 0 ∷ 0 ∷ 0 ∷ 0 ∷ 0 ∷ 0 ∷ 0 ∷ 1 ∷
+    4 ∷ 0 ∷ 0 ∷ 3 ∷ 1 ∷ 0 ∷ 0 ∷ 0 ∷ 0 ∷ 0 ∷ 0 ∷ 0 ∷ 1 ∷
+    4 ∷ 0 ∷ 0 ∷ 0 ∷ 0 ∷ 0 ∷ 0 ∷ 0 ∷ 0 ∷ 0 ∷ 0 ∷ 0 ∷ 0 ∷
+    4 ∷ 3 ∷ 0 ∷ 0 ∷ 1 ∷ 255 ∷ 255 ∷ 255 ∷ 255 ∷ 255 ∷ 255 ∷ 255 ∷ 255 ∷
+    3 ∷ 0 ∷ 0 ∷ 0 ∷ 1 ∷ 1 ∷
+    4 ∷ 1 ∷ 0 ∷ 0 ∷ 1 ∷ 0 ∷ 0 ∷ 0 ∷ 0 ∷ 0 ∷ 0 ∷ 0 ∷ 3 ∷
+    6 ∷ 0 ∷ 0 ∷ 0 ∷ 0 ∷ []
+
+abbrev image-5994 : List ℕ
+image-5994 =
+    1 ∷ 0 ∷ 0 ∷ 0 ∷ 0 ∷ 0 ∷ 1 ∷ 0 ∷ 1 ∷ 0 ∷ 1 ∷ 0 ∷ 0 ∷ 0 ∷ 0 ∷ 0 ∷ 0 ∷ 0 ∷ 1 ∷ 0 ∷ 0 ∷ 0 ∷ 0 ∷ 0 ∷
+    2 ∷ 0 ∷ 5 ∷ 0 ∷ 4 ∷ 0 ∷ 0 ∷ 0 ∷ 64 ∷ 0 ∷
+    2 ∷ 0 ∷ 1 ∷ 1 ∷ 7 ∷ 0 ∷ 0 ∷ 0 ∷ 0 ∷ 0 ∷
+    3 ∷ 0 ∷ 0 ∷ 0 ∷ 0 ∷ 0 ∷
+    4 ∷ 0 ∷ 0 ∷ 1 ∷ 1 ∷ 0 ∷ 0 ∷ 0 ∷ 0 ∷ 0 ∷ 0 ∷ 0 ∷ 1 ∷
+    4 ∷ 0 ∷ 0 ∷ 3 ∷ 1 ∷ 0 ∷ 0 ∷ 0 ∷ 0 ∷ 0 ∷ 0 ∷ 0 ∷ 1 ∷
+    4 ∷ 0 ∷ 0 ∷ 0 ∷ 0 ∷ 0 ∷ 0 ∷ 0 ∷ 0 ∷ 0 ∷ 0 ∷ 0 ∷ 0 ∷
+    4 ∷ 3 ∷ 0 ∷ 0 ∷ 1 ∷ 255 ∷ 255 ∷ 255 ∷ 255 ∷ 255 ∷ 255 ∷ 255 ∷ 255 ∷
+    3 ∷ 0 ∷ 0 ∷ 0 ∷ 1 ∷ 1 ∷
+    4 ∷ 1 ∷ 0 ∷ 0 ∷ 1 ∷ 0 ∷ 0 ∷ 0 ∷ 0 ∷ 0 ∷ 0 ∷ 0 ∷ 3 ∷
+    6 ∷ 0 ∷ 0 ∷ 0 ∷ 0 ∷ []
+
+abbrev image-5997 : List ℕ
+image-5997 =
+    1 ∷ 0 ∷ 0 ∷ 0 ∷ 0 ∷ 0 ∷ 1 ∷ 0 ∷ 1 ∷ 0 ∷ 1 ∷ 0 ∷ 0 ∷ 0 ∷ 0 ∷ 0 ∷ 0 ∷ 0 ∷ 1 ∷ 0 ∷ 0 ∷ 0 ∷ 0 ∷ 0 ∷
+    2 ∷ 0 ∷ 5 ∷ 0 ∷ 4 ∷ 0 ∷ 0 ∷ 0 ∷ 64 ∷ 0 ∷
+    2 ∷ 0 ∷ 2 ∷ 1 ∷ 7 ∷ 0 ∷ 0 ∷ 0 ∷ 0 ∷ 0 ∷
+    3 ∷ 0 ∷ 0 ∷ 0 ∷ 0 ∷ 0 ∷
+    4 ∷ 0 ∷ 0 ∷ 1 ∷ 1 ∷ 0 ∷ 0 ∷ 0 ∷ 0 ∷ 0 ∷ 0 ∷ 0 ∷ 1 ∷
+    4 ∷ 0 ∷ 0 ∷ 3 ∷ 1 ∷ 0 ∷ 0 ∷ 0 ∷ 0 ∷ 0 ∷ 0 ∷ 0 ∷ 1 ∷
+    4 ∷ 0 ∷ 0 ∷ 0 ∷ 0 ∷ 0 ∷ 0 ∷ 0 ∷ 0 ∷ 0 ∷ 0 ∷ 0 ∷ 0 ∷
+    4 ∷ 3 ∷ 0 ∷ 0 ∷ 1 ∷ 255 ∷ 255 ∷ 255 ∷ 255 ∷ 255 ∷ 255 ∷ 255 ∷ 255 ∷
+    3 ∷ 0 ∷ 0 ∷ 0 ∷ 1 ∷ 1 ∷
+    4 ∷ 1 ∷ 0 ∷ 0 ∷ 1 ∷ 0 ∷ 0 ∷ 0 ∷ 0 ∷ 0 ∷ 0 ∷ 0 ∷ 3 ∷
+    6 ∷ 0 ∷ 0 ∷ 0 ∷ 0 ∷ []
+
+abbrev image-5999 : List ℕ
+image-5999 =
+    1 ∷ 0 ∷ 0 ∷ 0 ∷ 0 ∷ 0 ∷ 1 ∷ 0 ∷ 1 ∷ 0 ∷ 1 ∷ 0 ∷ 0 ∷ 0 ∷ 0 ∷ 0 ∷ 0 ∷ 0 ∷ 1 ∷ 0 ∷ 0 ∷ 0 ∷ 0 ∷ 1 ∷
+    2 ∷ 0 ∷ 4 ∷ 0 ∷ 4 ∷ 0 ∷ 0 ∷ 0 ∷ 64 ∷ 0 ∷
+    2 ∷ 0 ∷ 1 ∷ 1 ∷ 7 ∷ 0 ∷ 0 ∷ 0 ∷ 0 ∷ 0 ∷
+    3 ∷ 0 ∷ 0 ∷ 0 ∷ 0 ∷ 0 ∷
+    4 ∷ 0 ∷ 0 ∷ 1 ∷ 1 ∷ 0 ∷ 0 ∷ 0 ∷ 0 ∷ 0 ∷ 0 ∷ 0 ∷ 1 ∷
+    4 ∷ 0 ∷ 0 ∷ 3 ∷ 1 ∷ 0 ∷ 0 ∷ 0 ∷ 0 ∷ 0 ∷ 0 ∷ 0 ∷ 1 ∷
+    4 ∷ 0 ∷ 0 ∷ 0 ∷ 0 ∷ 0 ∷ 0 ∷ 0 ∷ 0 ∷ 0 ∷ 0 ∷ 0 ∷ 0 ∷
+    4 ∷ 3 ∷ 0 ∷ 0 ∷ 1 ∷ 255 ∷ 255 ∷ 255 ∷ 255 ∷ 255 ∷ 255 ∷ 255 ∷ 255 ∷
+    3 ∷ 0 ∷ 0 ∷ 0 ∷ 1 ∷ 1 ∷
+    4 ∷ 1 ∷ 0 ∷ 0 ∷ 1 ∷ 0 ∷ 0 ∷ 0 ∷ 0 ∷ 0 ∷ 0 ∷ 0 ∷ 3 ∷ []
+
+abbrev image-6001 : List ℕ
+image-6001 =
+    1 ∷ 0 ∷ 0 ∷ 0 ∷ 0 ∷ 0 ∷ 1 ∷ 0 ∷ 1 ∷ 0 ∷ 1 ∷ 0 ∷ 0 ∷ 0 ∷ 0 ∷ 0 ∷ 0 ∷ 0 ∷ 1 ∷ 0 ∷ 0 ∷ 0 ∷ 0 ∷ 1 ∷
+    2 ∷ 0 ∷ 4 ∷ 0 ∷ 4 ∷ 0 ∷ 0 ∷ 0 ∷ 64 ∷ 0 ∷
+    2 ∷ 0 ∷ 1 ∷ 1 ∷ 7 ∷ 0 ∷ 0 ∷ 0 ∷ 0 ∷ 0 ∷
+    3 ∷ 0 ∷ 0 ∷ 0 ∷ 0 ∷ 0 ∷
+    4 ∷ 0 ∷ 0 ∷ 1 ∷ 1 ∷ 0 ∷ 0 ∷ 0 ∷ 0 ∷ 0 ∷ 0 ∷ 0 ∷ 1 ∷
+    4 ∷ 0 ∷ 0 ∷ 3 ∷ 1 ∷ 0 ∷ 0 ∷ 0 ∷ 0 ∷ 0 ∷ 0 ∷ 0 ∷ 1 ∷
+    4 ∷ 0 ∷ 0 ∷ 0 ∷ 0 ∷ 0 ∷ 0 ∷ 0 ∷ 0 ∷ 0 ∷ 0 ∷ 0 ∷ 0 ∷
+    4 ∷ 3 ∷ 0 ∷ 0 ∷ 1 ∷ 255 ∷ 255 ∷ 255 ∷ 255 ∷ 255 ∷ 255 ∷ 255 ∷ 255 ∷
+    3 ∷ 0 ∷ 0 ∷ 0 ∷ 1 ∷ 1 ∷
+    4 ∷ 1 ∷ 0 ∷ 0 ∷ 1 ∷ 255 ∷ 255 ∷ 255 ∷ 255 ∷ 255 ∷ 255 ∷ 255 ∷ 255 ∷ []
+
+abbrev image-6002 : List ℕ
+image-6002 =
+    1 ∷ 0 ∷ 0 ∷ 0 ∷ 0 ∷ 0 ∷ 1 ∷ 0 ∷ 1 ∷ 0 ∷ 1 ∷ 0 ∷ 0 ∷ 0 ∷ 0 ∷ 0 ∷ 0 ∷ 0 ∷ 1 ∷ 0 ∷ 0 ∷ 0 ∷ 0 ∷ 1 ∷
+    2 ∷ 0 ∷ 4 ∷ 0 ∷ 4 ∷ 0 ∷ 0 ∷ 0 ∷ 64 ∷ 0 ∷
+    2 ∷ 0 ∷ 1 ∷ 1 ∷ 7 ∷ 0 ∷ 0 ∷ 0 ∷ 0 ∷ 0 ∷
     3 ∷ 0 ∷ 0 ∷ 0 ∷ 0 ∷ 2 ∷
-    4 ∷ 1 ∷ 0 ∷ 3 ∷ 1 ∷ 0 ∷ 0 ∷ 0 ∷ 0 ∷ 0 ∷ 0 ∷ 0 ∷ 0 ∷ []
-
--- calls 5256 to 5260
-calls-5256 :
-    outcomes none
-    (read-line 1000000 image-5256
-    ∷ call-line 1000000 (mark-as-downloading 0 0 (some 0) 0 (words 5000 []))
-    ∷ call-line 1000000 inc-refcount-all
-    ∷ call-line 1000000 (question (ofPiece piece-stats 4294967296))
-    ∷ call-line 1000000 (lock-piece 0)
-    ∷ [])
-    ≡ outcome stands image-5256
-    ∷ outcome (answered (said true 0)) image-5257
-    ∷ outcome (answered (done 0)) image-5258
-    ∷ outcome (answered (refused OutOfRange)) image-5258
-    ∷ outcome (answered (done 0)) image-5260
-    ∷ []
-unfolding replaying
-calls-5256 = refl
-
-abbrev image-5410 : List ℕ
-image-5410 =
-    1 ∷ 0 ∷ 0 ∷ 0 ∷ 0 ∷ 0 ∷ 3 ∷ 0 ∷ 1 ∷ 0 ∷ 1 ∷ 0 ∷ 0 ∷ 0 ∷ 0 ∷ 0 ∷ 0 ∷ 0 ∷ 0 ∷ 0 ∷ 0 ∷ 0 ∷ 4 ∷ 1 ∷
-    2 ∷ 0 ∷ 0 ∷ 4 ∷ 4 ∷ 0 ∷ 0 ∷ 0 ∷ 0 ∷ 0 ∷
-    2 ∷ 0 ∷ 0 ∷ 4 ∷ 4 ∷ 0 ∷ 0 ∷ 0 ∷ 0 ∷ 0 ∷
-    2 ∷ 0 ∷ 0 ∷ 4 ∷ 4 ∷ 0 ∷ 0 ∷ 0 ∷ 0 ∷ 0 ∷
-    2 ∷ 0 ∷ 0 ∷ 4 ∷ 4 ∷ 0 ∷ 0 ∷ 0 ∷ 0 ∷ 0 ∷ []
-
-abbrev image-5411 : List ℕ
-image-5411 =
-    1 ∷ 0 ∷ 0 ∷ 0 ∷ 0 ∷ 0 ∷ 3 ∷ 0 ∷ 1 ∷ 0 ∷ 1 ∷ 0 ∷ 0 ∷ 0 ∷ 1 ∷ 0 ∷ 0 ∷ 0 ∷ 0 ∷ 0 ∷ 0 ∷ 0 ∷ 4 ∷ 1 ∷
-    2 ∷ 0 ∷ 0 ∷ 4 ∷ 4 ∷ 0 ∷ 0 ∷ 0 ∷ 0 ∷ 0 ∷
-    2 ∷ 0 ∷ 0 ∷ 4 ∷ 4 ∷ 0 ∷ 0 ∷ 0 ∷ 0 ∷ 0 ∷
-    2 ∷ 0 ∷ 0 ∷ 4 ∷ 4 ∷ 0 ∷ 0 ∷ 0 ∷ 0 ∷ 0 ∷
-    2 ∷ 0 ∷ 0 ∷ 4 ∷ 4 ∷ 0 ∷ 0 ∷ 0 ∷ 0 ∷ 0 ∷ []
-
-abbrev image-5412 : List ℕ
-image-5412 =
-    1 ∷ 0 ∷ 0 ∷ 0 ∷ 0 ∷ 0 ∷ 3 ∷ 0 ∷ 1 ∷ 0 ∷ 1 ∷ 0 ∷ 0 ∷ 0 ∷ 1 ∷ 0 ∷ 0 ∷ 0 ∷ 0 ∷ 0 ∷ 0 ∷ 0 ∷ 4 ∷ 1 ∷
-    2 ∷ 0 ∷ 0 ∷ 4 ∷ 4 ∷ 0 ∷ 0 ∷ 0 ∷ 0 ∷ 0 ∷
-    2 ∷ 0 ∷ 0 ∷ 5 ∷ 4 ∷ 0 ∷ 0 ∷ 0 ∷ 0 ∷ 0 ∷
-    2 ∷ 0 ∷ 0 ∷ 4 ∷ 4 ∷ 0 ∷ 0 ∷ 0 ∷ 0 ∷ 0 ∷
-    2 ∷ 0 ∷ 0 ∷ 4 ∷ 4 ∷ 0 ∷ 0 ∷ 0 ∷ 0 ∷ 0 ∷
-    3 ∷ 0 ∷ 0 ∷ 0 ∷ 1 ∷ 0 ∷
-    4 ∷ 0 ∷ 0 ∷ 0 ∷ 0 ∷ 0 ∷ 0 ∷ 0 ∷ 0 ∷ 0 ∷ 0 ∷ 0 ∷ 0 ∷
-    4 ∷ 0 ∷ 0 ∷ 0 ∷ 0 ∷ 0 ∷ 0 ∷ 0 ∷ 0 ∷ 0 ∷ 0 ∷ 0 ∷ 0 ∷
-    4 ∷ 1 ∷ 0 ∷ 1 ∷ 1 ∷ 0 ∷ 0 ∷ 0 ∷ 0 ∷ 0 ∷ 0 ∷ 0 ∷ 1 ∷
-    4 ∷ 0 ∷ 0 ∷ 0 ∷ 0 ∷ 0 ∷ 0 ∷ 0 ∷ 0 ∷ 0 ∷ 0 ∷ 0 ∷ 0 ∷
-    5 ∷ 0 ∷ 0 ∷ 0 ∷ 0 ∷ []
-
-abbrev image-5413 : List ℕ
-image-5413 =
-    1 ∷ 0 ∷ 0 ∷ 0 ∷ 0 ∷ 0 ∷ 3 ∷ 0 ∷ 1 ∷ 0 ∷ 1 ∷ 0 ∷ 0 ∷ 0 ∷ 1 ∷ 0 ∷ 0 ∷ 0 ∷ 0 ∷ 0 ∷ 0 ∷ 0 ∷ 4 ∷ 1 ∷
-    2 ∷ 0 ∷ 0 ∷ 4 ∷ 4 ∷ 0 ∷ 0 ∷ 0 ∷ 0 ∷ 0 ∷
-    2 ∷ 0 ∷ 0 ∷ 5 ∷ 4 ∷ 0 ∷ 0 ∷ 0 ∷ 0 ∷ 0 ∷
-    2 ∷ 0 ∷ 0 ∷ 0 ∷ 4 ∷ 0 ∷ 0 ∷ 0 ∷ 0 ∷ 0 ∷
-    2 ∷ 0 ∷ 0 ∷ 4 ∷ 4 ∷ 0 ∷ 0 ∷ 0 ∷ 0 ∷ 0 ∷
-    3 ∷ 0 ∷ 0 ∷ 0 ∷ 1 ∷ 0 ∷
-    4 ∷ 0 ∷ 0 ∷ 0 ∷ 0 ∷ 0 ∷ 0 ∷ 0 ∷ 0 ∷ 0 ∷ 0 ∷ 0 ∷ 0 ∷
-    4 ∷ 0 ∷ 0 ∷ 0 ∷ 0 ∷ 0 ∷ 0 ∷ 0 ∷ 0 ∷ 0 ∷ 0 ∷ 0 ∷ 0 ∷
-    4 ∷ 1 ∷ 0 ∷ 1 ∷ 1 ∷ 0 ∷ 0 ∷ 0 ∷ 0 ∷ 0 ∷ 0 ∷ 0 ∷ 1 ∷
-    4 ∷ 0 ∷ 0 ∷ 0 ∷ 0 ∷ 0 ∷ 0 ∷ 0 ∷ 0 ∷ 0 ∷ 0 ∷ 0 ∷ 0 ∷
-    3 ∷ 0 ∷ 0 ∷ 0 ∷ 2 ∷ 0 ∷
-    4 ∷ 1 ∷ 0 ∷ 1 ∷ 1 ∷ 0 ∷ 0 ∷ 0 ∷ 0 ∷ 0 ∷ 0 ∷ 0 ∷ 1 ∷
-    4 ∷ 0 ∷ 0 ∷ 0 ∷ 0 ∷ 0 ∷ 0 ∷ 0 ∷ 0 ∷ 0 ∷ 0 ∷ 0 ∷ 0 ∷
-    4 ∷ 0 ∷ 0 ∷ 0 ∷ 0 ∷ 0 ∷ 0 ∷ 0 ∷ 0 ∷ 0 ∷ 0 ∷ 0 ∷ 0 ∷
-    4 ∷ 0 ∷ 0 ∷ 0 ∷ 0 ∷ 0 ∷ 0 ∷ 0 ∷ 0 ∷ 0 ∷ 0 ∷ 0 ∷ 0 ∷
-    5 ∷ 0 ∷ 0 ∷ 0 ∷ 0 ∷ []
-
-abbrev image-5417 : List ℕ
-image-5417 =
-    1 ∷ 0 ∷ 0 ∷ 0 ∷ 0 ∷ 0 ∷ 3 ∷ 0 ∷ 1 ∷ 0 ∷ 1 ∷ 0 ∷ 0 ∷ 0 ∷ 1 ∷ 0 ∷ 0 ∷ 0 ∷ 0 ∷ 0 ∷ 0 ∷ 0 ∷ 4 ∷ 1 ∷
-    2 ∷ 0 ∷ 0 ∷ 4 ∷ 4 ∷ 0 ∷ 0 ∷ 0 ∷ 0 ∷ 0 ∷
-    2 ∷ 0 ∷ 0 ∷ 5 ∷ 4 ∷ 0 ∷ 0 ∷ 0 ∷ 0 ∷ 0 ∷
-    2 ∷ 0 ∷ 0 ∷ 0 ∷ 4 ∷ 0 ∷ 0 ∷ 0 ∷ 0 ∷ 0 ∷
-    2 ∷ 0 ∷ 0 ∷ 4 ∷ 4 ∷ 0 ∷ 0 ∷ 0 ∷ 0 ∷ 0 ∷
-    3 ∷ 0 ∷ 0 ∷ 0 ∷ 1 ∷ 0 ∷
-    4 ∷ 0 ∷ 0 ∷ 0 ∷ 0 ∷ 0 ∷ 0 ∷ 0 ∷ 0 ∷ 0 ∷ 0 ∷ 0 ∷ 0 ∷
-    4 ∷ 0 ∷ 0 ∷ 0 ∷ 0 ∷ 0 ∷ 0 ∷ 0 ∷ 0 ∷ 0 ∷ 0 ∷ 0 ∷ 0 ∷
-    4 ∷ 1 ∷ 0 ∷ 1 ∷ 1 ∷ 0 ∷ 0 ∷ 0 ∷ 0 ∷ 0 ∷ 0 ∷ 0 ∷ 1 ∷
-    4 ∷ 0 ∷ 0 ∷ 0 ∷ 0 ∷ 0 ∷ 0 ∷ 0 ∷ 0 ∷ 0 ∷ 0 ∷ 0 ∷ 0 ∷
-    3 ∷ 0 ∷ 0 ∷ 0 ∷ 2 ∷ 0 ∷
-    4 ∷ 1 ∷ 0 ∷ 1 ∷ 1 ∷ 0 ∷ 0 ∷ 0 ∷ 0 ∷ 0 ∷ 0 ∷ 0 ∷ 1 ∷
+    4 ∷ 0 ∷ 0 ∷ 1 ∷ 1 ∷ 0 ∷ 0 ∷ 0 ∷ 0 ∷ 0 ∷ 0 ∷ 0 ∷ 1 ∷
+    4 ∷ 0 ∷ 0 ∷ 3 ∷ 1 ∷ 0 ∷ 0 ∷ 0 ∷ 0 ∷ 0 ∷ 0 ∷ 0 ∷ 1 ∷
     4 ∷ 0 ∷ 0 ∷ 0 ∷ 0 ∷ 0 ∷ 0 ∷ 0 ∷ 0 ∷ 0 ∷ 0 ∷ 0 ∷ 0 ∷
     4 ∷ 3 ∷ 0 ∷ 0 ∷ 1 ∷ 255 ∷ 255 ∷ 255 ∷ 255 ∷ 255 ∷ 255 ∷ 255 ∷ 255 ∷
-    4 ∷ 0 ∷ 0 ∷ 0 ∷ 0 ∷ 0 ∷ 0 ∷ 0 ∷ 0 ∷ 0 ∷ 0 ∷ 0 ∷ 0 ∷
-    5 ∷ 0 ∷ 0 ∷ 0 ∷ 0 ∷ []
-
-abbrev image-5418 : List ℕ
-image-5418 =
-    1 ∷ 0 ∷ 0 ∷ 0 ∷ 0 ∷ 0 ∷ 3 ∷ 0 ∷ 1 ∷ 0 ∷ 1 ∷ 0 ∷ 0 ∷ 0 ∷ 1 ∷ 0 ∷ 0 ∷ 0 ∷ 0 ∷ 0 ∷ 0 ∷ 0 ∷ 4 ∷ 1 ∷
-    2 ∷ 0 ∷ 0 ∷ 4 ∷ 4 ∷ 0 ∷ 0 ∷ 0 ∷ 0 ∷ 0 ∷
-    2 ∷ 0 ∷ 0 ∷ 5 ∷ 1 ∷ 0 ∷ 0 ∷ 0 ∷ 0 ∷ 0 ∷
-    2 ∷ 0 ∷ 0 ∷ 0 ∷ 4 ∷ 0 ∷ 0 ∷ 0 ∷ 0 ∷ 0 ∷
-    2 ∷ 0 ∷ 0 ∷ 4 ∷ 4 ∷ 0 ∷ 0 ∷ 0 ∷ 0 ∷ 0 ∷
-    3 ∷ 0 ∷ 0 ∷ 0 ∷ 1 ∷ 0 ∷
-    4 ∷ 0 ∷ 0 ∷ 0 ∷ 0 ∷ 0 ∷ 0 ∷ 0 ∷ 0 ∷ 0 ∷ 0 ∷ 0 ∷ 0 ∷
-    4 ∷ 0 ∷ 0 ∷ 0 ∷ 0 ∷ 0 ∷ 0 ∷ 0 ∷ 0 ∷ 0 ∷ 0 ∷ 0 ∷ 0 ∷
-    4 ∷ 1 ∷ 0 ∷ 1 ∷ 1 ∷ 0 ∷ 0 ∷ 0 ∷ 0 ∷ 0 ∷ 0 ∷ 0 ∷ 1 ∷
-    4 ∷ 0 ∷ 0 ∷ 0 ∷ 0 ∷ 0 ∷ 0 ∷ 0 ∷ 0 ∷ 0 ∷ 0 ∷ 0 ∷ 0 ∷
-    3 ∷ 0 ∷ 0 ∷ 0 ∷ 2 ∷ 0 ∷
-    4 ∷ 1 ∷ 0 ∷ 1 ∷ 1 ∷ 0 ∷ 0 ∷ 0 ∷ 0 ∷ 0 ∷ 0 ∷ 0 ∷ 1 ∷
-    4 ∷ 0 ∷ 0 ∷ 0 ∷ 0 ∷ 0 ∷ 0 ∷ 0 ∷ 0 ∷ 0 ∷ 0 ∷ 0 ∷ 0 ∷
-    4 ∷ 3 ∷ 0 ∷ 0 ∷ 1 ∷ 255 ∷ 255 ∷ 255 ∷ 255 ∷ 255 ∷ 255 ∷ 255 ∷ 255 ∷
-    4 ∷ 0 ∷ 0 ∷ 0 ∷ 0 ∷ 0 ∷ 0 ∷ 0 ∷ 0 ∷ 0 ∷ 0 ∷ 0 ∷ 0 ∷
-    5 ∷ 0 ∷ 0 ∷ 0 ∷ 0 ∷ []
-
-abbrev image-5422 : List ℕ
-image-5422 =
-    1 ∷ 0 ∷ 0 ∷ 0 ∷ 0 ∷ 0 ∷ 3 ∷ 0 ∷ 1 ∷ 0 ∷ 1 ∷ 0 ∷ 0 ∷ 0 ∷ 1 ∷ 0 ∷ 0 ∷ 0 ∷ 0 ∷ 0 ∷ 0 ∷ 0 ∷ 4 ∷ 0 ∷
-    2 ∷ 0 ∷ 0 ∷ 4 ∷ 4 ∷ 0 ∷ 0 ∷ 0 ∷ 0 ∷ 0 ∷
-    2 ∷ 0 ∷ 0 ∷ 5 ∷ 1 ∷ 0 ∷ 0 ∷ 0 ∷ 0 ∷ 0 ∷
-    2 ∷ 0 ∷ 0 ∷ 0 ∷ 4 ∷ 0 ∷ 0 ∷ 0 ∷ 0 ∷ 0 ∷
-    2 ∷ 0 ∷ 0 ∷ 4 ∷ 4 ∷ 0 ∷ 0 ∷ 0 ∷ 0 ∷ 0 ∷
-    3 ∷ 0 ∷ 0 ∷ 0 ∷ 1 ∷ 0 ∷
-    4 ∷ 0 ∷ 0 ∷ 0 ∷ 0 ∷ 0 ∷ 0 ∷ 0 ∷ 0 ∷ 0 ∷ 0 ∷ 0 ∷ 0 ∷
-    4 ∷ 0 ∷ 0 ∷ 0 ∷ 0 ∷ 0 ∷ 0 ∷ 0 ∷ 0 ∷ 0 ∷ 0 ∷ 0 ∷ 0 ∷
-    4 ∷ 1 ∷ 0 ∷ 1 ∷ 1 ∷ 0 ∷ 0 ∷ 0 ∷ 0 ∷ 0 ∷ 0 ∷ 0 ∷ 1 ∷
-    4 ∷ 0 ∷ 0 ∷ 0 ∷ 0 ∷ 0 ∷ 0 ∷ 0 ∷ 0 ∷ 0 ∷ 0 ∷ 0 ∷ 0 ∷
-    3 ∷ 0 ∷ 0 ∷ 0 ∷ 2 ∷ 0 ∷
-    4 ∷ 1 ∷ 0 ∷ 1 ∷ 1 ∷ 0 ∷ 0 ∷ 0 ∷ 0 ∷ 0 ∷ 0 ∷ 0 ∷ 1 ∷
-    4 ∷ 0 ∷ 0 ∷ 0 ∷ 0 ∷ 0 ∷ 0 ∷ 0 ∷ 0 ∷ 0 ∷ 0 ∷ 0 ∷ 0 ∷
-    4 ∷ 3 ∷ 0 ∷ 0 ∷ 1 ∷ 255 ∷ 255 ∷ 255 ∷ 255 ∷ 255 ∷ 255 ∷ 255 ∷ 255 ∷
-    4 ∷ 0 ∷ 0 ∷ 0 ∷ 0 ∷ 0 ∷ 0 ∷ 0 ∷ 0 ∷ 0 ∷ 0 ∷ 0 ∷ 0 ∷
-    5 ∷ 0 ∷ 0 ∷ 0 ∷ 0 ∷
-    6 ∷ 0 ∷ 0 ∷ 0 ∷ 2 ∷
-    6 ∷ 0 ∷ 0 ∷ 0 ∷ 0 ∷
-    6 ∷ 0 ∷ 0 ∷ 0 ∷ 3 ∷
-    6 ∷ 0 ∷ 0 ∷ 0 ∷ 1 ∷ []
-
-abbrev image-5424 : List ℕ
-image-5424 =
-    1 ∷ 0 ∷ 0 ∷ 0 ∷ 0 ∷ 0 ∷ 3 ∷ 0 ∷ 1 ∷ 0 ∷ 1 ∷ 0 ∷ 0 ∷ 0 ∷ 1 ∷ 0 ∷ 0 ∷ 0 ∷ 0 ∷ 0 ∷ 0 ∷ 0 ∷ 4 ∷ 0 ∷
-    2 ∷ 0 ∷ 0 ∷ 4 ∷ 4 ∷ 0 ∷ 0 ∷ 0 ∷ 0 ∷ 0 ∷
-    2 ∷ 0 ∷ 0 ∷ 5 ∷ 1 ∷ 0 ∷ 0 ∷ 0 ∷ 0 ∷ 0 ∷
-    2 ∷ 0 ∷ 0 ∷ 0 ∷ 4 ∷ 0 ∷ 0 ∷ 0 ∷ 0 ∷ 0 ∷
-    2 ∷ 0 ∷ 0 ∷ 4 ∷ 4 ∷ 0 ∷ 0 ∷ 0 ∷ 0 ∷ 0 ∷
     3 ∷ 0 ∷ 0 ∷ 0 ∷ 1 ∷ 1 ∷
-    4 ∷ 0 ∷ 0 ∷ 0 ∷ 0 ∷ 0 ∷ 0 ∷ 0 ∷ 0 ∷ 0 ∷ 0 ∷ 0 ∷ 0 ∷
-    4 ∷ 0 ∷ 0 ∷ 0 ∷ 0 ∷ 0 ∷ 0 ∷ 0 ∷ 0 ∷ 0 ∷ 0 ∷ 0 ∷ 0 ∷
-    4 ∷ 1 ∷ 0 ∷ 1 ∷ 1 ∷ 0 ∷ 0 ∷ 0 ∷ 0 ∷ 0 ∷ 0 ∷ 0 ∷ 1 ∷
-    4 ∷ 0 ∷ 0 ∷ 0 ∷ 0 ∷ 0 ∷ 0 ∷ 0 ∷ 0 ∷ 0 ∷ 0 ∷ 0 ∷ 0 ∷
-    3 ∷ 0 ∷ 0 ∷ 0 ∷ 2 ∷ 0 ∷
-    4 ∷ 1 ∷ 0 ∷ 1 ∷ 1 ∷ 0 ∷ 0 ∷ 0 ∷ 0 ∷ 0 ∷ 0 ∷ 0 ∷ 1 ∷
-    4 ∷ 0 ∷ 0 ∷ 0 ∷ 0 ∷ 0 ∷ 0 ∷ 0 ∷ 0 ∷ 0 ∷ 0 ∷ 0 ∷ 0 ∷
-    4 ∷ 3 ∷ 0 ∷ 0 ∷ 1 ∷ 255 ∷ 255 ∷ 255 ∷ 255 ∷ 255 ∷ 255 ∷ 255 ∷ 255 ∷
-    4 ∷ 0 ∷ 0 ∷ 0 ∷ 0 ∷ 0 ∷ 0 ∷ 0 ∷ 0 ∷ 0 ∷ 0 ∷ 0 ∷ 0 ∷
-    5 ∷ 0 ∷ 0 ∷ 0 ∷ 0 ∷
-    6 ∷ 0 ∷ 0 ∷ 0 ∷ 2 ∷
-    6 ∷ 0 ∷ 0 ∷ 0 ∷ 0 ∷
-    6 ∷ 0 ∷ 0 ∷ 0 ∷ 3 ∷
-    6 ∷ 0 ∷ 0 ∷ 0 ∷ 1 ∷ []
+    4 ∷ 1 ∷ 0 ∷ 0 ∷ 1 ∷ 255 ∷ 255 ∷ 255 ∷ 255 ∷ 255 ∷ 255 ∷ 255 ∷ 255 ∷ []
 
-abbrev image-5426 : List ℕ
-image-5426 =
-    1 ∷ 0 ∷ 0 ∷ 0 ∷ 0 ∷ 0 ∷ 3 ∷ 0 ∷ 1 ∷ 0 ∷ 1 ∷ 0 ∷ 0 ∷ 0 ∷ 1 ∷ 0 ∷ 0 ∷ 0 ∷ 0 ∷ 0 ∷ 0 ∷ 0 ∷ 4 ∷ 0 ∷
-    2 ∷ 0 ∷ 0 ∷ 4 ∷ 4 ∷ 0 ∷ 0 ∷ 0 ∷ 0 ∷ 0 ∷
-    2 ∷ 0 ∷ 1 ∷ 5 ∷ 1 ∷ 0 ∷ 0 ∷ 0 ∷ 0 ∷ 0 ∷
-    2 ∷ 0 ∷ 0 ∷ 0 ∷ 4 ∷ 0 ∷ 0 ∷ 0 ∷ 0 ∷ 0 ∷
-    2 ∷ 0 ∷ 0 ∷ 4 ∷ 4 ∷ 0 ∷ 0 ∷ 0 ∷ 0 ∷ 0 ∷
-    3 ∷ 0 ∷ 0 ∷ 0 ∷ 1 ∷ 1 ∷
+abbrev image-6005 : List ℕ
+image-6005 =
+    1 ∷ 0 ∷ 0 ∷ 0 ∷ 0 ∷ 0 ∷ 1 ∷ 0 ∷ 1 ∷ 0 ∷ 1 ∷ 0 ∷ 0 ∷ 0 ∷ 0 ∷ 0 ∷ 0 ∷ 0 ∷ 1 ∷ 0 ∷ 0 ∷ 0 ∷ 0 ∷ 1 ∷
+    2 ∷ 0 ∷ 4 ∷ 0 ∷ 4 ∷ 0 ∷ 0 ∷ 0 ∷ 64 ∷ 0 ∷
+    2 ∷ 0 ∷ 1 ∷ 4 ∷ 7 ∷ 0 ∷ 0 ∷ 0 ∷ 0 ∷ 0 ∷
+    3 ∷ 0 ∷ 0 ∷ 0 ∷ 0 ∷ 2 ∷
+    4 ∷ 0 ∷ 0 ∷ 1 ∷ 1 ∷ 0 ∷ 0 ∷ 0 ∷ 0 ∷ 0 ∷ 0 ∷ 0 ∷ 1 ∷
+    4 ∷ 0 ∷ 0 ∷ 3 ∷ 1 ∷ 0 ∷ 0 ∷ 0 ∷ 0 ∷ 0 ∷ 0 ∷ 0 ∷ 1 ∷
     4 ∷ 0 ∷ 0 ∷ 0 ∷ 0 ∷ 0 ∷ 0 ∷ 0 ∷ 0 ∷ 0 ∷ 0 ∷ 0 ∷ 0 ∷
-    4 ∷ 0 ∷ 0 ∷ 0 ∷ 0 ∷ 0 ∷ 0 ∷ 0 ∷ 0 ∷ 0 ∷ 0 ∷ 0 ∷ 0 ∷
-    4 ∷ 1 ∷ 0 ∷ 1 ∷ 1 ∷ 0 ∷ 0 ∷ 0 ∷ 0 ∷ 0 ∷ 0 ∷ 0 ∷ 1 ∷
-    4 ∷ 0 ∷ 0 ∷ 0 ∷ 0 ∷ 0 ∷ 0 ∷ 0 ∷ 0 ∷ 0 ∷ 0 ∷ 0 ∷ 0 ∷
-    3 ∷ 0 ∷ 0 ∷ 0 ∷ 2 ∷ 0 ∷
-    4 ∷ 1 ∷ 0 ∷ 1 ∷ 1 ∷ 0 ∷ 0 ∷ 0 ∷ 0 ∷ 0 ∷ 0 ∷ 0 ∷ 1 ∷
-    4 ∷ 0 ∷ 0 ∷ 0 ∷ 0 ∷ 0 ∷ 0 ∷ 0 ∷ 0 ∷ 0 ∷ 0 ∷ 0 ∷ 0 ∷
-    4 ∷ 3 ∷ 0 ∷ 0 ∷ 1 ∷ 255 ∷ 255 ∷ 255 ∷ 255 ∷ 255 ∷ 255 ∷ 255 ∷ 255 ∷
-    4 ∷ 0 ∷ 0 ∷ 0 ∷ 0 ∷ 0 ∷ 0 ∷ 0 ∷ 0 ∷ 0 ∷ 0 ∷ 0 ∷ 0 ∷
-    5 ∷ 0 ∷ 0 ∷ 0 ∷ 0 ∷
-    6 ∷ 0 ∷ 0 ∷ 0 ∷ 2 ∷
-    6 ∷ 0 ∷ 0 ∷ 0 ∷ 0 ∷
-    6 ∷ 0 ∷ 0 ∷ 0 ∷ 3 ∷
-    6 ∷ 0 ∷ 0 ∷ 0 ∷ 1 ∷ []
+    4 ∷ 3 ∷ 0 ∷ 0 ∷ 1 ∷ 255 ∷ 255 ∷ 255 ∷ 255 ∷ 255 ∷ 255 ∷ 255 ∷ 255 ∷ []
 
-abbrev image-5429 : List ℕ
-image-5429 =
-    1 ∷ 0 ∷ 0 ∷ 0 ∷ 0 ∷ 0 ∷ 3 ∷ 0 ∷ 1 ∷ 0 ∷ 1 ∷ 0 ∷ 0 ∷ 0 ∷ 1 ∷ 0 ∷ 0 ∷ 0 ∷ 0 ∷ 0 ∷ 0 ∷ 0 ∷ 3 ∷ 0 ∷
-    2 ∷ 0 ∷ 0 ∷ 4 ∷ 4 ∷ 0 ∷ 0 ∷ 0 ∷ 0 ∷ 0 ∷
-    2 ∷ 0 ∷ 1 ∷ 5 ∷ 1 ∷ 0 ∷ 0 ∷ 0 ∷ 0 ∷ 0 ∷
-    2 ∷ 0 ∷ 0 ∷ 0 ∷ 4 ∷ 0 ∷ 0 ∷ 0 ∷ 0 ∷ 0 ∷
-    2 ∷ 0 ∷ 0 ∷ 4 ∷ 0 ∷ 0 ∷ 0 ∷ 0 ∷ 0 ∷ 0 ∷
-    3 ∷ 0 ∷ 0 ∷ 0 ∷ 1 ∷ 1 ∷
+abbrev image-6006 : List ℕ
+image-6006 =
+    1 ∷ 0 ∷ 0 ∷ 0 ∷ 0 ∷ 0 ∷ 1 ∷ 0 ∷ 1 ∷ 0 ∷ 1 ∷ 0 ∷ 0 ∷ 0 ∷ 0 ∷ 0 ∷ 0 ∷ 0 ∷ 1 ∷ 0 ∷ 0 ∷ 0 ∷ 0 ∷ 1 ∷
+    2 ∷ 0 ∷ 4 ∷ 0 ∷ 4 ∷ 0 ∷ 0 ∷ 0 ∷ 64 ∷ 0 ∷
+    2 ∷ 0 ∷ 1 ∷ 4 ∷ 7 ∷ 0 ∷ 0 ∷ 0 ∷ 0 ∷ 0 ∷
+    3 ∷ 0 ∷ 0 ∷ 0 ∷ 0 ∷ 2 ∷
+    4 ∷ 0 ∷ 0 ∷ 1 ∷ 1 ∷ 0 ∷ 0 ∷ 0 ∷ 0 ∷ 0 ∷ 0 ∷ 0 ∷ 1 ∷
+    4 ∷ 3 ∷ 0 ∷ 3 ∷ 1 ∷ 0 ∷ 0 ∷ 0 ∷ 0 ∷ 0 ∷ 0 ∷ 0 ∷ 1 ∷
     4 ∷ 0 ∷ 0 ∷ 0 ∷ 0 ∷ 0 ∷ 0 ∷ 0 ∷ 0 ∷ 0 ∷ 0 ∷ 0 ∷ 0 ∷
-    4 ∷ 0 ∷ 0 ∷ 0 ∷ 0 ∷ 0 ∷ 0 ∷ 0 ∷ 0 ∷ 0 ∷ 0 ∷ 0 ∷ 0 ∷
-    4 ∷ 1 ∷ 0 ∷ 1 ∷ 1 ∷ 0 ∷ 0 ∷ 0 ∷ 0 ∷ 0 ∷ 0 ∷ 0 ∷ 1 ∷
-    4 ∷ 0 ∷ 0 ∷ 0 ∷ 0 ∷ 0 ∷ 0 ∷ 0 ∷ 0 ∷ 0 ∷ 0 ∷ 0 ∷ 0 ∷
-    3 ∷ 0 ∷ 0 ∷ 0 ∷ 2 ∷ 0 ∷
-    4 ∷ 1 ∷ 0 ∷ 1 ∷ 1 ∷ 0 ∷ 0 ∷ 0 ∷ 0 ∷ 0 ∷ 0 ∷ 0 ∷ 1 ∷
-    4 ∷ 0 ∷ 0 ∷ 0 ∷ 0 ∷ 0 ∷ 0 ∷ 0 ∷ 0 ∷ 0 ∷ 0 ∷ 0 ∷ 0 ∷
-    4 ∷ 3 ∷ 0 ∷ 0 ∷ 1 ∷ 255 ∷ 255 ∷ 255 ∷ 255 ∷ 255 ∷ 255 ∷ 255 ∷ 255 ∷
-    4 ∷ 0 ∷ 0 ∷ 0 ∷ 0 ∷ 0 ∷ 0 ∷ 0 ∷ 0 ∷ 0 ∷ 0 ∷ 0 ∷ 0 ∷
-    5 ∷ 0 ∷ 0 ∷ 0 ∷ 0 ∷
-    6 ∷ 0 ∷ 0 ∷ 0 ∷ 2 ∷
-    6 ∷ 0 ∷ 0 ∷ 0 ∷ 0 ∷
-    6 ∷ 0 ∷ 0 ∷ 0 ∷ 1 ∷ []
+    4 ∷ 3 ∷ 0 ∷ 0 ∷ 1 ∷ 255 ∷ 255 ∷ 255 ∷ 255 ∷ 255 ∷ 255 ∷ 255 ∷ 255 ∷ []
 
--- calls 5410 to 5430
-calls-5410 :
+abbrev image-6007 : List ℕ
+image-6007 =
+    1 ∷ 0 ∷ 0 ∷ 0 ∷ 0 ∷ 0 ∷ 1 ∷ 0 ∷ 1 ∷ 0 ∷ 1 ∷ 0 ∷ 0 ∷ 0 ∷ 0 ∷ 0 ∷ 0 ∷ 0 ∷ 1 ∷ 0 ∷ 0 ∷ 0 ∷ 0 ∷ 1 ∷
+    2 ∷ 0 ∷ 5 ∷ 0 ∷ 4 ∷ 0 ∷ 0 ∷ 0 ∷ 64 ∷ 0 ∷
+    2 ∷ 0 ∷ 1 ∷ 4 ∷ 7 ∷ 0 ∷ 0 ∷ 0 ∷ 0 ∷ 0 ∷
+    3 ∷ 0 ∷ 0 ∷ 0 ∷ 0 ∷ 2 ∷
+    4 ∷ 0 ∷ 0 ∷ 1 ∷ 1 ∷ 0 ∷ 0 ∷ 0 ∷ 0 ∷ 0 ∷ 0 ∷ 0 ∷ 1 ∷
+    4 ∷ 3 ∷ 0 ∷ 3 ∷ 1 ∷ 0 ∷ 0 ∷ 0 ∷ 0 ∷ 0 ∷ 0 ∷ 0 ∷ 1 ∷
+    4 ∷ 0 ∷ 0 ∷ 0 ∷ 0 ∷ 0 ∷ 0 ∷ 0 ∷ 0 ∷ 0 ∷ 0 ∷ 0 ∷ 0 ∷
+    4 ∷ 3 ∷ 0 ∷ 0 ∷ 1 ∷ 255 ∷ 255 ∷ 255 ∷ 255 ∷ 255 ∷ 255 ∷ 255 ∷ 255 ∷ []
+
+-- calls 5984 to 6010
+calls-5984 :
     outcomes none
-    (new-line 1000000 196609 65536
-    ∷ call-line 1000000 inc-refcount-all
-    ∷ call-line 1000000 (mark-as-downloading 1 2 (some 1) 195 (words 4352 []))
-    ∷ call-line 1000000 (mark-as-downloading 2 0 (some 1) 0 (words 4352 []))
-    ∷ call-line 1000000 (question (recent-extent 1))
-    ∷ call-line 1000000 (pick-pieces (asking 140 300 0 1000 none 4 (167 ∷ []) []) 555 (words 4352 (1 ∷ [])))
-    ∷ call-line 1000000 (question (listOfPicker get-availability-vec 1000000))
-    ∷ call-line 1000000 (mark-as-finished 2 2 (some 18446744073709551615) (words 4352 []))
-    ∷ call-line 1000000 (set-piece-priority 1 1 (words 4352 []))
-    ∷ call-line 1000000 (mark-as-canceled 2 2 (some 2) (words 4352 []))
-    ∷ call-line 1000000 (question (listOfPicker get-availability-vec 1000000))
-    ∷ call-line 1000000 (question (listOfPiece blocks-for-piece 2 1000000))
-    ∷ call-line 1000000 (pick-pieces (asking 222 8 3 10 none 4 (255 ∷ []) []) 4351 (words 5000 (1818717861 ∷ [])))
-    ∷ call-line 1000000 (pick-pieces (asking 168 3 2048 0 none 4 (255 ∷ []) []) 4351 (words 4352 []))
-    ∷ call-line 1000000 (piece-passed 1)
-    ∷ call-line 1000000 (pick-pieces (asking 175 2049 4 1 (some 1) 4 (255 ∷ []) []) 4351 (words 4352 []))
-    ∷ call-line 1000000 (inc-refcount 1 (words 4352 []))
-    ∷ call-line 1000000 (mark-as-finished 2 2 (some 0) (words 4352 []))
-    ∷ call-line 1000000 (set-piece-priority 1 255 (words 5000 []))
-    ∷ call-line 1000000 (set-piece-priority 3 0 (words 4352 []))
-    ∷ call-line 115 (piece-passed 3)
+    (read-line plenty image-5984
+    ∷ call-line plenty (set-piece-priority 1 7 (words 5000 []))
+    ∷ call-line plenty (dec-refcount 0 (words 4352 []))
+    ∷ call-line plenty (pick-pieces (asking 180 1 3 1000 (some 0) 2 (99 ∷ []) []) 4351 (words 4352 []))
+    ∷ call-line (lending 16 1000000 1000000) (question (listOfPicker get-availability-vec 1000000))
+    ∷ call-line plenty (mark-as-canceled 1 0 (some 3) (words 5000 []))
+    ∷ call-line plenty (mark-as-finished 0 3 (some 18446744073709551615) (words 4352 []))
+    ∷ call-line plenty (dec-refcount 0 (words 4352 []))
+    ∷ call-line plenty (pick-pieces (asking 75 3 3 10 (some 0) 2 (255 ∷ []) []) 4351 (words 4352 []))
+    ∷ call-line plenty (inc-refcount 1 (words 4352 []))
+    ∷ call-line plenty (question (list-place 1))
+    ∷ call-line plenty (question (ofPicker is-seeding))
+    ∷ call-line plenty (inc-refcount 1 (words 4352 []))
+    ∷ call-line plenty (mark-as-finished 1 0 none (words 4352 []))
+    ∷ call-line plenty dec-refcount-all
+    ∷ call-line plenty (mark-as-finished 1 0 none (words 4352 []))
+    ∷ call-line plenty (mark-as-canceled 1 0 (some 18446744073709551615) (words 4352 []))
+    ∷ call-line plenty (lock-piece 0)
+    ∷ call-line plenty (question (listOfPicker get-availability-vec 1000000))
+    ∷ call-line plenty (mark-as-downloading 0 2 (some 3) 130 (words 1 []))
+    ∷ call-line plenty (abort-download 1 0 (some 18446744073709551615) (words 4352 []))
+    ∷ call-line plenty (mark-as-finished 0 1 (some 1) (words 4352 []))
+    ∷ call-line plenty (inc-refcount 0 (words 4352 []))
+    ∷ call-line plenty (abort-download 0 2 (some 2) (words 5000 []))
+    ∷ call-line plenty (mark-as-writing 0 3 (some 18446744073709551615) (words 4352 []))
+    ∷ call-line (lending 27 32 1) (question (ofPiece get-availability 0))
     ∷ [])
-    ≡ outcome stands image-5410
-    ∷ outcome (answered (done 0)) image-5411
-    ∷ outcome (answered (said true 0)) image-5412
-    ∷ outcome (answered (said true 0)) image-5413
-    ∷ outcome (answered (replied nothing)) image-5413
-    ∷ outcome (answered (picked ((pieceBlock 0 0) ∷ (pieceBlock 0 1) ∷ (pieceBlock 0 2) ∷ (pieceBlock 0 3) ∷ []) 9218 (2 ∷ 0 ∷ 0 ∷ 0 ∷ 2 ∷ 0 ∷ 0 ∷ []) 1)) image-5413
-    ∷ outcome (answered (replied (numbers ((some 1) ∷ (some 1) ∷ (some 1) ∷ (some 1) ∷ [])))) image-5413
-    ∷ outcome (answered (done 0)) image-5417
-    ∷ outcome (answered (said false 0)) image-5418
-    ∷ outcome (answered (done 0)) image-5418
-    ∷ outcome (answered (replied (numbers ((some 1) ∷ (some 1) ∷ (some 1) ∷ (some 1) ∷ [])))) image-5418
-    ∷ outcome (answered (replied (numbers ((some 1) ∷ (some 1) ∷ (some 1) ∷ (some 0) ∷ (some 0) ∷ none ∷ (some 3) ∷ (some 0) ∷ (some 18446744073709551615) ∷ (some 0) ∷ (some 0) ∷ none ∷ [])))) image-5418
-    ∷ outcome (answered (picked ((pieceBlock 3 0) ∷ (pieceBlock 0 0) ∷ (pieceBlock 0 1) ∷ (pieceBlock 0 2) ∷ (pieceBlock 0 3) ∷ []) 14338 (2 ∷ 0 ∷ 4 ∷ 0 ∷ 0 ∷ 0 ∷ 0 ∷ []) 1)) image-5422
-    ∷ outcome (answered (picked ((pieceBlock 1 0) ∷ (pieceBlock 1 1) ∷ (pieceBlock 1 3) ∷ []) 3 (2 ∷ 0 ∷ 0 ∷ 0 ∷ 0 ∷ 0 ∷ 0 ∷ []) 0)) image-5422
-    ∷ outcome (answered (done 0)) image-5424
-    ∷ outcome (answered (refused PickArguments)) image-5424
-    ∷ outcome (answered (done 0)) image-5426
-    ∷ outcome (answered (done 0)) image-5426
-    ∷ outcome (answered (refused OutOfRange)) image-5426
-    ∷ outcome (answered (said true 0)) image-5429
-    ∷ outcome (answered (refused ShortMemory)) image-5429
+    ≡ outcome stands image-5984
+    ∷ outcome (answered (said false 0)) image-5986
+    ∷ outcome (answered (done 0)) image-5987
+    ∷ outcome (answered (picked [] 10240 (0 ∷ 0 ∷ 0 ∷ 0 ∷ 0 ∷ 0 ∷ 0 ∷ []) 0)) image-5988
+    ∷ outcome (answered (refused ShortMemory)) image-5988
+    ∷ outcome (answered (done 0)) image-5990
+    ∷ outcome (answered (done 0)) image-5991
+    ∷ outcome (answered (done 0)) image-5992
+    ∷ outcome (answered (picked ((pieceBlock 0 0) ∷ (pieceBlock 0 1) ∷ (pieceBlock 0 2) ∷ []) 2054 (1 ∷ 0 ∷ 0 ∷ 0 ∷ 0 ∷ 0 ∷ 0 ∷ []) 0)) image-5992
+    ∷ outcome (answered (done 0)) image-5994
+    ∷ outcome (answered (refused OutOfRange)) image-5994
+    ∷ outcome (answered (replied (numbers ((some 0) ∷ [])))) image-5994
+    ∷ outcome (answered (done 0)) image-5997
+    ∷ outcome (answered (refused NotWriting)) image-5997
+    ∷ outcome (answered (done 0)) image-5999
+    ∷ outcome (answered (refused NotWriting)) image-5999
+    ∷ outcome (answered (done 0)) image-6001
+    ∷ outcome (answered (done 0)) image-6002
+    ∷ outcome (answered (replied (numbers ((some 4) ∷ (some 1) ∷ [])))) image-6002
+    ∷ outcome (answered (refused FewDraws)) image-6002
+    ∷ outcome (answered (done 0)) image-6005
+    ∷ outcome (answered (done 0)) image-6006
+    ∷ outcome (answered (done 0)) image-6007
+    ∷ outcome (answered (done 0)) image-6007
+    ∷ outcome (answered (said false 0)) image-6007
+    ∷ outcome (answered (refused ShortMemory)) image-6007
     ∷ []
 unfolding replaying
-calls-5410 = refl
+calls-5984 = refl
 
-abbrev image-5530 : List ℕ
-image-5530 =
-    1 ∷ 0 ∷ 0 ∷ 0 ∷ 0 ∷ 0 ∷ 0 ∷ 0 ∷ 12 ∷ 0 ∷ 0 ∷ 0 ∷ 3 ∷ 0 ∷ 0 ∷ 0 ∷ 0 ∷ 0 ∷ 2 ∷ 0 ∷ 0 ∷ 0 ∷ 2 ∷ 1 ∷
-    2 ∷ 0 ∷ 3 ∷ 4 ∷ 7 ∷ 0 ∷ 0 ∷ 0 ∷ 0 ∷ 0 ∷
-    2 ∷ 0 ∷ 1 ∷ 4 ∷ 7 ∷ 0 ∷ 0 ∷ 0 ∷ 0 ∷ 3 ∷
-    2 ∷ 3 ∷ 232 ∷ 2 ∷ 6 ∷ 0 ∷ 0 ∷ 0 ∷ 0 ∷ 0 ∷
-    2 ∷ 0 ∷ 6 ∷ 1 ∷ 7 ∷ 0 ∷ 0 ∷ 0 ∷ 0 ∷ 0 ∷
-    3 ∷ 0 ∷ 0 ∷ 0 ∷ 2 ∷ 1 ∷
-    4 ∷ 3 ∷ 0 ∷ 3 ∷ 1 ∷ 0 ∷ 0 ∷ 0 ∷ 0 ∷ 0 ∷ 0 ∷ 0 ∷ 2 ∷
-    3 ∷ 0 ∷ 0 ∷ 0 ∷ 3 ∷ 1 ∷
-    4 ∷ 1 ∷ 0 ∷ 1 ∷ 1 ∷ 0 ∷ 0 ∷ 0 ∷ 0 ∷ 0 ∷ 0 ∷ 0 ∷ 2 ∷
-    5 ∷ 0 ∷ 0 ∷ 0 ∷ 0 ∷ []
-
-abbrev image-5533 : List ℕ
-image-5533 =
-    1 ∷ 0 ∷ 0 ∷ 0 ∷ 0 ∷ 0 ∷ 0 ∷ 0 ∷ 12 ∷ 0 ∷ 0 ∷ 0 ∷ 3 ∷ 0 ∷ 0 ∷ 0 ∷ 0 ∷ 0 ∷ 2 ∷ 0 ∷ 0 ∷ 0 ∷ 2 ∷ 1 ∷
-    2 ∷ 0 ∷ 3 ∷ 4 ∷ 7 ∷ 0 ∷ 0 ∷ 0 ∷ 0 ∷ 0 ∷
-    2 ∷ 0 ∷ 1 ∷ 4 ∷ 7 ∷ 0 ∷ 0 ∷ 0 ∷ 0 ∷ 3 ∷
-    2 ∷ 3 ∷ 232 ∷ 2 ∷ 6 ∷ 0 ∷ 0 ∷ 0 ∷ 0 ∷ 0 ∷
-    2 ∷ 0 ∷ 6 ∷ 1 ∷ 7 ∷ 0 ∷ 0 ∷ 0 ∷ 0 ∷ 0 ∷
-    3 ∷ 0 ∷ 0 ∷ 0 ∷ 2 ∷ 1 ∷
-    4 ∷ 3 ∷ 0 ∷ 3 ∷ 1 ∷ 0 ∷ 0 ∷ 0 ∷ 0 ∷ 0 ∷ 0 ∷ 0 ∷ 2 ∷
-    3 ∷ 0 ∷ 0 ∷ 0 ∷ 3 ∷ 2 ∷
-    4 ∷ 1 ∷ 0 ∷ 1 ∷ 1 ∷ 0 ∷ 0 ∷ 0 ∷ 0 ∷ 0 ∷ 0 ∷ 0 ∷ 2 ∷
-    5 ∷ 0 ∷ 0 ∷ 0 ∷ 0 ∷ []
-
-abbrev image-5534 : List ℕ
-image-5534 =
-    1 ∷ 0 ∷ 0 ∷ 0 ∷ 0 ∷ 0 ∷ 0 ∷ 0 ∷ 12 ∷ 0 ∷ 0 ∷ 0 ∷ 3 ∷ 0 ∷ 0 ∷ 0 ∷ 0 ∷ 0 ∷ 2 ∷ 0 ∷ 0 ∷ 0 ∷ 2 ∷ 0 ∷
-    2 ∷ 0 ∷ 3 ∷ 4 ∷ 7 ∷ 0 ∷ 0 ∷ 0 ∷ 0 ∷ 0 ∷
-    2 ∷ 0 ∷ 1 ∷ 4 ∷ 7 ∷ 0 ∷ 0 ∷ 0 ∷ 0 ∷ 3 ∷
-    2 ∷ 3 ∷ 232 ∷ 2 ∷ 6 ∷ 0 ∷ 0 ∷ 0 ∷ 0 ∷ 0 ∷
-    2 ∷ 0 ∷ 6 ∷ 1 ∷ 7 ∷ 0 ∷ 0 ∷ 0 ∷ 0 ∷ 0 ∷
-    3 ∷ 0 ∷ 0 ∷ 0 ∷ 2 ∷ 1 ∷
-    4 ∷ 3 ∷ 0 ∷ 3 ∷ 1 ∷ 0 ∷ 0 ∷ 0 ∷ 0 ∷ 0 ∷ 0 ∷ 0 ∷ 2 ∷
-    3 ∷ 0 ∷ 0 ∷ 0 ∷ 3 ∷ 2 ∷
-    4 ∷ 1 ∷ 0 ∷ 1 ∷ 1 ∷ 0 ∷ 0 ∷ 0 ∷ 0 ∷ 0 ∷ 0 ∷ 0 ∷ 2 ∷
-    5 ∷ 0 ∷ 0 ∷ 0 ∷ 0 ∷
-    6 ∷ 0 ∷ 0 ∷ 0 ∷ 1 ∷
-    6 ∷ 0 ∷ 0 ∷ 0 ∷ 0 ∷ []
-
-abbrev image-5536 : List ℕ
-image-5536 =
-    1 ∷ 0 ∷ 0 ∷ 0 ∷ 0 ∷ 0 ∷ 0 ∷ 0 ∷ 12 ∷ 0 ∷ 0 ∷ 0 ∷ 3 ∷ 0 ∷ 0 ∷ 0 ∷ 0 ∷ 0 ∷ 2 ∷ 0 ∷ 0 ∷ 0 ∷ 2 ∷ 0 ∷
-    2 ∷ 0 ∷ 3 ∷ 4 ∷ 7 ∷ 0 ∷ 0 ∷ 0 ∷ 0 ∷ 0 ∷
-    2 ∷ 0 ∷ 1 ∷ 4 ∷ 7 ∷ 0 ∷ 0 ∷ 0 ∷ 0 ∷ 3 ∷
-    2 ∷ 3 ∷ 232 ∷ 2 ∷ 6 ∷ 0 ∷ 0 ∷ 0 ∷ 0 ∷ 0 ∷
-    2 ∷ 0 ∷ 6 ∷ 2 ∷ 7 ∷ 0 ∷ 0 ∷ 0 ∷ 0 ∷ 0 ∷
-    3 ∷ 0 ∷ 0 ∷ 0 ∷ 2 ∷ 1 ∷
-    4 ∷ 3 ∷ 0 ∷ 3 ∷ 1 ∷ 0 ∷ 0 ∷ 0 ∷ 0 ∷ 0 ∷ 0 ∷ 0 ∷ 2 ∷
-    3 ∷ 0 ∷ 0 ∷ 0 ∷ 3 ∷ 2 ∷
-    4 ∷ 2 ∷ 0 ∷ 0 ∷ 1 ∷ 0 ∷ 0 ∷ 0 ∷ 0 ∷ 0 ∷ 0 ∷ 0 ∷ 2 ∷
-    5 ∷ 0 ∷ 0 ∷ 0 ∷ 0 ∷
-    6 ∷ 0 ∷ 0 ∷ 0 ∷ 1 ∷
-    6 ∷ 0 ∷ 0 ∷ 0 ∷ 0 ∷ []
-
-abbrev image-5540 : List ℕ
-image-5540 =
-    1 ∷ 0 ∷ 0 ∷ 0 ∷ 0 ∷ 0 ∷ 0 ∷ 0 ∷ 12 ∷ 0 ∷ 0 ∷ 0 ∷ 3 ∷ 0 ∷ 0 ∷ 0 ∷ 0 ∷ 0 ∷ 2 ∷ 0 ∷ 0 ∷ 0 ∷ 2 ∷ 0 ∷
-    2 ∷ 0 ∷ 3 ∷ 4 ∷ 7 ∷ 0 ∷ 0 ∷ 0 ∷ 0 ∷ 0 ∷
-    2 ∷ 0 ∷ 1 ∷ 4 ∷ 7 ∷ 0 ∷ 0 ∷ 0 ∷ 0 ∷ 3 ∷
-    2 ∷ 3 ∷ 232 ∷ 2 ∷ 6 ∷ 0 ∷ 0 ∷ 0 ∷ 0 ∷ 0 ∷
-    2 ∷ 0 ∷ 6 ∷ 4 ∷ 7 ∷ 0 ∷ 0 ∷ 0 ∷ 0 ∷ 0 ∷
-    3 ∷ 0 ∷ 0 ∷ 0 ∷ 2 ∷ 1 ∷
-    4 ∷ 3 ∷ 0 ∷ 3 ∷ 1 ∷ 0 ∷ 0 ∷ 0 ∷ 0 ∷ 0 ∷ 0 ∷ 0 ∷ 2 ∷
-    5 ∷ 0 ∷ 0 ∷ 0 ∷ 0 ∷
-    6 ∷ 0 ∷ 0 ∷ 0 ∷ 1 ∷
-    6 ∷ 0 ∷ 0 ∷ 0 ∷ 0 ∷
-    6 ∷ 0 ∷ 0 ∷ 0 ∷ 3 ∷ []
-
--- calls 5530 to 5542
-calls-5530 :
-    outcomes none
-    (read-line 1000000 image-5530
-    ∷ call-line 1000000 (lock-piece 0)
-    ∷ call-line 1000000 (mark-as-downloading 2 0 (some 1) 0 (words 4352 []))
-    ∷ call-line 1000000 (lock-piece 3)
-    ∷ call-line 1000000 (pick-pieces (asking 36517 2048 2047 1000 (some 3) 4 (23 ∷ []) []) 4351 (words 4352 []))
-    ∷ call-line 1000000 (question (listOfPiece blocks-for-piece 3 1000000))
-    ∷ call-line 1000000 (mark-as-writing 3 0 (some 2) (words 4352 []))
-    ∷ call-line 1000000 (question (listOfPicker get-download-queue 1000000))
-    ∷ call-line 1000000 (pick-pieces (asking 12 5 0 5 (some 0) 4 (8 ∷ []) []) 4351 (words 4352 (2243766168 ∷ [])))
-    ∷ call-line 1000000 (question (ofBlock is-finished-block 2 0))
-    ∷ call-line 1000000 (mark-as-canceled 3 0 (some 2) (words 4352 []))
-    ∷ call-line 1000000 (question (ofBlock block-peer 3 0))
-    ∷ call-line 15 (mark-as-writing 1 0 none (words 4352 []))
-    ∷ [])
-    ≡ outcome stands image-5530
-    ∷ outcome (answered (done 0)) image-5530
-    ∷ outcome (answered (said false 0)) image-5530
-    ∷ outcome (answered (done 0)) image-5533
-    ∷ outcome (answered (picked [] 75776 (0 ∷ 0 ∷ 0 ∷ 2 ∷ 0 ∷ 0 ∷ 0 ∷ []) 0)) image-5534
-    ∷ outcome (answered (replied (numbers ((some 1) ∷ (some 1) ∷ (some 2) ∷ [])))) image-5534
-    ∷ outcome (answered (said true 0)) image-5536
-    ∷ outcome (answered (replied (numbers ((some 2) ∷ (some 1) ∷ (some 1) ∷ (some 0) ∷ (some 0) ∷ (some 0) ∷ (some 0) ∷ (some 3) ∷ (some 0) ∷ (some 0) ∷ (some 1) ∷ (some 1) ∷ (some 0) ∷ (some 0) ∷ [])))) image-5536
-    ∷ outcome (answered (picked [] 8192 (0 ∷ 0 ∷ 0 ∷ 0 ∷ 4 ∷ 0 ∷ 0 ∷ []) 1)) image-5536
-    ∷ outcome (answered (replied (numbers ((some 1) ∷ [])))) image-5536
-    ∷ outcome (answered (done 0)) image-5540
-    ∷ outcome (answered (replied nothing)) image-5540
-    ∷ outcome (answered (refused ShortMemory)) image-5540
-    ∷ []
-unfolding replaying
-calls-5530 = refl
-
-abbrev image-5912 : List ℕ
-image-5912 =
-    1 ∷ 0 ∷ 0 ∷ 0 ∷ 0 ∷ 0 ∷ 5 ∷ 0 ∷ 0 ∷ 0 ∷ 1 ∷ 0 ∷ 0 ∷ 0 ∷ 0 ∷ 0 ∷ 0 ∷ 0 ∷ 2 ∷ 0 ∷ 0 ∷ 0 ∷ 3 ∷ 0 ∷
-    2 ∷ 0 ∷ 1 ∷ 6 ∷ 4 ∷ 0 ∷ 0 ∷ 0 ∷ 0 ∷ 0 ∷
-    2 ∷ 0 ∷ 1 ∷ 5 ∷ 4 ∷ 0 ∷ 0 ∷ 0 ∷ 0 ∷ 0 ∷
-    2 ∷ 0 ∷ 2 ∷ 2 ∷ 7 ∷ 0 ∷ 0 ∷ 0 ∷ 64 ∷ 1 ∷
-    2 ∷ 0 ∷ 2 ∷ 1 ∷ 4 ∷ 0 ∷ 0 ∷ 0 ∷ 0 ∷ 1 ∷
-    2 ∷ 0 ∷ 0 ∷ 4 ∷ 4 ∷ 0 ∷ 0 ∷ 0 ∷ 0 ∷ 0 ∷
-    3 ∷ 0 ∷ 0 ∷ 0 ∷ 0 ∷ 7 ∷
-    4 ∷ 1 ∷ 3 ∷ 232 ∷ 1 ∷ 0 ∷ 0 ∷ 0 ∷ 0 ∷ 0 ∷ 0 ∷ 0 ∷ 0 ∷
-    4 ∷ 3 ∷ 0 ∷ 0 ∷ 0 ∷ 0 ∷ 0 ∷ 0 ∷ 0 ∷ 0 ∷ 0 ∷ 0 ∷ 0 ∷
-    4 ∷ 1 ∷ 0 ∷ 0 ∷ 1 ∷ 0 ∷ 0 ∷ 0 ∷ 0 ∷ 0 ∷ 0 ∷ 0 ∷ 2 ∷
-    4 ∷ 1 ∷ 0 ∷ 0 ∷ 0 ∷ 0 ∷ 0 ∷ 0 ∷ 0 ∷ 0 ∷ 0 ∷ 0 ∷ 0 ∷
-    3 ∷ 0 ∷ 0 ∷ 0 ∷ 1 ∷ 0 ∷
-    4 ∷ 1 ∷ 3 ∷ 232 ∷ 1 ∷ 0 ∷ 0 ∷ 0 ∷ 0 ∷ 0 ∷ 0 ∷ 0 ∷ 0 ∷
-    4 ∷ 1 ∷ 0 ∷ 1 ∷ 1 ∷ 0 ∷ 0 ∷ 0 ∷ 0 ∷ 0 ∷ 0 ∷ 0 ∷ 0 ∷
-    4 ∷ 0 ∷ 0 ∷ 0 ∷ 1 ∷ 0 ∷ 0 ∷ 0 ∷ 0 ∷ 0 ∷ 0 ∷ 0 ∷ 1 ∷
-    4 ∷ 1 ∷ 0 ∷ 1 ∷ 1 ∷ 0 ∷ 0 ∷ 0 ∷ 0 ∷ 0 ∷ 0 ∷ 0 ∷ 2 ∷
-    3 ∷ 0 ∷ 0 ∷ 0 ∷ 2 ∷ 1 ∷
-    4 ∷ 0 ∷ 0 ∷ 0 ∷ 1 ∷ 0 ∷ 0 ∷ 0 ∷ 0 ∷ 0 ∷ 0 ∷ 0 ∷ 3 ∷
-    4 ∷ 0 ∷ 0 ∷ 2 ∷ 1 ∷ 255 ∷ 255 ∷ 255 ∷ 255 ∷ 255 ∷ 255 ∷ 255 ∷ 255 ∷
-    4 ∷ 0 ∷ 0 ∷ 0 ∷ 1 ∷ 0 ∷ 0 ∷ 0 ∷ 0 ∷ 0 ∷ 0 ∷ 0 ∷ 3 ∷
-    4 ∷ 0 ∷ 0 ∷ 0 ∷ 1 ∷ 0 ∷ 0 ∷ 0 ∷ 0 ∷ 0 ∷ 0 ∷ 0 ∷ 0 ∷
-    3 ∷ 0 ∷ 0 ∷ 0 ∷ 3 ∷ 5 ∷
-    4 ∷ 1 ∷ 0 ∷ 0 ∷ 1 ∷ 255 ∷ 255 ∷ 255 ∷ 255 ∷ 255 ∷ 255 ∷ 255 ∷ 255 ∷
-    4 ∷ 1 ∷ 0 ∷ 0 ∷ 1 ∷ 255 ∷ 255 ∷ 255 ∷ 255 ∷ 255 ∷ 255 ∷ 255 ∷ 255 ∷
-    4 ∷ 1 ∷ 0 ∷ 0 ∷ 1 ∷ 255 ∷ 255 ∷ 255 ∷ 255 ∷ 255 ∷ 255 ∷ 255 ∷ 255 ∷
-    4 ∷ 1 ∷ 0 ∷ 0 ∷ 1 ∷ 255 ∷ 255 ∷ 255 ∷ 255 ∷ 255 ∷ 255 ∷ 255 ∷ 255 ∷
-    5 ∷ 0 ∷ 0 ∷ 0 ∷ 0 ∷
-    6 ∷ 0 ∷ 0 ∷ 0 ∷ 0 ∷
-    6 ∷ 0 ∷ 0 ∷ 0 ∷ 1 ∷ []
-
-abbrev image-5913 : List ℕ
-image-5913 =
-    1 ∷ 0 ∷ 0 ∷ 0 ∷ 0 ∷ 0 ∷ 5 ∷ 0 ∷ 0 ∷ 0 ∷ 1 ∷ 0 ∷ 0 ∷ 0 ∷ 0 ∷ 0 ∷ 0 ∷ 0 ∷ 2 ∷ 0 ∷ 0 ∷ 0 ∷ 3 ∷ 0 ∷
-    2 ∷ 0 ∷ 1 ∷ 6 ∷ 4 ∷ 0 ∷ 0 ∷ 0 ∷ 0 ∷ 0 ∷
-    2 ∷ 0 ∷ 1 ∷ 5 ∷ 4 ∷ 0 ∷ 0 ∷ 0 ∷ 0 ∷ 0 ∷
-    2 ∷ 0 ∷ 2 ∷ 2 ∷ 7 ∷ 0 ∷ 0 ∷ 0 ∷ 64 ∷ 1 ∷
-    2 ∷ 0 ∷ 2 ∷ 1 ∷ 4 ∷ 0 ∷ 0 ∷ 0 ∷ 0 ∷ 1 ∷
-    2 ∷ 0 ∷ 0 ∷ 4 ∷ 4 ∷ 0 ∷ 0 ∷ 0 ∷ 0 ∷ 0 ∷
-    3 ∷ 0 ∷ 0 ∷ 0 ∷ 0 ∷ 7 ∷
-    4 ∷ 1 ∷ 3 ∷ 232 ∷ 1 ∷ 0 ∷ 0 ∷ 0 ∷ 0 ∷ 0 ∷ 0 ∷ 0 ∷ 0 ∷
-    4 ∷ 3 ∷ 0 ∷ 0 ∷ 0 ∷ 0 ∷ 0 ∷ 0 ∷ 0 ∷ 0 ∷ 0 ∷ 0 ∷ 0 ∷
-    4 ∷ 1 ∷ 0 ∷ 0 ∷ 1 ∷ 0 ∷ 0 ∷ 0 ∷ 0 ∷ 0 ∷ 0 ∷ 0 ∷ 2 ∷
-    4 ∷ 1 ∷ 0 ∷ 0 ∷ 0 ∷ 0 ∷ 0 ∷ 0 ∷ 0 ∷ 0 ∷ 0 ∷ 0 ∷ 0 ∷
-    3 ∷ 0 ∷ 0 ∷ 0 ∷ 1 ∷ 0 ∷
-    4 ∷ 1 ∷ 3 ∷ 232 ∷ 1 ∷ 0 ∷ 0 ∷ 0 ∷ 0 ∷ 0 ∷ 0 ∷ 0 ∷ 0 ∷
-    4 ∷ 1 ∷ 0 ∷ 1 ∷ 1 ∷ 0 ∷ 0 ∷ 0 ∷ 0 ∷ 0 ∷ 0 ∷ 0 ∷ 0 ∷
-    4 ∷ 0 ∷ 0 ∷ 0 ∷ 1 ∷ 0 ∷ 0 ∷ 0 ∷ 0 ∷ 0 ∷ 0 ∷ 0 ∷ 1 ∷
-    4 ∷ 0 ∷ 0 ∷ 0 ∷ 0 ∷ 0 ∷ 0 ∷ 0 ∷ 0 ∷ 0 ∷ 0 ∷ 0 ∷ 0 ∷
-    3 ∷ 0 ∷ 0 ∷ 0 ∷ 2 ∷ 1 ∷
-    4 ∷ 0 ∷ 0 ∷ 0 ∷ 1 ∷ 0 ∷ 0 ∷ 0 ∷ 0 ∷ 0 ∷ 0 ∷ 0 ∷ 3 ∷
-    4 ∷ 0 ∷ 0 ∷ 2 ∷ 1 ∷ 255 ∷ 255 ∷ 255 ∷ 255 ∷ 255 ∷ 255 ∷ 255 ∷ 255 ∷
-    4 ∷ 0 ∷ 0 ∷ 0 ∷ 1 ∷ 0 ∷ 0 ∷ 0 ∷ 0 ∷ 0 ∷ 0 ∷ 0 ∷ 3 ∷
-    4 ∷ 0 ∷ 0 ∷ 0 ∷ 1 ∷ 0 ∷ 0 ∷ 0 ∷ 0 ∷ 0 ∷ 0 ∷ 0 ∷ 0 ∷
-    3 ∷ 0 ∷ 0 ∷ 0 ∷ 3 ∷ 5 ∷
-    4 ∷ 1 ∷ 0 ∷ 0 ∷ 1 ∷ 255 ∷ 255 ∷ 255 ∷ 255 ∷ 255 ∷ 255 ∷ 255 ∷ 255 ∷
-    4 ∷ 1 ∷ 0 ∷ 0 ∷ 1 ∷ 255 ∷ 255 ∷ 255 ∷ 255 ∷ 255 ∷ 255 ∷ 255 ∷ 255 ∷
-    4 ∷ 1 ∷ 0 ∷ 0 ∷ 1 ∷ 255 ∷ 255 ∷ 255 ∷ 255 ∷ 255 ∷ 255 ∷ 255 ∷ 255 ∷
-    4 ∷ 1 ∷ 0 ∷ 0 ∷ 1 ∷ 255 ∷ 255 ∷ 255 ∷ 255 ∷ 255 ∷ 255 ∷ 255 ∷ 255 ∷
-    5 ∷ 0 ∷ 0 ∷ 0 ∷ 0 ∷
-    6 ∷ 0 ∷ 0 ∷ 0 ∷ 0 ∷
-    6 ∷ 0 ∷ 0 ∷ 0 ∷ 1 ∷ []
-
--- calls 5912 to 5914
-calls-5912 :
-    outcomes none
-    (read-line 1000000 image-5912
-    ∷ call-line 1000000 (abort-download 1 3 (some 1) (words 5000 []))
-    ∷ call-line 15 (question (partial-at 1099511627776))
-    ∷ [])
-    ≡ outcome stands image-5912
-    ∷ outcome (answered (done 0)) image-5913
-    ∷ outcome (answered (refused ShortMemory)) image-5913
-    ∷ []
-unfolding replaying
-calls-5912 = refl
-
-abbrev image-6010 : List ℕ
-image-6010 =
-    1 ∷ 0 ∷ 0 ∷ 0 ∷ 0 ∷ 0 ∷ 0 ∷ 0 ∷ 1 ∷ 0 ∷ 0 ∷ 0 ∷ 1 ∷ 0 ∷ 0 ∷ 0 ∷ 0 ∷ 0 ∷ 0 ∷ 0 ∷ 0 ∷ 0 ∷ 1 ∷ 0 ∷
-    2 ∷ 0 ∷ 1 ∷ 1 ∷ 4 ∷ 0 ∷ 0 ∷ 0 ∷ 0 ∷ 0 ∷
-    3 ∷ 0 ∷ 0 ∷ 0 ∷ 0 ∷ 0 ∷
-    4 ∷ 0 ∷ 0 ∷ 0 ∷ 0 ∷ 0 ∷ 0 ∷ 0 ∷ 0 ∷ 0 ∷ 0 ∷ 0 ∷ 0 ∷ []
-
-abbrev image-6011 : List ℕ
-image-6011 =
-    1 ∷ 0 ∷ 0 ∷ 0 ∷ 0 ∷ 0 ∷ 0 ∷ 0 ∷ 1 ∷ 0 ∷ 0 ∷ 0 ∷ 1 ∷ 0 ∷ 0 ∷ 0 ∷ 0 ∷ 0 ∷ 0 ∷ 0 ∷ 0 ∷ 0 ∷ 1 ∷ 1 ∷
-    2 ∷ 0 ∷ 1 ∷ 6 ∷ 4 ∷ 0 ∷ 0 ∷ 0 ∷ 0 ∷ 0 ∷
-    3 ∷ 0 ∷ 0 ∷ 0 ∷ 0 ∷ 0 ∷
-    4 ∷ 1 ∷ 0 ∷ 1 ∷ 1 ∷ 0 ∷ 0 ∷ 0 ∷ 0 ∷ 0 ∷ 0 ∷ 0 ∷ 7 ∷ []
-
--- calls 6010 to 6011
-calls-6010 :
-    outcomes none
-    (read-line 1000000 image-6010
-    ∷ call-line 1000000 (mark-as-downloading 0 0 (some 7) 2 (words 4352 []))
-    ∷ [])
-    ≡ outcome stands image-6010
-    ∷ outcome (answered (said true 0)) image-6011
-    ∷ []
-unfolding replaying
-calls-6010 = refl
-
-abbrev image-6018 : List ℕ
-image-6018 =
-    1 ∷ 0 ∷ 0 ∷ 0 ∷ 0 ∷ 0 ∷ 0 ∷ 0 ∷ 1 ∷ 0 ∷ 0 ∷ 0 ∷ 1 ∷ 0 ∷ 0 ∷ 0 ∷ 0 ∷ 0 ∷ 0 ∷ 0 ∷ 0 ∷ 0 ∷ 1 ∷ 1 ∷
-    2 ∷ 0 ∷ 0 ∷ 4 ∷ 4 ∷ 0 ∷ 0 ∷ 0 ∷ 0 ∷ 0 ∷ []
-
-abbrev image-6019 : List ℕ
-image-6019 =
-    1 ∷ 0 ∷ 0 ∷ 0 ∷ 0 ∷ 0 ∷ 0 ∷ 0 ∷ 1 ∷ 0 ∷ 0 ∷ 0 ∷ 1 ∷ 0 ∷ 0 ∷ 0 ∷ 0 ∷ 0 ∷ 0 ∷ 0 ∷ 0 ∷ 0 ∷ 1 ∷ 1 ∷
-    2 ∷ 0 ∷ 0 ∷ 2 ∷ 4 ∷ 0 ∷ 0 ∷ 0 ∷ 0 ∷ 0 ∷
-    3 ∷ 0 ∷ 0 ∷ 0 ∷ 0 ∷ 0 ∷
-    4 ∷ 2 ∷ 0 ∷ 0 ∷ 1 ∷ 0 ∷ 0 ∷ 0 ∷ 0 ∷ 0 ∷ 0 ∷ 0 ∷ 7 ∷ []
-
-abbrev image-6020 : List ℕ
-image-6020 =
-    1 ∷ 0 ∷ 0 ∷ 0 ∷ 0 ∷ 0 ∷ 0 ∷ 0 ∷ 1 ∷ 0 ∷ 0 ∷ 0 ∷ 1 ∷ 0 ∷ 0 ∷ 0 ∷ 0 ∷ 0 ∷ 0 ∷ 0 ∷ 0 ∷ 0 ∷ 1 ∷ 1 ∷
-    2 ∷ 0 ∷ 0 ∷ 2 ∷ 4 ∷ 0 ∷ 0 ∷ 0 ∷ 0 ∷ 0 ∷
-    3 ∷ 0 ∷ 0 ∷ 0 ∷ 0 ∷ 1 ∷
-    4 ∷ 2 ∷ 0 ∷ 0 ∷ 1 ∷ 0 ∷ 0 ∷ 0 ∷ 0 ∷ 0 ∷ 0 ∷ 0 ∷ 7 ∷ []
-
-abbrev image-6021 : List ℕ
-image-6021 =
-    1 ∷ 0 ∷ 0 ∷ 0 ∷ 0 ∷ 0 ∷ 0 ∷ 0 ∷ 1 ∷ 0 ∷ 0 ∷ 0 ∷ 1 ∷ 0 ∷ 0 ∷ 0 ∷ 0 ∷ 0 ∷ 0 ∷ 0 ∷ 0 ∷ 0 ∷ 1 ∷ 1 ∷
-    2 ∷ 0 ∷ 0 ∷ 4 ∷ 4 ∷ 0 ∷ 0 ∷ 0 ∷ 0 ∷ 0 ∷ []
-
--- calls 6018 to 6021
-calls-6018 :
-    outcomes none
-    (new-line 1000000 1 1
-    ∷ call-line 1000000 (mark-as-writing 0 0 (some 7) (words 4352 []))
-    ∷ call-line 1000000 (piece-passed 0)
-    ∷ call-line 1000000 (mark-as-canceled 0 0 (some 7) (words 4352 []))
-    ∷ [])
-    ≡ outcome stands image-6018
-    ∷ outcome (answered (said true 0)) image-6019
-    ∷ outcome (answered (done 0)) image-6020
-    ∷ outcome (answered (done 0)) image-6021
-    ∷ []
-unfolding replaying
-calls-6018 = refl
-
-abbrev image-6051 : List ℕ
-image-6051 =
+abbrev image-6055 : List ℕ
+image-6055 =
     1 ∷ 0 ∷ 0 ∷ 0 ∷ 0 ∷ 0 ∷ 3 ∷ 0 ∷ 0 ∷ 0 ∷ 0 ∷ 128 ∷ 0 ∷ 0 ∷ 0 ∷ 0 ∷ 0 ∷ 0 ∷ 0 ∷ 0 ∷ 0 ∷ 0 ∷ 6 ∷ 1 ∷
     2 ∷ 0 ∷ 1 ∷ 1 ∷ 4 ∷ 0 ∷ 0 ∷ 0 ∷ 0 ∷ 0 ∷
     2 ∷ 0 ∷ 1 ∷ 4 ∷ 4 ∷ 0 ∷ 0 ∷ 0 ∷ 0 ∷ 0 ∷
@@ -592,20 +299,20 @@ image-6051 =
     4 ∷ 1 ∷ 0 ∷ 1 ∷ 1 ∷ 0 ∷ 0 ∷ 0 ∷ 0 ∷ 0 ∷ 0 ∷ 0 ∷ 7 ∷
     4 ∷ 1 ∷ 0 ∷ 1 ∷ 1 ∷ 0 ∷ 0 ∷ 0 ∷ 0 ∷ 0 ∷ 0 ∷ 0 ∷ 7 ∷ []
 
--- calls 6051 to 6052
-calls-6051 :
+-- calls 6055 to 6056
+calls-6055 :
     outcomes none
-    (read-line 1000000 image-6051
-    ∷ call-line 1000000 (pick-pieces (asking 64 9 3 10 (some 7) 6 (184 ∷ []) []) 4351 (words 4352 (0 ∷ 0 ∷ [])))
+    (read-line plenty image-6055
+    ∷ call-line plenty (pick-pieces (asking 64 9 3 10 (some 7) 6 (184 ∷ []) []) 4351 (words 4352 (0 ∷ 0 ∷ [])))
     ∷ [])
-    ≡ outcome stands image-6051
-    ∷ outcome (answered (picked ((pieceBlock 2 0) ∷ (pieceBlock 2 1) ∷ (pieceBlock 3 0) ∷ (pieceBlock 3 1) ∷ (pieceBlock 4 0) ∷ (pieceBlock 4 1) ∷ []) 11264 (0 ∷ 0 ∷ 0 ∷ 0 ∷ 7 ∷ 4 ∷ 1 ∷ []) 2)) image-6051
+    ≡ outcome stands image-6055
+    ∷ outcome (answered (picked ((pieceBlock 2 0) ∷ (pieceBlock 2 1) ∷ (pieceBlock 3 0) ∷ (pieceBlock 3 1) ∷ (pieceBlock 4 0) ∷ (pieceBlock 4 1) ∷ []) 11264 (0 ∷ 0 ∷ 0 ∷ 0 ∷ 7 ∷ 4 ∷ 1 ∷ []) 2)) image-6055
     ∷ []
 unfolding replaying
-calls-6051 = refl
+calls-6055 = refl
 
-abbrev image-6182 : List ℕ
-image-6182 =
+abbrev image-6186 : List ℕ
+image-6186 =
     1 ∷ 0 ∷ 0 ∷ 0 ∷ 0 ∷ 0 ∷ 0 ∷ 0 ∷ 2 ∷ 0 ∷ 0 ∷ 0 ∷ 1 ∷ 0 ∷ 0 ∷ 0 ∷ 0 ∷ 0 ∷ 0 ∷ 0 ∷ 0 ∷ 0 ∷ 2 ∷ 0 ∷
     2 ∷ 0 ∷ 1 ∷ 1 ∷ 4 ∷ 0 ∷ 0 ∷ 0 ∷ 0 ∷ 0 ∷
     2 ∷ 0 ∷ 1 ∷ 4 ∷ 4 ∷ 0 ∷ 0 ∷ 0 ∷ 0 ∷ 0 ∷
@@ -613,8 +320,8 @@ image-6182 =
     4 ∷ 0 ∷ 0 ∷ 2 ∷ 0 ∷ 0 ∷ 0 ∷ 0 ∷ 0 ∷ 0 ∷ 0 ∷ 0 ∷ 0 ∷
     6 ∷ 0 ∷ 0 ∷ 0 ∷ 1 ∷ []
 
-abbrev image-6183 : List ℕ
-image-6183 =
+abbrev image-6187 : List ℕ
+image-6187 =
     1 ∷ 0 ∷ 0 ∷ 0 ∷ 0 ∷ 0 ∷ 0 ∷ 0 ∷ 2 ∷ 0 ∷ 0 ∷ 0 ∷ 1 ∷ 0 ∷ 0 ∷ 0 ∷ 0 ∷ 0 ∷ 0 ∷ 0 ∷ 0 ∷ 0 ∷ 2 ∷ 0 ∷
     2 ∷ 0 ∷ 1 ∷ 1 ∷ 4 ∷ 0 ∷ 0 ∷ 0 ∷ 0 ∷ 0 ∷
     2 ∷ 0 ∷ 1 ∷ 4 ∷ 4 ∷ 0 ∷ 0 ∷ 0 ∷ 0 ∷ 0 ∷
@@ -622,172 +329,165 @@ image-6183 =
     4 ∷ 0 ∷ 0 ∷ 2 ∷ 1 ∷ 0 ∷ 0 ∷ 0 ∷ 0 ∷ 0 ∷ 0 ∷ 0 ∷ 4 ∷
     6 ∷ 0 ∷ 0 ∷ 0 ∷ 1 ∷ []
 
--- calls 6182 to 6186
-calls-6182 :
+-- calls 6186 to 6190
+calls-6186 :
     outcomes none
-    (read-line 1000000 image-6182
-    ∷ call-line 1000000 (mark-as-canceled 0 0 (some 4) (words 4352 []))
-    ∷ call-line 1000000 (question (ofPiece download-state 0))
-    ∷ call-line 1000000 (question (ofBlock block-peer 0 0))
-    ∷ call-line 1000000 (question (ofBlock block-num-peers 0 0))
+    (read-line plenty image-6186
+    ∷ call-line plenty (mark-as-canceled 0 0 (some 4) (words 4352 []))
+    ∷ call-line plenty (question (ofPiece download-state 0))
+    ∷ call-line plenty (question (ofBlock block-peer 0 0))
+    ∷ call-line plenty (question (ofBlock block-num-peers 0 0))
     ∷ [])
-    ≡ outcome stands image-6182
-    ∷ outcome (answered (done 0)) image-6183
-    ∷ outcome (answered (replied (numbers ((some 1) ∷ [])))) image-6183
-    ∷ outcome (answered (replied (numbers ((some 4) ∷ [])))) image-6183
-    ∷ outcome (answered (replied (numbers ((some 2) ∷ [])))) image-6183
+    ≡ outcome stands image-6186
+    ∷ outcome (answered (done 0)) image-6187
+    ∷ outcome (answered (replied (numbers ((some 1) ∷ [])))) image-6187
+    ∷ outcome (answered (replied (numbers ((some 4) ∷ [])))) image-6187
+    ∷ outcome (answered (replied (numbers ((some 2) ∷ [])))) image-6187
     ∷ []
 unfolding replaying
-calls-6182 = refl
+calls-6186 = refl
 
--- call 6407
-calls-6407 :
+abbrev image-6225 : List ℕ
+image-6225 =
+    1 ∷ 0 ∷ 0 ∷ 0 ∷ 0 ∷ 0 ∷ 1 ∷ 0 ∷ 0 ∷ 0 ∷ 0 ∷ 128 ∷ 0 ∷ 0 ∷ 0 ∷ 0 ∷ 0 ∷ 0 ∷ 0 ∷ 0 ∷ 0 ∷ 0 ∷ 2 ∷ 1 ∷
+    2 ∷ 0 ∷ 0 ∷ 4 ∷ 4 ∷ 0 ∷ 0 ∷ 0 ∷ 0 ∷ 0 ∷
+    2 ∷ 0 ∷ 0 ∷ 4 ∷ 4 ∷ 0 ∷ 0 ∷ 0 ∷ 0 ∷ 0 ∷ []
+
+abbrev image-6226 : List ℕ
+image-6226 =
+    1 ∷ 0 ∷ 0 ∷ 0 ∷ 0 ∷ 0 ∷ 1 ∷ 0 ∷ 0 ∷ 0 ∷ 0 ∷ 128 ∷ 0 ∷ 0 ∷ 0 ∷ 0 ∷ 0 ∷ 0 ∷ 0 ∷ 0 ∷ 0 ∷ 0 ∷ 2 ∷ 1 ∷
+    2 ∷ 0 ∷ 0 ∷ 0 ∷ 4 ∷ 0 ∷ 0 ∷ 0 ∷ 0 ∷ 0 ∷
+    2 ∷ 0 ∷ 0 ∷ 4 ∷ 4 ∷ 0 ∷ 0 ∷ 0 ∷ 0 ∷ 0 ∷
+    3 ∷ 0 ∷ 0 ∷ 0 ∷ 0 ∷ 0 ∷
+    4 ∷ 2 ∷ 0 ∷ 0 ∷ 1 ∷ 0 ∷ 0 ∷ 0 ∷ 0 ∷ 0 ∷ 0 ∷ 0 ∷ 5 ∷
+    4 ∷ 0 ∷ 0 ∷ 0 ∷ 0 ∷ 0 ∷ 0 ∷ 0 ∷ 0 ∷ 0 ∷ 0 ∷ 0 ∷ 0 ∷ []
+
+-- calls 6225 to 6227
+calls-6225 :
     outcomes none
-    (read-line 1000000 (0 ∷ [])
+    (new-line plenty 65536 32768
+    ∷ call-line plenty (mark-as-writing 0 0 (some 5) (words 4352 []))
+    ∷ call-line (lending 15 1000000 1000000) (mark-as-canceled 2 0 none (words 4351 []))
+    ∷ [])
+    ≡ outcome stands image-6225
+    ∷ outcome (answered (said true 0)) image-6226
+    ∷ outcome (answered (refused ShortMemory)) image-6226
+    ∷ []
+unfolding replaying
+calls-6225 = refl
+
+-- call 6413
+calls-6413 :
+    outcomes none
+    (read-line plenty (0 ∷ [])
     ∷ [])
     ≡ outcome (notDone (IllFormedImage 0)) []
     ∷ []
 unfolding replaying
-calls-6407 = refl
+calls-6413 = refl
 
--- call 6408
-calls-6408 :
+-- call 6414
+calls-6414 :
     outcomes none
-    (read-line 1000000 (8 ∷ 0 ∷ 0 ∷ 0 ∷ 0 ∷ 0 ∷ 0 ∷ 0 ∷ 0 ∷ 0 ∷ 0 ∷ 0 ∷ 0 ∷ 0 ∷ 0 ∷ 0 ∷ 0 ∷ 0 ∷ 0 ∷ 0 ∷ 0 ∷ 0 ∷ 0 ∷ 0 ∷ 0 ∷ 0 ∷ 0 ∷ 0 ∷ 0 ∷ 0 ∷ 0 ∷ 0 ∷ 0 ∷ 0 ∷ 0 ∷ 0 ∷ 0 ∷ 0 ∷ 0 ∷ 0 ∷ 0 ∷ [])
+    (read-line plenty (8 ∷ 0 ∷ 0 ∷ 0 ∷ 0 ∷ 0 ∷ 0 ∷ 0 ∷ 0 ∷ 0 ∷ 0 ∷ 0 ∷ 0 ∷ 0 ∷ 0 ∷ 0 ∷ 0 ∷ 0 ∷ 0 ∷ 0 ∷ 0 ∷ 0 ∷ 0 ∷ 0 ∷ 0 ∷ 0 ∷ 0 ∷ 0 ∷ 0 ∷ 0 ∷ 0 ∷ 0 ∷ 0 ∷ 0 ∷ 0 ∷ 0 ∷ 0 ∷ 0 ∷ 0 ∷ 0 ∷ 0 ∷ [])
     ∷ [])
     ≡ outcome (notDone (IllFormedImage 0)) []
     ∷ []
 unfolding replaying
-calls-6408 = refl
+calls-6414 = refl
 
--- call 6409
-calls-6409 :
+-- call 6415
+calls-6415 :
     outcomes none
-    (read-line 1000000 (1 ∷ 0 ∷ 0 ∷ 0 ∷ 0 ∷ 0 ∷ 0 ∷ 191 ∷ 156 ∷ 0 ∷ 0 ∷ 64 ∷ 0 ∷ 0 ∷ 2 ∷ 0 ∷ 0 ∷ 0 ∷ 1 ∷ 0 ∷ 0 ∷ 0 ∷ 3 ∷ [])
+    (read-line plenty (1 ∷ 0 ∷ 0 ∷ 0 ∷ 0 ∷ 0 ∷ 0 ∷ 191 ∷ 156 ∷ 0 ∷ 0 ∷ 64 ∷ 0 ∷ 0 ∷ 2 ∷ 0 ∷ 0 ∷ 0 ∷ 1 ∷ 0 ∷ 0 ∷ 0 ∷ 3 ∷ [])
     ∷ [])
     ≡ outcome (notDone (IllFormedImage 0)) []
     ∷ []
 unfolding replaying
-calls-6409 = refl
+calls-6415 = refl
 
--- call 6410
-calls-6410 :
+-- call 6416
+calls-6416 :
     outcomes none
-    (read-line 1000000 (7 ∷ 0 ∷ 0 ∷ 0 ∷ 0 ∷ 0 ∷ 0 ∷ 0 ∷ 0 ∷ 0 ∷ 0 ∷ 0 ∷ 0 ∷ 0 ∷ 0 ∷ 0 ∷ 0 ∷ 0 ∷ [])
+    (read-line plenty (7 ∷ 0 ∷ 0 ∷ 0 ∷ 0 ∷ 0 ∷ 0 ∷ 0 ∷ 0 ∷ 0 ∷ 0 ∷ 0 ∷ 0 ∷ 0 ∷ 0 ∷ 0 ∷ 0 ∷ 0 ∷ [])
     ∷ [])
     ≡ outcome (notDone (IllFormedImage 0)) []
     ∷ []
 unfolding replaying
-calls-6410 = refl
+calls-6416 = refl
 
--- call 6421
-calls-6421 :
+-- call 6427
+calls-6427 :
     outcomes none
-    (read-line 1000000 (1 ∷ 0 ∷ 0 ∷ 0 ∷ 0 ∷ 0 ∷ 0 ∷ 191 ∷ 156 ∷ 0 ∷ 0 ∷ 64 ∷ 0 ∷ 0 ∷ 2 ∷ 0 ∷ 0 ∷ 0 ∷ 1 ∷ 0 ∷ 0 ∷ 0 ∷ 3 ∷ 0 ∷ 2 ∷ 3 ∷ 231 ∷ 4 ∷ 4 ∷ 0 ∷ 0 ∷ 0 ∷ 0 ∷ 0 ∷ [])
+    (read-line plenty (1 ∷ 0 ∷ 0 ∷ 0 ∷ 0 ∷ 0 ∷ 0 ∷ 191 ∷ 156 ∷ 0 ∷ 0 ∷ 64 ∷ 0 ∷ 0 ∷ 2 ∷ 0 ∷ 0 ∷ 0 ∷ 1 ∷ 0 ∷ 0 ∷ 0 ∷ 3 ∷ 0 ∷ 2 ∷ 3 ∷ 231 ∷ 4 ∷ 4 ∷ 0 ∷ 0 ∷ 0 ∷ 0 ∷ 0 ∷ [])
     ∷ [])
     ≡ outcome (notDone (IllFormedImage 24)) []
     ∷ []
 unfolding replaying
-calls-6421 = refl
+calls-6427 = refl
 
--- call 6429
-calls-6429 :
+-- call 6435
+calls-6435 :
     outcomes none
-    (read-line 1000000 (1 ∷ 0 ∷ 0 ∷ 0 ∷ 0 ∷ 0 ∷ 0 ∷ 191 ∷ 156 ∷ 0 ∷ 0 ∷ 64 ∷ 0 ∷ 0 ∷ 2 ∷ 0 ∷ 0 ∷ 0 ∷ 1 ∷ 0 ∷ 0 ∷ 0 ∷ 3 ∷ 0 ∷ 2 ∷ 0 ∷ 1 ∷ 4 ∷ 4 ∷ 0 ∷ 0 ∷ 0 ∷ 0 ∷ 0 ∷ 2 ∷ 0 ∷ 0 ∷ 0 ∷ 4 ∷ 0 ∷ 0 ∷ 0 ∷ 0 ∷ 0 ∷ 2 ∷ 0 ∷ 5 ∷ 4 ∷ 4 ∷ 1 ∷ 0 ∷ 0 ∷ 0 ∷ 0 ∷ 5 ∷ 0 ∷ 0 ∷ 0 ∷ 0 ∷ [])
+    (read-line plenty (1 ∷ 0 ∷ 0 ∷ 0 ∷ 0 ∷ 0 ∷ 0 ∷ 191 ∷ 156 ∷ 0 ∷ 0 ∷ 64 ∷ 0 ∷ 0 ∷ 2 ∷ 0 ∷ 0 ∷ 0 ∷ 1 ∷ 0 ∷ 0 ∷ 0 ∷ 3 ∷ 0 ∷ 2 ∷ 0 ∷ 1 ∷ 4 ∷ 4 ∷ 0 ∷ 0 ∷ 0 ∷ 0 ∷ 0 ∷ 2 ∷ 0 ∷ 0 ∷ 0 ∷ 4 ∷ 0 ∷ 0 ∷ 0 ∷ 0 ∷ 0 ∷ 2 ∷ 0 ∷ 5 ∷ 4 ∷ 4 ∷ 1 ∷ 0 ∷ 0 ∷ 0 ∷ 0 ∷ 5 ∷ 0 ∷ 0 ∷ 0 ∷ 0 ∷ [])
     ∷ [])
     ≡ outcome (notDone (IllFormedImage 54)) []
     ∷ []
 unfolding replaying
-calls-6429 = refl
+calls-6435 = refl
 
--- call 6431
-calls-6431 :
+-- call 6437
+calls-6437 :
     outcomes none
-    (read-line 1000000 (1 ∷ 0 ∷ 0 ∷ 0 ∷ 0 ∷ 0 ∷ 0 ∷ 191 ∷ 156 ∷ 0 ∷ 0 ∷ 64 ∷ 0 ∷ 0 ∷ 2 ∷ 0 ∷ 0 ∷ 0 ∷ 1 ∷ 0 ∷ 0 ∷ 0 ∷ 3 ∷ 0 ∷ 2 ∷ 0 ∷ 1 ∷ 4 ∷ 4 ∷ 0 ∷ 0 ∷ 0 ∷ 0 ∷ 0 ∷ 2 ∷ 0 ∷ 0 ∷ 0 ∷ 4 ∷ 0 ∷ 0 ∷ 0 ∷ 0 ∷ 0 ∷ 2 ∷ 0 ∷ 5 ∷ 4 ∷ 4 ∷ 1 ∷ 0 ∷ 0 ∷ 0 ∷ 0 ∷ 3 ∷ 0 ∷ 0 ∷ 0 ∷ 1 ∷ 8 ∷ [])
+    (read-line plenty (1 ∷ 0 ∷ 0 ∷ 0 ∷ 0 ∷ 0 ∷ 0 ∷ 191 ∷ 156 ∷ 0 ∷ 0 ∷ 64 ∷ 0 ∷ 0 ∷ 2 ∷ 0 ∷ 0 ∷ 0 ∷ 1 ∷ 0 ∷ 0 ∷ 0 ∷ 3 ∷ 0 ∷ 2 ∷ 0 ∷ 1 ∷ 4 ∷ 4 ∷ 0 ∷ 0 ∷ 0 ∷ 0 ∷ 0 ∷ 2 ∷ 0 ∷ 0 ∷ 0 ∷ 4 ∷ 0 ∷ 0 ∷ 0 ∷ 0 ∷ 0 ∷ 2 ∷ 0 ∷ 5 ∷ 4 ∷ 4 ∷ 1 ∷ 0 ∷ 0 ∷ 0 ∷ 0 ∷ 3 ∷ 0 ∷ 0 ∷ 0 ∷ 1 ∷ 8 ∷ [])
     ∷ [])
     ≡ outcome (notDone (IllFormedImage 54)) []
     ∷ []
 unfolding replaying
-calls-6431 = refl
+calls-6437 = refl
 
--- call 6441
-calls-6441 :
+-- call 6447
+calls-6447 :
     outcomes none
-    (read-line 1000000 (1 ∷ 0 ∷ 0 ∷ 0 ∷ 0 ∷ 0 ∷ 0 ∷ 191 ∷ 156 ∷ 0 ∷ 0 ∷ 64 ∷ 0 ∷ 0 ∷ 2 ∷ 0 ∷ 0 ∷ 0 ∷ 1 ∷ 0 ∷ 0 ∷ 0 ∷ 3 ∷ 0 ∷ 2 ∷ 0 ∷ 1 ∷ 4 ∷ 4 ∷ 0 ∷ 0 ∷ 0 ∷ 0 ∷ 0 ∷ 2 ∷ 0 ∷ 0 ∷ 0 ∷ 4 ∷ 0 ∷ 0 ∷ 0 ∷ 0 ∷ 0 ∷ 2 ∷ 0 ∷ 5 ∷ 4 ∷ 4 ∷ 1 ∷ 0 ∷ 0 ∷ 0 ∷ 0 ∷ 3 ∷ 0 ∷ 0 ∷ 0 ∷ 1 ∷ 5 ∷ 4 ∷ 0 ∷ 0 ∷ 0 ∷ 0 ∷ 0 ∷ 0 ∷ 0 ∷ 0 ∷ 0 ∷ 0 ∷ 0 ∷ 0 ∷ 6 ∷ 0 ∷ 0 ∷ 0 ∷ 3 ∷ [])
+    (read-line plenty (1 ∷ 0 ∷ 0 ∷ 0 ∷ 0 ∷ 0 ∷ 0 ∷ 191 ∷ 156 ∷ 0 ∷ 0 ∷ 64 ∷ 0 ∷ 0 ∷ 2 ∷ 0 ∷ 0 ∷ 0 ∷ 1 ∷ 0 ∷ 0 ∷ 0 ∷ 3 ∷ 0 ∷ 2 ∷ 0 ∷ 1 ∷ 4 ∷ 4 ∷ 0 ∷ 0 ∷ 0 ∷ 0 ∷ 0 ∷ 2 ∷ 0 ∷ 0 ∷ 0 ∷ 4 ∷ 0 ∷ 0 ∷ 0 ∷ 0 ∷ 0 ∷ 2 ∷ 0 ∷ 5 ∷ 4 ∷ 4 ∷ 1 ∷ 0 ∷ 0 ∷ 0 ∷ 0 ∷ 3 ∷ 0 ∷ 0 ∷ 0 ∷ 1 ∷ 5 ∷ 4 ∷ 0 ∷ 0 ∷ 0 ∷ 0 ∷ 0 ∷ 0 ∷ 0 ∷ 0 ∷ 0 ∷ 0 ∷ 0 ∷ 0 ∷ 6 ∷ 0 ∷ 0 ∷ 0 ∷ 3 ∷ [])
     ∷ [])
     ≡ outcome (notDone (IllFormedImage 73)) []
     ∷ []
 unfolding replaying
-calls-6441 = refl
+calls-6447 = refl
 
--- call 6451
-calls-6451 :
+-- call 6457
+calls-6457 :
     outcomes none
-    (read-line 1000000 (1 ∷ 0 ∷ 0 ∷ 0 ∷ 0 ∷ 0 ∷ 0 ∷ 191 ∷ 156 ∷ 0 ∷ 0 ∷ 64 ∷ 0 ∷ 0 ∷ 2 ∷ 0 ∷ 0 ∷ 0 ∷ 1 ∷ 0 ∷ 0 ∷ 0 ∷ 3 ∷ 1 ∷ 2 ∷ 0 ∷ 1 ∷ 4 ∷ 4 ∷ 0 ∷ 0 ∷ 0 ∷ 0 ∷ 0 ∷ 2 ∷ 0 ∷ 0 ∷ 0 ∷ 4 ∷ 0 ∷ 0 ∷ 0 ∷ 0 ∷ 0 ∷ 2 ∷ 0 ∷ 5 ∷ 4 ∷ 4 ∷ 1 ∷ 0 ∷ 0 ∷ 0 ∷ 0 ∷ 3 ∷ 0 ∷ 0 ∷ 0 ∷ 1 ∷ 5 ∷ 4 ∷ 0 ∷ 0 ∷ 0 ∷ 0 ∷ 0 ∷ 0 ∷ 0 ∷ 0 ∷ 0 ∷ 0 ∷ 0 ∷ 0 ∷ 5 ∷ 0 ∷ 0 ∷ 0 ∷ 0 ∷ 255 ∷ [])
+    (read-line plenty (1 ∷ 0 ∷ 0 ∷ 0 ∷ 0 ∷ 0 ∷ 0 ∷ 191 ∷ 156 ∷ 0 ∷ 0 ∷ 64 ∷ 0 ∷ 0 ∷ 2 ∷ 0 ∷ 0 ∷ 0 ∷ 1 ∷ 0 ∷ 0 ∷ 0 ∷ 3 ∷ 1 ∷ 2 ∷ 0 ∷ 1 ∷ 4 ∷ 4 ∷ 0 ∷ 0 ∷ 0 ∷ 0 ∷ 0 ∷ 2 ∷ 0 ∷ 0 ∷ 0 ∷ 4 ∷ 0 ∷ 0 ∷ 0 ∷ 0 ∷ 0 ∷ 2 ∷ 0 ∷ 5 ∷ 4 ∷ 4 ∷ 1 ∷ 0 ∷ 0 ∷ 0 ∷ 0 ∷ 3 ∷ 0 ∷ 0 ∷ 0 ∷ 1 ∷ 5 ∷ 4 ∷ 0 ∷ 0 ∷ 0 ∷ 0 ∷ 0 ∷ 0 ∷ 0 ∷ 0 ∷ 0 ∷ 0 ∷ 0 ∷ 0 ∷ 5 ∷ 0 ∷ 0 ∷ 0 ∷ 0 ∷ 255 ∷ [])
     ∷ [])
     ≡ outcome (notDone (IllFormedImage 78)) []
     ∷ []
 unfolding replaying
-calls-6451 = refl
+calls-6457 = refl
 
--- call 6456
-calls-6456 :
+-- call 6462
+calls-6462 :
     outcomes none
-    (read-line 33 (1 ∷ 0 ∷ 0 ∷ 0 ∷ 0 ∷ 0 ∷ 0 ∷ 191 ∷ 156 ∷ 0 ∷ 0 ∷ 64 ∷ 0 ∷ 0 ∷ 2 ∷ 0 ∷ 0 ∷ 0 ∷ 1 ∷ 0 ∷ 0 ∷ 0 ∷ 3 ∷ 0 ∷ 2 ∷ 0 ∷ 1 ∷ 4 ∷ 4 ∷ 0 ∷ 0 ∷ 0 ∷ 0 ∷ 0 ∷ 2 ∷ 0 ∷ 0 ∷ 0 ∷ 4 ∷ 0 ∷ 0 ∷ 0 ∷ 0 ∷ 0 ∷ 2 ∷ 0 ∷ 5 ∷ 4 ∷ 4 ∷ 1 ∷ 0 ∷ 0 ∷ 0 ∷ 0 ∷ 3 ∷ 0 ∷ 0 ∷ 0 ∷ 1 ∷ 5 ∷ 4 ∷ 0 ∷ 0 ∷ 0 ∷ 0 ∷ 0 ∷ 0 ∷ 0 ∷ 0 ∷ 0 ∷ 0 ∷ 0 ∷ 0 ∷ 5 ∷ 0 ∷ 0 ∷ 0 ∷ 0 ∷ 6 ∷ 0 ∷ 0 ∷ 0 ∷ 1 ∷ 6 ∷ 0 ∷ 0 ∷ 0 ∷ 0 ∷ [])
+    (read-line (lending 24 1000000 1000000) (1 ∷ 0 ∷ 0 ∷ 0 ∷ 0 ∷ 0 ∷ 0 ∷ 191 ∷ 156 ∷ 0 ∷ 0 ∷ 64 ∷ 0 ∷ 0 ∷ 2 ∷ 0 ∷ 0 ∷ 0 ∷ 1 ∷ 0 ∷ 0 ∷ 0 ∷ 3 ∷ 0 ∷ 2 ∷ 0 ∷ 1 ∷ 4 ∷ 4 ∷ 0 ∷ 0 ∷ 0 ∷ 0 ∷ 0 ∷ 2 ∷ 0 ∷ 0 ∷ 0 ∷ 4 ∷ 0 ∷ 0 ∷ 0 ∷ 0 ∷ 0 ∷ 2 ∷ 0 ∷ 5 ∷ 4 ∷ 4 ∷ 1 ∷ 0 ∷ 0 ∷ 0 ∷ 0 ∷ 3 ∷ 0 ∷ 0 ∷ 0 ∷ 1 ∷ 5 ∷ 4 ∷ 0 ∷ 0 ∷ 0 ∷ 0 ∷ 0 ∷ 0 ∷ 0 ∷ 0 ∷ 0 ∷ 0 ∷ 0 ∷ 0 ∷ 5 ∷ 0 ∷ 0 ∷ 0 ∷ 0 ∷ 6 ∷ 0 ∷ 0 ∷ 0 ∷ 1 ∷ 6 ∷ 0 ∷ 0 ∷ 0 ∷ 0 ∷ [])
     ∷ [])
     ≡ outcome (notDone ShortMemory) []
     ∷ []
 unfolding replaying
-calls-6456 = refl
+calls-6462 = refl
 
-abbrev image-6458 : List ℕ
-image-6458 =
-    1 ∷ 0 ∷ 0 ∷ 0 ∷ 0 ∷ 0 ∷ 0 ∷ 191 ∷ 156 ∷ 0 ∷ 0 ∷ 64 ∷ 0 ∷ 0 ∷ 2 ∷ 0 ∷ 0 ∷ 0 ∷ 1 ∷ 0 ∷ 0 ∷ 0 ∷ 3 ∷ 0 ∷
-    2 ∷ 0 ∷ 1 ∷ 4 ∷ 4 ∷ 0 ∷ 0 ∷ 0 ∷ 0 ∷ 0 ∷
-    2 ∷ 0 ∷ 0 ∷ 0 ∷ 4 ∷ 0 ∷ 0 ∷ 0 ∷ 0 ∷ 0 ∷
-    2 ∷ 0 ∷ 5 ∷ 4 ∷ 4 ∷ 1 ∷ 0 ∷ 0 ∷ 0 ∷ 0 ∷
-    3 ∷ 0 ∷ 0 ∷ 0 ∷ 1 ∷ 5 ∷
-    4 ∷ 0 ∷ 0 ∷ 0 ∷ 0 ∷ 0 ∷ 0 ∷ 0 ∷ 0 ∷ 0 ∷ 0 ∷ 0 ∷ 0 ∷
-    5 ∷ 0 ∷ 0 ∷ 0 ∷ 0 ∷
-    6 ∷ 0 ∷ 0 ∷ 0 ∷ 1 ∷
-    6 ∷ 0 ∷ 0 ∷ 0 ∷ 0 ∷ []
-
--- calls 6458 to 6465
-calls-6458 :
+-- call 6513
+calls-6513 :
     outcomes none
-    (read-line 55 image-6458
-    ∷ image-line 1000000 1000000
-    ∷ call-line 1000000 (question (list-place 0))
-    ∷ call-line 1000000 (question (list-place 1))
-    ∷ call-line 1000000 (question (list-place 2))
-    ∷ call-line 1000000 (question (recent-extent 0))
-    ∷ call-line 1000000 (question (recent-extent 1))
-    ∷ call-line 1000000 (question (partial-at 0))
-    ∷ [])
-    ≡ outcome stands image-6458
-    ∷ outcome (bytesTaken (1 ∷ 0 ∷ 0 ∷ 0 ∷ 0 ∷ 0 ∷ 0 ∷ 191 ∷ 156 ∷ 0 ∷ 0 ∷ 64 ∷ 0 ∷ 0 ∷ 2 ∷ 0 ∷ 0 ∷ 0 ∷ 1 ∷ 0 ∷ 0 ∷ 0 ∷ 3 ∷ 0 ∷ 2 ∷ 0 ∷ 1 ∷ 4 ∷ 4 ∷ 0 ∷ 0 ∷ 0 ∷ 0 ∷ 0 ∷ 2 ∷ 0 ∷ 0 ∷ 0 ∷ 4 ∷ 0 ∷ 0 ∷ 0 ∷ 0 ∷ 0 ∷ 2 ∷ 0 ∷ 5 ∷ 4 ∷ 4 ∷ 1 ∷ 0 ∷ 0 ∷ 0 ∷ 0 ∷ 3 ∷ 0 ∷ 0 ∷ 0 ∷ 1 ∷ 5 ∷ 4 ∷ 0 ∷ 0 ∷ 0 ∷ 0 ∷ 0 ∷ 0 ∷ 0 ∷ 0 ∷ 0 ∷ 0 ∷ 0 ∷ 0 ∷ 5 ∷ 0 ∷ 0 ∷ 0 ∷ 0 ∷ 6 ∷ 0 ∷ 0 ∷ 0 ∷ 1 ∷ 6 ∷ 0 ∷ 0 ∷ 0 ∷ 0 ∷ [])) image-6458
-    ∷ outcome (answered (replied (numbers ((some 1) ∷ [])))) image-6458
-    ∷ outcome (answered (replied (numbers ((some 0) ∷ [])))) image-6458
-    ∷ outcome (answered (refused OutOfRange)) image-6458
-    ∷ outcome (answered (replied (numbers ((some 0) ∷ [])))) image-6458
-    ∷ outcome (answered (replied nothing)) image-6458
-    ∷ outcome (answered (replied (numbers ((some 1) ∷ [])))) image-6458
-    ∷ []
-unfolding replaying
-calls-6458 = refl
-
--- call 6505
-calls-6505 :
-    outcomes none
-    (new-line 7199 600 1
+    (new-line (lending 1727 1000000 1000000) 600 1
     ∷ [])
     ≡ outcome (notDone ShortMemory) []
     ∷ []
 unfolding replaying
-calls-6505 = refl
+calls-6513 = refl
 
-abbrev image-6530 : List ℕ
-image-6530 =
+abbrev image-6548 : List ℕ
+image-6548 =
     1 ∷ 0 ∷ 0 ∷ 0 ∷ 0 ∷ 0 ∷ 1 ∷ 127 ∷ 251 ∷ 0 ∷ 0 ∷ 128 ∷ 0 ∷ 0 ∷ 1 ∷ 0 ∷ 0 ∷ 0 ∷ 0 ∷ 0 ∷ 0 ∷ 0 ∷ 3 ∷ 1 ∷
     2 ∷ 0 ∷ 2 ∷ 1 ∷ 7 ∷ 0 ∷ 0 ∷ 0 ∷ 64 ∷ 0 ∷
     2 ∷ 0 ∷ 0 ∷ 4 ∷ 0 ∷ 0 ∷ 0 ∷ 0 ∷ 0 ∷ 0 ∷
@@ -797,437 +497,389 @@ image-6530 =
     4 ∷ 3 ∷ 0 ∷ 0 ∷ 0 ∷ 0 ∷ 0 ∷ 0 ∷ 0 ∷ 0 ∷ 0 ∷ 0 ∷ 0 ∷
     5 ∷ 0 ∷ 0 ∷ 0 ∷ 0 ∷ []
 
--- calls 6530 to 6611
-calls-6530 :
+-- calls 6548 to 6627
+calls-6548 :
     outcomes none
-    (read-line 1000000 image-6530
-    ∷ call-line 1000000 (question (ofPicker num-pieces))
-    ∷ call-line 1000000 (question (ofPicker block-size))
-    ∷ call-line 1000000 (question (ofPicker blocks-per-piece))
-    ∷ call-line 1000000 (question (ofPicker num-pad-bytes))
-    ∷ call-line 1000000 (question (ofPicker cursor?))
-    ∷ call-line 1000000 (question (ofPicker reverse-cursor?))
-    ∷ call-line 1000000 (question (ofPicker num-have))
-    ∷ call-line 1000000 (question (ofPicker num-filtered))
-    ∷ call-line 1000000 (question (ofPicker num-have-filtered))
-    ∷ call-line 1000000 (question (ofPicker num-seeds))
-    ∷ call-line 1000000 (question (ofPicker is-finished))
-    ∷ call-line 1000000 (question (ofPicker is-seeding))
-    ∷ call-line 1000000 (question (ofPicker num-want-left))
-    ∷ call-line 1000000 (question (ofPicker get-download-queue-size))
-    ∷ call-line 1000000 (question (ofPicker distributed-copies))
-    ∷ call-line 1000000 (question (ofPicker want))
-    ∷ call-line 1000000 (question (ofPicker have-want))
-    ∷ call-line 1000000 (question (ofPicker have))
-    ∷ call-line 1000000 (question (ofPicker all-pieces))
-    ∷ call-line 1000000 (question (ofPicker get-download-queue-sizes))
-    ∷ call-line 1000000 (question (listOfPicker get-availability-vec 1000000))
-    ∷ call-line 1000000 (question (listOfPicker piece-priorities 1000000))
-    ∷ call-line 1000000 (question (listOfPicker get-download-queue 1000000))
-    ∷ call-line 1000000 (question (ofPicker total-size))
-    ∷ call-line 1000000 (question (ofPicker full-piece-size))
-    ∷ call-line 1000000 (question (ofPicker dirty?))
-    ∷ call-line 1000000 (question (ofPiece blocks-in-piece 0))
-    ∷ call-line 1000000 (question (ofPiece blocks-in-piece 1))
-    ∷ call-line 1000000 (question (ofPiece blocks-in-piece 2))
-    ∷ call-line 1000000 (question (ofPiece payload-blocks-in-piece 0))
-    ∷ call-line 1000000 (question (ofPiece payload-blocks-in-piece 1))
-    ∷ call-line 1000000 (question (ofPiece payload-blocks-in-piece 2))
-    ∷ call-line 1000000 (question (ofPiece piece-size 0))
-    ∷ call-line 1000000 (question (ofPiece piece-size 1))
-    ∷ call-line 1000000 (question (ofPiece piece-size 2))
-    ∷ call-line 1000000 (question (ofPiece pad-bytes-in-piece 0))
-    ∷ call-line 1000000 (question (ofPiece pad-bytes-in-piece 1))
-    ∷ call-line 1000000 (question (ofPiece pad-bytes-in-piece 2))
-    ∷ call-line 1000000 (question (ofPiece get-availability 0))
-    ∷ call-line 1000000 (question (ofPiece get-availability 1))
-    ∷ call-line 1000000 (question (ofPiece get-availability 2))
-    ∷ call-line 1000000 (question (ofPiece have-piece 0))
-    ∷ call-line 1000000 (question (ofPiece have-piece 1))
-    ∷ call-line 1000000 (question (ofPiece have-piece 2))
-    ∷ call-line 1000000 (question (ofPiece is-piece-finished 0))
-    ∷ call-line 1000000 (question (ofPiece is-piece-finished 1))
-    ∷ call-line 1000000 (question (ofPiece is-piece-finished 2))
-    ∷ call-line 1000000 (question (ofPiece is-downloading 0))
-    ∷ call-line 1000000 (question (ofPiece is-downloading 1))
-    ∷ call-line 1000000 (question (ofPiece is-downloading 2))
-    ∷ call-line 1000000 (question (ofPiece is-hashing 0))
-    ∷ call-line 1000000 (question (ofPiece is-hashing 1))
-    ∷ call-line 1000000 (question (ofPiece is-hashing 2))
-    ∷ call-line 1000000 (question (ofPiece is-piece-flushed 0))
-    ∷ call-line 1000000 (question (ofPiece is-piece-flushed 1))
-    ∷ call-line 1000000 (question (ofPiece is-piece-flushed 2))
-    ∷ call-line 1000000 (question (ofPiece piece-priority 0))
-    ∷ call-line 1000000 (question (ofPiece piece-priority 1))
-    ∷ call-line 1000000 (question (ofPiece piece-priority 2))
-    ∷ call-line 1000000 (question (ofPiece piece-stats 0))
-    ∷ call-line 1000000 (question (ofPiece piece-stats 1))
-    ∷ call-line 1000000 (question (ofPiece piece-stats 2))
-    ∷ call-line 1000000 (question (ofPiece piece-info 0))
-    ∷ call-line 1000000 (question (ofPiece piece-info 1))
-    ∷ call-line 1000000 (question (ofPiece piece-info 2))
-    ∷ call-line 1000000 (question (listOfPiece get-downloaders 0 1000000))
-    ∷ call-line 1000000 (question (listOfPiece get-downloaders 1 1000000))
-    ∷ call-line 1000000 (question (listOfPiece get-downloaders 2 1000000))
-    ∷ call-line 1000000 (question (listOfPiece blocks-for-piece 0 1000000))
-    ∷ call-line 1000000 (question (listOfPiece blocks-for-piece 1 1000000))
-    ∷ call-line 1000000 (question (listOfPiece blocks-for-piece 2 1000000))
-    ∷ call-line 1000000 (question (ofPiece peer-count 0))
-    ∷ call-line 1000000 (question (ofPiece peer-count 1))
-    ∷ call-line 1000000 (question (ofPiece peer-count 2))
-    ∷ call-line 1000000 (question (ofPiece download-state 0))
-    ∷ call-line 1000000 (question (ofPiece download-state 1))
-    ∷ call-line 1000000 (question (ofPiece download-state 2))
-    ∷ call-line 1000000 (question (ofPiece passed-hash-check 0))
-    ∷ call-line 1000000 (question (ofPiece passed-hash-check 1))
-    ∷ call-line 1000000 (question (ofPiece passed-hash-check 2))
-    ∷ call-line 1000000 (question (ofPiece locked? 0))
+    (read-line plenty image-6548
+    ∷ call-line plenty (question (ofPicker num-pieces))
+    ∷ call-line plenty (question (ofPicker block-size))
+    ∷ call-line plenty (question (ofPicker blocks-per-piece))
+    ∷ call-line plenty (question (ofPicker num-pad-bytes))
+    ∷ call-line plenty (question (ofPicker cursor?))
+    ∷ call-line plenty (question (ofPicker reverse-cursor?))
+    ∷ call-line plenty (question (ofPicker num-have))
+    ∷ call-line plenty (question (ofPicker num-filtered))
+    ∷ call-line plenty (question (ofPicker num-have-filtered))
+    ∷ call-line plenty (question (ofPicker num-seeds))
+    ∷ call-line plenty (question (ofPicker is-finished))
+    ∷ call-line plenty (question (ofPicker is-seeding))
+    ∷ call-line plenty (question (ofPicker num-want-left))
+    ∷ call-line plenty (question (ofPicker get-download-queue-size))
+    ∷ call-line plenty (question (ofPicker distributed-copies))
+    ∷ call-line plenty (question (ofPicker want))
+    ∷ call-line plenty (question (ofPicker have-want))
+    ∷ call-line plenty (question (ofPicker have))
+    ∷ call-line plenty (question (ofPicker all-pieces))
+    ∷ call-line plenty (question (ofPicker get-download-queue-sizes))
+    ∷ call-line plenty (question (listOfPicker get-availability-vec 1000000))
+    ∷ call-line plenty (question (listOfPicker piece-priorities 1000000))
+    ∷ call-line plenty (question (listOfPicker get-download-queue 1000000))
+    ∷ call-line plenty (question (ofPicker total-size))
+    ∷ call-line plenty (question (ofPicker full-piece-size))
+    ∷ call-line plenty (question (ofPicker dirty?))
+    ∷ call-line plenty (question (ofPiece blocks-in-piece 0))
+    ∷ call-line plenty (question (ofPiece blocks-in-piece 1))
+    ∷ call-line plenty (question (ofPiece blocks-in-piece 2))
+    ∷ call-line plenty (question (ofPiece payload-blocks-in-piece 0))
+    ∷ call-line plenty (question (ofPiece payload-blocks-in-piece 1))
+    ∷ call-line plenty (question (ofPiece payload-blocks-in-piece 2))
+    ∷ call-line plenty (question (ofPiece piece-size 0))
+    ∷ call-line plenty (question (ofPiece piece-size 1))
+    ∷ call-line plenty (question (ofPiece piece-size 2))
+    ∷ call-line plenty (question (ofPiece pad-bytes-in-piece 0))
+    ∷ call-line plenty (question (ofPiece pad-bytes-in-piece 1))
+    ∷ call-line plenty (question (ofPiece pad-bytes-in-piece 2))
+    ∷ call-line plenty (question (ofPiece get-availability 0))
+    ∷ call-line plenty (question (ofPiece get-availability 1))
+    ∷ call-line plenty (question (ofPiece get-availability 2))
+    ∷ call-line plenty (question (ofPiece have-piece 0))
+    ∷ call-line plenty (question (ofPiece have-piece 1))
+    ∷ call-line plenty (question (ofPiece have-piece 2))
+    ∷ call-line plenty (question (ofPiece is-piece-finished 0))
+    ∷ call-line plenty (question (ofPiece is-piece-finished 1))
+    ∷ call-line plenty (question (ofPiece is-piece-finished 2))
+    ∷ call-line plenty (question (ofPiece is-downloading 0))
+    ∷ call-line plenty (question (ofPiece is-downloading 1))
+    ∷ call-line plenty (question (ofPiece is-downloading 2))
+    ∷ call-line plenty (question (ofPiece is-hashing 0))
+    ∷ call-line plenty (question (ofPiece is-hashing 1))
+    ∷ call-line plenty (question (ofPiece is-hashing 2))
+    ∷ call-line plenty (question (ofPiece is-piece-flushed 0))
+    ∷ call-line plenty (question (ofPiece is-piece-flushed 1))
+    ∷ call-line plenty (question (ofPiece is-piece-flushed 2))
+    ∷ call-line plenty (question (ofPiece piece-priority 0))
+    ∷ call-line plenty (question (ofPiece piece-priority 1))
+    ∷ call-line plenty (question (ofPiece piece-priority 2))
+    ∷ call-line plenty (question (ofPiece piece-stats 0))
+    ∷ call-line plenty (question (ofPiece piece-stats 1))
+    ∷ call-line plenty (question (ofPiece piece-stats 2))
+    ∷ call-line plenty (question (ofPiece piece-info 0))
+    ∷ call-line plenty (question (ofPiece piece-info 1))
+    ∷ call-line plenty (question (ofPiece piece-info 2))
+    ∷ call-line plenty (question (listOfPiece get-downloaders 0 1000000))
+    ∷ call-line plenty (question (listOfPiece get-downloaders 1 1000000))
+    ∷ call-line plenty (question (listOfPiece get-downloaders 2 1000000))
+    ∷ call-line plenty (question (listOfPiece blocks-for-piece 0 1000000))
+    ∷ call-line plenty (question (listOfPiece blocks-for-piece 1 1000000))
+    ∷ call-line plenty (question (listOfPiece blocks-for-piece 2 1000000))
+    ∷ call-line plenty (question (ofPiece peer-count 0))
+    ∷ call-line plenty (question (ofPiece peer-count 1))
+    ∷ call-line plenty (question (ofPiece peer-count 2))
+    ∷ call-line plenty (question (ofPiece download-state 0))
+    ∷ call-line plenty (question (ofPiece download-state 1))
+    ∷ call-line plenty (question (ofPiece download-state 2))
+    ∷ call-line plenty (question (ofPiece passed-hash-check 0))
+    ∷ call-line plenty (question (ofPiece passed-hash-check 1))
     ∷ [])
-    ≡ outcome stands image-6530
-    ∷ outcome (answered (replied (numbers ((some 3) ∷ [])))) image-6530
-    ∷ outcome (answered (replied (numbers ((some 16384) ∷ [])))) image-6530
-    ∷ outcome (answered (replied (numbers ((some 2) ∷ [])))) image-6530
-    ∷ outcome (answered (replied (numbers ((some 16391) ∷ [])))) image-6530
-    ∷ outcome (answered (replied (numbers ((some 0) ∷ [])))) image-6530
-    ∷ outcome (answered (replied (numbers ((some 3) ∷ [])))) image-6530
-    ∷ outcome (answered (replied (numbers ((some 1) ∷ [])))) image-6530
-    ∷ outcome (answered (replied (numbers ((some 1) ∷ [])))) image-6530
-    ∷ outcome (answered (replied (numbers ((some 0) ∷ [])))) image-6530
-    ∷ outcome (answered (replied (numbers ((some 1) ∷ [])))) image-6530
-    ∷ outcome (answered (replied (numbers ((some 0) ∷ [])))) image-6530
-    ∷ outcome (answered (replied (numbers ((some 0) ∷ [])))) image-6530
-    ∷ outcome (answered (replied (numbers ((some 1) ∷ [])))) image-6530
-    ∷ outcome (answered (replied (numbers ((some 1) ∷ [])))) image-6530
-    ∷ outcome (answered (replied (numbers ((some 1) ∷ (some 666) ∷ [])))) image-6530
-    ∷ outcome (answered (replied (numbers ((some 2) ∷ (some 16391) ∷ (some 1) ∷ [])))) image-6530
-    ∷ outcome (answered (replied (numbers ((some 1) ∷ (some 7) ∷ (some 1) ∷ [])))) image-6530
-    ∷ outcome (answered (replied (numbers ((some 1) ∷ (some 7) ∷ (some 1) ∷ [])))) image-6530
-    ∷ outcome (answered (replied (numbers ((some 3) ∷ (some 16391) ∷ (some 1) ∷ [])))) image-6530
-    ∷ outcome (answered (replied (numbers ((some 0) ∷ (some 1) ∷ (some 0) ∷ (some 0) ∷ [])))) image-6530
-    ∷ outcome (answered (replied (numbers ((some 3) ∷ (some 1) ∷ (some 2) ∷ [])))) image-6530
-    ∷ outcome (answered (replied (numbers ((some 7) ∷ (some 0) ∷ (some 4) ∷ [])))) image-6530
-    ∷ outcome (answered (replied (numbers ((some 0) ∷ (some 1) ∷ (some 0) ∷ (some 0) ∷ (some 1) ∷ (some 1) ∷ (some 1) ∷ [])))) image-6530
-    ∷ outcome (answered (replied (numbers ((some 98299) ∷ [])))) image-6530
-    ∷ outcome (answered (replied (numbers ((some 32768) ∷ [])))) image-6530
-    ∷ outcome (answered (replied (numbers ((some 1) ∷ [])))) image-6530
-    ∷ outcome (answered (replied (numbers ((some 2) ∷ [])))) image-6530
-    ∷ outcome (answered (replied (numbers ((some 2) ∷ [])))) image-6530
-    ∷ outcome (answered (replied (numbers ((some 2) ∷ [])))) image-6530
-    ∷ outcome (answered (replied (numbers ((some 1) ∷ [])))) image-6530
-    ∷ outcome (answered (replied (numbers ((some 2) ∷ [])))) image-6530
-    ∷ outcome (answered (replied (numbers ((some 2) ∷ [])))) image-6530
-    ∷ outcome (answered (replied (numbers ((some 32768) ∷ [])))) image-6530
-    ∷ outcome (answered (replied (numbers ((some 32768) ∷ [])))) image-6530
-    ∷ outcome (answered (replied (numbers ((some 32763) ∷ [])))) image-6530
-    ∷ outcome (answered (replied (numbers ((some 16384) ∷ [])))) image-6530
-    ∷ outcome (answered (replied (numbers ((some 0) ∷ [])))) image-6530
-    ∷ outcome (answered (replied (numbers ((some 7) ∷ [])))) image-6530
-    ∷ outcome (answered (replied (numbers ((some 3) ∷ [])))) image-6530
-    ∷ outcome (answered (replied (numbers ((some 1) ∷ [])))) image-6530
-    ∷ outcome (answered (replied (numbers ((some 2) ∷ [])))) image-6530
-    ∷ outcome (answered (replied (numbers ((some 0) ∷ [])))) image-6530
-    ∷ outcome (answered (replied (numbers ((some 0) ∷ [])))) image-6530
-    ∷ outcome (answered (replied (numbers ((some 1) ∷ [])))) image-6530
-    ∷ outcome (answered (replied (numbers ((some 0) ∷ [])))) image-6530
-    ∷ outcome (answered (replied (numbers ((some 0) ∷ [])))) image-6530
-    ∷ outcome (answered (replied (numbers ((some 1) ∷ [])))) image-6530
-    ∷ outcome (answered (replied (numbers ((some 1) ∷ [])))) image-6530
-    ∷ outcome (answered (replied (numbers ((some 0) ∷ [])))) image-6530
-    ∷ outcome (answered (replied (numbers ((some 0) ∷ [])))) image-6530
-    ∷ outcome (answered (replied (numbers ((some 1) ∷ [])))) image-6530
-    ∷ outcome (answered (replied (numbers ((some 0) ∷ [])))) image-6530
-    ∷ outcome (answered (replied (numbers ((some 0) ∷ [])))) image-6530
-    ∷ outcome (answered (replied (numbers ((some 0) ∷ [])))) image-6530
-    ∷ outcome (answered (replied (numbers ((some 0) ∷ [])))) image-6530
-    ∷ outcome (answered (replied (numbers ((some 1) ∷ [])))) image-6530
-    ∷ outcome (answered (replied (numbers ((some 7) ∷ [])))) image-6530
-    ∷ outcome (answered (replied (numbers ((some 0) ∷ [])))) image-6530
-    ∷ outcome (answered (replied (numbers ((some 4) ∷ [])))) image-6530
-    ∷ outcome (answered (replied (numbers ((some 3) ∷ none ∷ (some 0) ∷ (some 1) ∷ [])))) image-6530
-    ∷ outcome (answered (replied (numbers ((some 1) ∷ none ∷ (some 0) ∷ (some 0) ∷ [])))) image-6530
-    ∷ outcome (answered (replied (numbers ((some 2) ∷ none ∷ (some 1) ∷ (some 0) ∷ [])))) image-6530
-    ∷ outcome (answered (replied (numbers ((some 0) ∷ (some 1) ∷ (some 0) ∷ (some 0) ∷ (some 1) ∷ (some 1) ∷ (some 1) ∷ [])))) image-6530
-    ∷ outcome (answered (replied (numbers ((some 1) ∷ (some 0) ∷ (some 0) ∷ (some 0) ∷ (some 0) ∷ (some 0) ∷ (some 0) ∷ [])))) image-6530
-    ∷ outcome (answered (replied (numbers ((some 2) ∷ (some 2) ∷ (some 0) ∷ (some 0) ∷ (some 0) ∷ (some 0) ∷ (some 0) ∷ [])))) image-6530
-    ∷ outcome (answered (replied (numbers ((some 18446744073709551615) ∷ none ∷ [])))) image-6530
-    ∷ outcome (answered (replied (numbers (none ∷ none ∷ [])))) image-6530
-    ∷ outcome (answered (replied (numbers (none ∷ none ∷ [])))) image-6530
-    ∷ outcome (answered (replied (numbers ((some 1) ∷ (some 2) ∷ (some 18446744073709551615) ∷ (some 3) ∷ (some 0) ∷ none ∷ [])))) image-6530
-    ∷ outcome (answered (replied nothing)) image-6530
-    ∷ outcome (answered (replied nothing)) image-6530
-    ∷ outcome (answered (replied (numbers ((some 2) ∷ [])))) image-6530
-    ∷ outcome (answered (replied (numbers ((some 0) ∷ [])))) image-6530
-    ∷ outcome (answered (replied (numbers ((some 1) ∷ [])))) image-6530
-    ∷ outcome (answered (replied (numbers ((some 1) ∷ [])))) image-6530
-    ∷ outcome (answered (replied (numbers ((some 4) ∷ [])))) image-6530
-    ∷ outcome (answered (replied (numbers ((some 4) ∷ [])))) image-6530
-    ∷ outcome (answered (replied (numbers ((some 0) ∷ [])))) image-6530
-    ∷ outcome (answered (replied nothing)) image-6530
-    ∷ outcome (answered (replied nothing)) image-6530
-    ∷ outcome (answered (replied (numbers ((some 1) ∷ [])))) image-6530
+    ≡ outcome stands image-6548
+    ∷ outcome (answered (replied (numbers ((some 3) ∷ [])))) image-6548
+    ∷ outcome (answered (replied (numbers ((some 16384) ∷ [])))) image-6548
+    ∷ outcome (answered (replied (numbers ((some 2) ∷ [])))) image-6548
+    ∷ outcome (answered (replied (numbers ((some 16391) ∷ [])))) image-6548
+    ∷ outcome (answered (replied (numbers ((some 0) ∷ [])))) image-6548
+    ∷ outcome (answered (replied (numbers ((some 3) ∷ [])))) image-6548
+    ∷ outcome (answered (replied (numbers ((some 1) ∷ [])))) image-6548
+    ∷ outcome (answered (replied (numbers ((some 1) ∷ [])))) image-6548
+    ∷ outcome (answered (replied (numbers ((some 0) ∷ [])))) image-6548
+    ∷ outcome (answered (replied (numbers ((some 1) ∷ [])))) image-6548
+    ∷ outcome (answered (replied (numbers ((some 0) ∷ [])))) image-6548
+    ∷ outcome (answered (replied (numbers ((some 0) ∷ [])))) image-6548
+    ∷ outcome (answered (replied (numbers ((some 1) ∷ [])))) image-6548
+    ∷ outcome (answered (replied (numbers ((some 1) ∷ [])))) image-6548
+    ∷ outcome (answered (replied (numbers ((some 1) ∷ (some 666) ∷ [])))) image-6548
+    ∷ outcome (answered (replied (numbers ((some 2) ∷ (some 16391) ∷ (some 1) ∷ [])))) image-6548
+    ∷ outcome (answered (replied (numbers ((some 1) ∷ (some 7) ∷ (some 1) ∷ [])))) image-6548
+    ∷ outcome (answered (replied (numbers ((some 1) ∷ (some 7) ∷ (some 1) ∷ [])))) image-6548
+    ∷ outcome (answered (replied (numbers ((some 3) ∷ (some 16391) ∷ (some 1) ∷ [])))) image-6548
+    ∷ outcome (answered (replied (numbers ((some 0) ∷ (some 1) ∷ (some 0) ∷ (some 0) ∷ [])))) image-6548
+    ∷ outcome (answered (replied (numbers ((some 3) ∷ (some 1) ∷ (some 2) ∷ [])))) image-6548
+    ∷ outcome (answered (replied (numbers ((some 7) ∷ (some 0) ∷ (some 4) ∷ [])))) image-6548
+    ∷ outcome (answered (replied (numbers ((some 0) ∷ (some 1) ∷ (some 0) ∷ (some 0) ∷ (some 1) ∷ (some 1) ∷ (some 1) ∷ [])))) image-6548
+    ∷ outcome (answered (replied (numbers ((some 98299) ∷ [])))) image-6548
+    ∷ outcome (answered (replied (numbers ((some 32768) ∷ [])))) image-6548
+    ∷ outcome (answered (replied (numbers ((some 1) ∷ [])))) image-6548
+    ∷ outcome (answered (replied (numbers ((some 2) ∷ [])))) image-6548
+    ∷ outcome (answered (replied (numbers ((some 2) ∷ [])))) image-6548
+    ∷ outcome (answered (replied (numbers ((some 2) ∷ [])))) image-6548
+    ∷ outcome (answered (replied (numbers ((some 1) ∷ [])))) image-6548
+    ∷ outcome (answered (replied (numbers ((some 2) ∷ [])))) image-6548
+    ∷ outcome (answered (replied (numbers ((some 2) ∷ [])))) image-6548
+    ∷ outcome (answered (replied (numbers ((some 32768) ∷ [])))) image-6548
+    ∷ outcome (answered (replied (numbers ((some 32768) ∷ [])))) image-6548
+    ∷ outcome (answered (replied (numbers ((some 32763) ∷ [])))) image-6548
+    ∷ outcome (answered (replied (numbers ((some 16384) ∷ [])))) image-6548
+    ∷ outcome (answered (replied (numbers ((some 0) ∷ [])))) image-6548
+    ∷ outcome (answered (replied (numbers ((some 7) ∷ [])))) image-6548
+    ∷ outcome (answered (replied (numbers ((some 3) ∷ [])))) image-6548
+    ∷ outcome (answered (replied (numbers ((some 1) ∷ [])))) image-6548
+    ∷ outcome (answered (replied (numbers ((some 2) ∷ [])))) image-6548
+    ∷ outcome (answered (replied (numbers ((some 0) ∷ [])))) image-6548
+    ∷ outcome (answered (replied (numbers ((some 0) ∷ [])))) image-6548
+    ∷ outcome (answered (replied (numbers ((some 1) ∷ [])))) image-6548
+    ∷ outcome (answered (replied (numbers ((some 0) ∷ [])))) image-6548
+    ∷ outcome (answered (replied (numbers ((some 0) ∷ [])))) image-6548
+    ∷ outcome (answered (replied (numbers ((some 1) ∷ [])))) image-6548
+    ∷ outcome (answered (replied (numbers ((some 1) ∷ [])))) image-6548
+    ∷ outcome (answered (replied (numbers ((some 0) ∷ [])))) image-6548
+    ∷ outcome (answered (replied (numbers ((some 0) ∷ [])))) image-6548
+    ∷ outcome (answered (replied (numbers ((some 1) ∷ [])))) image-6548
+    ∷ outcome (answered (replied (numbers ((some 0) ∷ [])))) image-6548
+    ∷ outcome (answered (replied (numbers ((some 0) ∷ [])))) image-6548
+    ∷ outcome (answered (replied (numbers ((some 0) ∷ [])))) image-6548
+    ∷ outcome (answered (replied (numbers ((some 0) ∷ [])))) image-6548
+    ∷ outcome (answered (replied (numbers ((some 1) ∷ [])))) image-6548
+    ∷ outcome (answered (replied (numbers ((some 7) ∷ [])))) image-6548
+    ∷ outcome (answered (replied (numbers ((some 0) ∷ [])))) image-6548
+    ∷ outcome (answered (replied (numbers ((some 4) ∷ [])))) image-6548
+    ∷ outcome (answered (replied (numbers ((some 3) ∷ none ∷ (some 0) ∷ (some 1) ∷ [])))) image-6548
+    ∷ outcome (answered (replied (numbers ((some 1) ∷ none ∷ (some 0) ∷ (some 0) ∷ [])))) image-6548
+    ∷ outcome (answered (replied (numbers ((some 2) ∷ none ∷ (some 1) ∷ (some 0) ∷ [])))) image-6548
+    ∷ outcome (answered (replied (numbers ((some 0) ∷ (some 1) ∷ (some 0) ∷ (some 0) ∷ (some 1) ∷ (some 1) ∷ (some 1) ∷ [])))) image-6548
+    ∷ outcome (answered (replied (numbers ((some 1) ∷ (some 0) ∷ (some 0) ∷ (some 0) ∷ (some 0) ∷ (some 0) ∷ (some 0) ∷ [])))) image-6548
+    ∷ outcome (answered (replied (numbers ((some 2) ∷ (some 2) ∷ (some 0) ∷ (some 0) ∷ (some 0) ∷ (some 0) ∷ (some 0) ∷ [])))) image-6548
+    ∷ outcome (answered (replied (numbers ((some 18446744073709551615) ∷ none ∷ [])))) image-6548
+    ∷ outcome (answered (replied (numbers (none ∷ none ∷ [])))) image-6548
+    ∷ outcome (answered (replied (numbers (none ∷ none ∷ [])))) image-6548
+    ∷ outcome (answered (replied (numbers ((some 1) ∷ (some 2) ∷ (some 18446744073709551615) ∷ (some 3) ∷ (some 0) ∷ none ∷ [])))) image-6548
+    ∷ outcome (answered (replied nothing)) image-6548
+    ∷ outcome (answered (replied nothing)) image-6548
+    ∷ outcome (answered (replied (numbers ((some 2) ∷ [])))) image-6548
+    ∷ outcome (answered (replied (numbers ((some 0) ∷ [])))) image-6548
+    ∷ outcome (answered (replied (numbers ((some 1) ∷ [])))) image-6548
+    ∷ outcome (answered (replied (numbers ((some 1) ∷ [])))) image-6548
+    ∷ outcome (answered (replied (numbers ((some 4) ∷ [])))) image-6548
+    ∷ outcome (answered (replied (numbers ((some 4) ∷ [])))) image-6548
+    ∷ outcome (answered (replied (numbers ((some 0) ∷ [])))) image-6548
+    ∷ outcome (answered (replied nothing)) image-6548
     ∷ []
 unfolding replaying
-calls-6530 = refl
+calls-6548 = refl
 
-abbrev image-6685 : List ℕ
-image-6685 =
+abbrev image-6709 : List ℕ
+image-6709 =
     1 ∷ 0 ∷ 0 ∷ 0 ∷ 0 ∷ 0 ∷ 1 ∷ 128 ∷ 0 ∷ 0 ∷ 0 ∷ 128 ∷ 0 ∷ 0 ∷ 0 ∷ 0 ∷ 0 ∷ 0 ∷ 0 ∷ 0 ∷ 0 ∷ 0 ∷ 3 ∷ 1 ∷
     2 ∷ 0 ∷ 0 ∷ 4 ∷ 4 ∷ 0 ∷ 0 ∷ 0 ∷ 0 ∷ 0 ∷
     2 ∷ 0 ∷ 0 ∷ 4 ∷ 4 ∷ 0 ∷ 0 ∷ 0 ∷ 0 ∷ 0 ∷
     2 ∷ 0 ∷ 0 ∷ 4 ∷ 4 ∷ 0 ∷ 0 ∷ 0 ∷ 0 ∷ 0 ∷ []
 
-abbrev image-6705 : List ℕ
-image-6705 =
+abbrev image-6739 : List ℕ
+image-6739 =
     1 ∷ 0 ∷ 0 ∷ 0 ∷ 0 ∷ 0 ∷ 1 ∷ 128 ∷ 0 ∷ 0 ∷ 0 ∷ 128 ∷ 0 ∷ 0 ∷ 0 ∷ 0 ∷ 0 ∷ 0 ∷ 0 ∷ 0 ∷ 0 ∷ 0 ∷ 3 ∷ 1 ∷
     2 ∷ 0 ∷ 0 ∷ 4 ∷ 4 ∷ 0 ∷ 0 ∷ 0 ∷ 0 ∷ 0 ∷
     2 ∷ 0 ∷ 0 ∷ 4 ∷ 4 ∷ 0 ∷ 0 ∷ 0 ∷ 0 ∷ 0 ∷
     2 ∷ 0 ∷ 1 ∷ 4 ∷ 4 ∷ 0 ∷ 0 ∷ 0 ∷ 0 ∷ 0 ∷ []
 
--- calls 6685 to 6716
-calls-6685 :
+-- calls 6709 to 6749
+calls-6709 :
     outcomes none
-    (new-line 67 98304 32768
-    ∷ call-line 15 (question (ofPicker num-pieces))
-    ∷ call-line 16 (question (ofPicker num-pieces))
-    ∷ call-line 66 (question (ofPicker num-pieces))
-    ∷ call-line 67 (question (ofPicker num-pieces))
-    ∷ new-line 1 4096 1
-    ∷ call-line 1000000 (question (ofPicker num-pieces))
-    ∷ call-line 1000000 (question (listOfPicker piece-priorities 2))
-    ∷ call-line 1000000 (question (listOfPicker piece-priorities 3))
-    ∷ call-line 1000000 (question (listOfPicker get-download-queue 2))
-    ∷ call-line 1000000 (question (listOfPicker get-download-queue 3))
-    ∷ call-line 1000000 (question (listOfPiece get-downloaders 9 1))
-    ∷ call-line 1000000 (question (listOfPiece get-downloaders 9 2))
-    ∷ call-line 1000000 (question (listOfPiece blocks-for-piece 0 2))
-    ∷ image-line 1000000 53
-    ∷ image-line 1000000 54
-    ∷ call-line 1000000 (inc-refcount 9 (words 4351 []))
-    ∷ call-line 1000000 (inc-refcount 9 (words 4352 []))
-    ∷ call-line 1000000 (inc-refcount 3 (words 4352 []))
-    ∷ call-line 1000000 (inc-refcount 2 (words 4352 []))
-    ∷ call-line 1000000 (set-piece-priority 0 8 (words 4352 []))
-    ∷ call-line 1000000 (set-piece-priority 4294967296 4 (words 4352 []))
-    ∷ call-line 1000000 (mark-as-downloading 0 2 none 0 (words 4352 []))
-    ∷ call-line 1000000 (lock-piece 3)
-    ∷ call-line 1000000 (piece-passed 3)
-    ∷ call-line 1000000 (abort-download 0 2 none (words 4352 []))
-    ∷ call-line 1000000 (question (ofBlock is-requested 0 2))
-    ∷ call-line 1000000 (question (ofPiece blocks-in-piece 3))
-    ∷ call-line 1000000 (question (list-place 99))
+    (new-line (lending 28 30 3) 98304 32768
+    ∷ call-line (lending 15 1000000 1000000) (question (ofPicker num-pieces))
+    ∷ call-line (lending 16 1000000 1000000) (question (ofPicker num-pieces))
+    ∷ call-line (lending 27 1000000 1000000) (question (ofPicker num-pieces))
+    ∷ call-line (lending 28 1000000 1000000) (question (ofPicker num-pieces))
+    ∷ call-line (lending 1000000 0 1000000) (question (ofPicker num-pieces))
+    ∷ call-line (lending 1000000 29 1000000) (question (ofPicker num-pieces))
+    ∷ call-line (lending 1000000 30 1000000) (question (ofPicker num-pieces))
+    ∷ call-line (lending 1000000 1000000 0) (question (ofPicker num-pieces))
+    ∷ call-line (lending 1000000 1000000 2) (question (ofPicker num-pieces))
+    ∷ call-line (lending 1000000 1000000 3) (question (ofPicker num-pieces))
+    ∷ call-line (lending 28 30 2) (question (ofPicker num-pieces))
+    ∷ call-line (lending 28 29 3) (question (ofPicker num-pieces))
+    ∷ call-line (lending 27 30 3) (question (ofPicker num-pieces))
+    ∷ call-line (lending 28 30 3) (question (ofPicker num-pieces))
+    ∷ new-line (lending 1 1000000 1000000) 4096 1
+    ∷ call-line plenty (question (ofPicker num-pieces))
+    ∷ call-line plenty (question (listOfPicker piece-priorities 2))
+    ∷ call-line plenty (question (listOfPicker piece-priorities 3))
+    ∷ call-line plenty (question (listOfPicker get-download-queue 2))
+    ∷ call-line plenty (question (listOfPicker get-download-queue 3))
+    ∷ call-line plenty (question (listOfPiece get-downloaders 9 1))
+    ∷ call-line plenty (question (listOfPiece get-downloaders 9 2))
+    ∷ call-line plenty (question (listOfPiece blocks-for-piece 0 2))
+    ∷ image-line plenty 53
+    ∷ image-line plenty 54
+    ∷ call-line plenty (inc-refcount 9 (words 4351 []))
+    ∷ call-line plenty (inc-refcount 9 (words 4352 []))
+    ∷ call-line plenty (inc-refcount 3 (words 4352 []))
+    ∷ call-line plenty (inc-refcount 2 (words 4352 []))
+    ∷ call-line plenty (set-piece-priority 0 8 (words 4352 []))
+    ∷ call-line plenty (set-piece-priority 4294967296 4 (words 4352 []))
+    ∷ call-line plenty (mark-as-downloading 0 2 none 0 (words 4352 []))
+    ∷ call-line plenty (lock-piece 3)
+    ∷ call-line plenty (piece-passed 3)
+    ∷ call-line plenty (abort-download 0 2 none (words 4352 []))
+    ∷ call-line plenty (question (ofBlock is-requested 0 2))
+    ∷ call-line plenty (question (ofPiece blocks-in-piece 3))
     ∷ [])
-    ≡ outcome stands image-6685
-    ∷ outcome (answered (refused ShortMemory)) image-6685
-    ∷ outcome (answered (refused ShortMemory)) image-6685
-    ∷ outcome (answered (refused ShortMemory)) image-6685
-    ∷ outcome (answered (replied (numbers ((some 3) ∷ [])))) image-6685
-    ∷ outcome (notDone ShortMemory) image-6685
-    ∷ outcome (answered (replied (numbers ((some 3) ∷ [])))) image-6685
-    ∷ outcome (answered (refused ShortMemory)) image-6685
-    ∷ outcome (answered (replied (numbers ((some 4) ∷ (some 4) ∷ (some 4) ∷ [])))) image-6685
-    ∷ outcome (answered (refused ShortMemory)) image-6685
-    ∷ outcome (answered (replied (numbers []))) image-6685
-    ∷ outcome (answered (refused ShortMemory)) image-6685
-    ∷ outcome (answered (refused OutOfRange)) image-6685
-    ∷ outcome (answered (replied nothing)) image-6685
-    ∷ outcome (notDone ShortMemory) image-6685
-    ∷ outcome (bytesTaken (1 ∷ 0 ∷ 0 ∷ 0 ∷ 0 ∷ 0 ∷ 1 ∷ 128 ∷ 0 ∷ 0 ∷ 0 ∷ 128 ∷ 0 ∷ 0 ∷ 0 ∷ 0 ∷ 0 ∷ 0 ∷ 0 ∷ 0 ∷ 0 ∷ 0 ∷ 3 ∷ 1 ∷ 2 ∷ 0 ∷ 0 ∷ 4 ∷ 4 ∷ 0 ∷ 0 ∷ 0 ∷ 0 ∷ 0 ∷ 2 ∷ 0 ∷ 0 ∷ 4 ∷ 4 ∷ 0 ∷ 0 ∷ 0 ∷ 0 ∷ 0 ∷ 2 ∷ 0 ∷ 0 ∷ 4 ∷ 4 ∷ 0 ∷ 0 ∷ 0 ∷ 0 ∷ 0 ∷ [])) image-6685
-    ∷ outcome (answered (refused FewDraws)) image-6685
-    ∷ outcome (answered (refused OutOfRange)) image-6685
-    ∷ outcome (answered (refused OutOfRange)) image-6685
-    ∷ outcome (answered (done 0)) image-6705
-    ∷ outcome (answered (refused OutOfRange)) image-6705
-    ∷ outcome (answered (refused OutOfRange)) image-6705
-    ∷ outcome (answered (refused OutOfRange)) image-6705
-    ∷ outcome (answered (refused OutOfRange)) image-6705
-    ∷ outcome (answered (refused OutOfRange)) image-6705
-    ∷ outcome (answered (refused OutOfRange)) image-6705
-    ∷ outcome (answered (refused OutOfRange)) image-6705
-    ∷ outcome (answered (refused OutOfRange)) image-6705
-    ∷ outcome (answered (replied staleList)) image-6705
+    ≡ outcome stands image-6709
+    ∷ outcome (answered (refused ShortMemory)) image-6709
+    ∷ outcome (answered (refused ShortMemory)) image-6709
+    ∷ outcome (answered (refused ShortMemory)) image-6709
+    ∷ outcome (answered (replied (numbers ((some 3) ∷ [])))) image-6709
+    ∷ outcome (answered (refused ShortMemory)) image-6709
+    ∷ outcome (answered (refused ShortMemory)) image-6709
+    ∷ outcome (answered (replied (numbers ((some 3) ∷ [])))) image-6709
+    ∷ outcome (answered (refused ShortMemory)) image-6709
+    ∷ outcome (answered (refused ShortMemory)) image-6709
+    ∷ outcome (answered (replied (numbers ((some 3) ∷ [])))) image-6709
+    ∷ outcome (answered (refused ShortMemory)) image-6709
+    ∷ outcome (answered (refused ShortMemory)) image-6709
+    ∷ outcome (answered (refused ShortMemory)) image-6709
+    ∷ outcome (answered (replied (numbers ((some 3) ∷ [])))) image-6709
+    ∷ outcome (notDone ShortMemory) image-6709
+    ∷ outcome (answered (replied (numbers ((some 3) ∷ [])))) image-6709
+    ∷ outcome (answered (refused ShortMemory)) image-6709
+    ∷ outcome (answered (replied (numbers ((some 4) ∷ (some 4) ∷ (some 4) ∷ [])))) image-6709
+    ∷ outcome (answered (refused ShortMemory)) image-6709
+    ∷ outcome (answered (replied (numbers []))) image-6709
+    ∷ outcome (answered (refused ShortMemory)) image-6709
+    ∷ outcome (answered (refused OutOfRange)) image-6709
+    ∷ outcome (answered (replied nothing)) image-6709
+    ∷ outcome (notDone ShortMemory) image-6709
+    ∷ outcome (bytesTaken (1 ∷ 0 ∷ 0 ∷ 0 ∷ 0 ∷ 0 ∷ 1 ∷ 128 ∷ 0 ∷ 0 ∷ 0 ∷ 128 ∷ 0 ∷ 0 ∷ 0 ∷ 0 ∷ 0 ∷ 0 ∷ 0 ∷ 0 ∷ 0 ∷ 0 ∷ 3 ∷ 1 ∷ 2 ∷ 0 ∷ 0 ∷ 4 ∷ 4 ∷ 0 ∷ 0 ∷ 0 ∷ 0 ∷ 0 ∷ 2 ∷ 0 ∷ 0 ∷ 4 ∷ 4 ∷ 0 ∷ 0 ∷ 0 ∷ 0 ∷ 0 ∷ 2 ∷ 0 ∷ 0 ∷ 4 ∷ 4 ∷ 0 ∷ 0 ∷ 0 ∷ 0 ∷ 0 ∷ [])) image-6709
+    ∷ outcome (answered (refused FewDraws)) image-6709
+    ∷ outcome (answered (refused OutOfRange)) image-6709
+    ∷ outcome (answered (refused OutOfRange)) image-6709
+    ∷ outcome (answered (done 0)) image-6739
+    ∷ outcome (answered (refused OutOfRange)) image-6739
+    ∷ outcome (answered (refused OutOfRange)) image-6739
+    ∷ outcome (answered (refused OutOfRange)) image-6739
+    ∷ outcome (answered (refused OutOfRange)) image-6739
+    ∷ outcome (answered (refused OutOfRange)) image-6739
+    ∷ outcome (answered (refused OutOfRange)) image-6739
+    ∷ outcome (answered (refused OutOfRange)) image-6739
+    ∷ outcome (answered (refused OutOfRange)) image-6739
     ∷ []
 unfolding replaying
-calls-6685 = refl
+calls-6709 = refl
 
-abbrev image-6725 : List ℕ
-image-6725 =
+abbrev image-6797 : List ℕ
+image-6797 =
     1 ∷ 0 ∷ 0 ∷ 0 ∷ 0 ∷ 0 ∷ 1 ∷ 128 ∷ 0 ∷ 0 ∷ 0 ∷ 128 ∷ 0 ∷ 0 ∷ 0 ∷ 0 ∷ 0 ∷ 0 ∷ 0 ∷ 0 ∷ 0 ∷ 0 ∷ 3 ∷ 1 ∷
-    2 ∷ 3 ∷ 232 ∷ 0 ∷ 4 ∷ 0 ∷ 0 ∷ 0 ∷ 0 ∷ 0 ∷
     2 ∷ 0 ∷ 0 ∷ 4 ∷ 4 ∷ 0 ∷ 0 ∷ 0 ∷ 0 ∷ 0 ∷
-    2 ∷ 0 ∷ 0 ∷ 4 ∷ 4 ∷ 1 ∷ 0 ∷ 0 ∷ 0 ∷ 0 ∷
-    3 ∷ 0 ∷ 0 ∷ 0 ∷ 0 ∷ 0 ∷
-    4 ∷ 1 ∷ 3 ∷ 232 ∷ 1 ∷ 0 ∷ 0 ∷ 0 ∷ 0 ∷ 0 ∷ 0 ∷ 0 ∷ 4 ∷
-    4 ∷ 0 ∷ 3 ∷ 232 ∷ 0 ∷ 0 ∷ 0 ∷ 0 ∷ 0 ∷ 0 ∷ 0 ∷ 0 ∷ 0 ∷ []
+    2 ∷ 0 ∷ 0 ∷ 4 ∷ 4 ∷ 0 ∷ 0 ∷ 0 ∷ 0 ∷ 0 ∷
+    2 ∷ 0 ∷ 0 ∷ 4 ∷ 4 ∷ 0 ∷ 0 ∷ 0 ∷ 0 ∷ 0 ∷ []
 
--- calls 6725 to 6727
-calls-6725 :
+-- calls 6797 to 6798
+calls-6797 :
     outcomes none
-    (read-line 1000000 image-6725
-    ∷ call-line 1000000 (inc-refcount 0 (words 4352 []))
-    ∷ call-line 1000000 inc-refcount-all
+    (new-line plenty 98304 32768
+    ∷ call-line plenty (pick-pieces (asking 0 1 0 0 none 3 (224 ∷ []) []) 4351 (words 4351 []))
     ∷ [])
-    ≡ outcome stands image-6725
-    ∷ outcome (answered (refused TooManyPeers)) image-6725
-    ∷ outcome (answered (refused TooManyPeers)) image-6725
+    ≡ outcome stands image-6797
+    ∷ outcome (answered (refused FewDraws)) image-6797
     ∷ []
 unfolding replaying
-calls-6725 = refl
+calls-6797 = refl
 
-abbrev image-6870 : List ℕ
-image-6870 =
-    1 ∷ 0 ∷ 0 ∷ 0 ∷ 0 ∷ 0 ∷ 0 ∷ 0 ∷ 3 ∷ 0 ∷ 0 ∷ 0 ∷ 1 ∷ 0 ∷ 0 ∷ 0 ∷ 0 ∷ 0 ∷ 0 ∷ 0 ∷ 0 ∷ 0 ∷ 3 ∷ 1 ∷
-    2 ∷ 0 ∷ 0 ∷ 4 ∷ 4 ∷ 0 ∷ 0 ∷ 0 ∷ 0 ∷ 0 ∷
-    2 ∷ 0 ∷ 0 ∷ 4 ∷ 4 ∷ 0 ∷ 0 ∷ 0 ∷ 0 ∷ 0 ∷
-    2 ∷ 0 ∷ 0 ∷ 4 ∷ 4 ∷ 0 ∷ 0 ∷ 0 ∷ 0 ∷ 0 ∷ []
-
-abbrev image-6875 : List ℕ
-image-6875 =
-    1 ∷ 0 ∷ 0 ∷ 0 ∷ 0 ∷ 0 ∷ 0 ∷ 0 ∷ 3 ∷ 0 ∷ 0 ∷ 0 ∷ 1 ∷ 0 ∷ 0 ∷ 0 ∷ 0 ∷ 0 ∷ 0 ∷ 0 ∷ 0 ∷ 0 ∷ 3 ∷ 1 ∷
-    2 ∷ 0 ∷ 1 ∷ 4 ∷ 4 ∷ 0 ∷ 0 ∷ 0 ∷ 0 ∷ 0 ∷
-    2 ∷ 0 ∷ 0 ∷ 4 ∷ 4 ∷ 0 ∷ 0 ∷ 0 ∷ 0 ∷ 0 ∷
-    2 ∷ 0 ∷ 0 ∷ 4 ∷ 4 ∷ 0 ∷ 0 ∷ 0 ∷ 0 ∷ 0 ∷ []
-
-abbrev image-6876 : List ℕ
-image-6876 =
-    1 ∷ 0 ∷ 0 ∷ 0 ∷ 0 ∷ 0 ∷ 0 ∷ 0 ∷ 3 ∷ 0 ∷ 0 ∷ 0 ∷ 1 ∷ 0 ∷ 0 ∷ 0 ∷ 0 ∷ 0 ∷ 0 ∷ 0 ∷ 0 ∷ 0 ∷ 3 ∷ 1 ∷
-    2 ∷ 0 ∷ 1 ∷ 4 ∷ 4 ∷ 0 ∷ 0 ∷ 0 ∷ 0 ∷ 0 ∷
-    2 ∷ 0 ∷ 1 ∷ 4 ∷ 4 ∷ 0 ∷ 0 ∷ 0 ∷ 0 ∷ 0 ∷
-    2 ∷ 0 ∷ 0 ∷ 4 ∷ 4 ∷ 0 ∷ 0 ∷ 0 ∷ 0 ∷ 0 ∷ []
-
-abbrev image-6878 : List ℕ
-image-6878 =
-    1 ∷ 0 ∷ 0 ∷ 0 ∷ 0 ∷ 0 ∷ 0 ∷ 0 ∷ 3 ∷ 0 ∷ 0 ∷ 0 ∷ 1 ∷ 0 ∷ 0 ∷ 0 ∷ 0 ∷ 0 ∷ 0 ∷ 0 ∷ 0 ∷ 0 ∷ 3 ∷ 1 ∷
-    2 ∷ 0 ∷ 1 ∷ 4 ∷ 4 ∷ 0 ∷ 0 ∷ 0 ∷ 0 ∷ 0 ∷
-    2 ∷ 0 ∷ 1 ∷ 4 ∷ 4 ∷ 0 ∷ 0 ∷ 0 ∷ 0 ∷ 0 ∷
-    2 ∷ 0 ∷ 1 ∷ 4 ∷ 4 ∷ 0 ∷ 0 ∷ 0 ∷ 0 ∷ 0 ∷ []
-
-abbrev image-6882 : List ℕ
-image-6882 =
-    1 ∷ 0 ∷ 0 ∷ 0 ∷ 0 ∷ 0 ∷ 0 ∷ 0 ∷ 3 ∷ 0 ∷ 0 ∷ 0 ∷ 1 ∷ 0 ∷ 0 ∷ 0 ∷ 0 ∷ 0 ∷ 0 ∷ 0 ∷ 0 ∷ 0 ∷ 3 ∷ 1 ∷
-    2 ∷ 0 ∷ 1 ∷ 6 ∷ 4 ∷ 0 ∷ 0 ∷ 0 ∷ 0 ∷ 0 ∷
-    2 ∷ 0 ∷ 1 ∷ 4 ∷ 4 ∷ 0 ∷ 0 ∷ 0 ∷ 0 ∷ 0 ∷
+abbrev image-6816 : List ℕ
+image-6816 =
+    1 ∷ 0 ∷ 0 ∷ 0 ∷ 0 ∷ 0 ∷ 1 ∷ 0 ∷ 0 ∷ 0 ∷ 0 ∷ 128 ∷ 0 ∷ 0 ∷ 0 ∷ 0 ∷ 0 ∷ 0 ∷ 0 ∷ 0 ∷ 0 ∷ 0 ∷ 2 ∷ 0 ∷
+    2 ∷ 0 ∷ 1 ∷ 1 ∷ 4 ∷ 0 ∷ 0 ∷ 0 ∷ 0 ∷ 0 ∷
     2 ∷ 0 ∷ 1 ∷ 4 ∷ 4 ∷ 0 ∷ 0 ∷ 0 ∷ 0 ∷ 0 ∷
     3 ∷ 0 ∷ 0 ∷ 0 ∷ 0 ∷ 0 ∷
-    4 ∷ 1 ∷ 0 ∷ 1 ∷ 1 ∷ 255 ∷ 255 ∷ 255 ∷ 255 ∷ 255 ∷ 255 ∷ 255 ∷ 255 ∷
-    5 ∷ 0 ∷ 0 ∷ 0 ∷ 0 ∷ []
-
-abbrev image-6883 : List ℕ
-image-6883 =
-    1 ∷ 0 ∷ 0 ∷ 0 ∷ 0 ∷ 0 ∷ 0 ∷ 0 ∷ 3 ∷ 0 ∷ 0 ∷ 0 ∷ 1 ∷ 0 ∷ 0 ∷ 0 ∷ 0 ∷ 0 ∷ 0 ∷ 0 ∷ 0 ∷ 0 ∷ 3 ∷ 1 ∷
-    2 ∷ 0 ∷ 1 ∷ 6 ∷ 4 ∷ 0 ∷ 0 ∷ 0 ∷ 0 ∷ 0 ∷
-    2 ∷ 0 ∷ 1 ∷ 4 ∷ 4 ∷ 0 ∷ 0 ∷ 0 ∷ 0 ∷ 0 ∷
-    2 ∷ 0 ∷ 1 ∷ 4 ∷ 4 ∷ 0 ∷ 0 ∷ 0 ∷ 0 ∷ 0 ∷
-    3 ∷ 0 ∷ 0 ∷ 0 ∷ 0 ∷ 0 ∷
-    4 ∷ 1 ∷ 0 ∷ 1 ∷ 1 ∷ 0 ∷ 0 ∷ 0 ∷ 0 ∷ 0 ∷ 0 ∷ 0 ∷ 0 ∷
-    5 ∷ 0 ∷ 0 ∷ 0 ∷ 0 ∷ []
-
--- calls 6870 to 6884
-calls-6870 :
-    outcomes none
-    (new-line 9223372036854775807 3 1
-    ∷ read-line 1000000 (171 ∷ 205 ∷ [])
-    ∷ read-line 1000000 []
-    ∷ call-line 0 (question (ofPicker num-pieces))
-    ∷ call-line 9223372036854775807 (question (ofPicker num-pieces))
-    ∷ call-line 9223372036854775807 (inc-refcount 0 (words 4352 []))
-    ∷ call-line 9223372036854775807 (inc-refcount 1 (words 5000 []))
-    ∷ call-line 1000000 (inc-refcount 2 (words 0 []))
-    ∷ call-line 1000000 (inc-refcount 2 (words 4352 []))
-    ∷ call-line 1000000 (pick-pieces (asking 0 1 0 0 (some 0) 3 (255 ∷ []) []) 9223372036854775807 (words 5000 (3839455607 ∷ [])))
-    ∷ call-line 1000000 (mark-as-downloading 0 0 (some 18446744073709551615) 65535 (words 5000 []))
-    ∷ call-line 1000000 (mark-as-canceled 0 0 (some 0) (words 4352 []))
-    ∷ call-line 1000000 (question (listOfPicker get-availability-vec 0))
-    ∷ [])
-    ≡ outcome stands image-6870
-    ∷ outcome (notDone (IllFormedImage 0)) image-6870
-    ∷ outcome (notDone (IllFormedImage 0)) image-6870
-    ∷ outcome (answered (refused ShortMemory)) image-6870
-    ∷ outcome (answered (replied (numbers ((some 3) ∷ [])))) image-6870
-    ∷ outcome (answered (done 0)) image-6875
-    ∷ outcome (answered (done 0)) image-6876
-    ∷ outcome (answered (refused FewDraws)) image-6876
-    ∷ outcome (answered (done 0)) image-6878
-    ∷ outcome (answered (picked ((pieceBlock 2 0) ∷ []) 1024 (0 ∷ 0 ∷ 0 ∷ 0 ∷ 0 ∷ 0 ∷ 0 ∷ []) 1)) image-6878
-    ∷ outcome (answered (said true 0)) image-6882
-    ∷ outcome (answered (done 0)) image-6883
-    ∷ outcome (answered (refused ShortMemory)) image-6883
-    ∷ []
-unfolding replaying
-calls-6870 = refl
-
-abbrev image-7707 : List ℕ
-image-7707 =
-    1 ∷ 0 ∷ 0 ∷ 0 ∷ 0 ∷ 0 ∷ 0 ∷ 0 ∷ 28 ∷ 0 ∷ 0 ∷ 0 ∷ 5 ∷ 0 ∷ 0 ∷ 0 ∷ 0 ∷ 0 ∷ 4 ∷ 0 ∷ 0 ∷ 0 ∷ 6 ∷ 1 ∷
-    2 ∷ 0 ∷ 3 ∷ 1 ∷ 7 ∷ 0 ∷ 0 ∷ 0 ∷ 0 ∷ 5 ∷
-    2 ∷ 3 ∷ 232 ∷ 6 ∷ 7 ∷ 0 ∷ 0 ∷ 0 ∷ 0 ∷ 0 ∷
-    2 ∷ 0 ∷ 2 ∷ 1 ∷ 4 ∷ 0 ∷ 0 ∷ 0 ∷ 0 ∷ 0 ∷
-    2 ∷ 0 ∷ 0 ∷ 3 ∷ 7 ∷ 0 ∷ 0 ∷ 0 ∷ 0 ∷ 0 ∷
-    2 ∷ 3 ∷ 231 ∷ 2 ∷ 1 ∷ 0 ∷ 0 ∷ 0 ∷ 0 ∷ 0 ∷
-    2 ∷ 0 ∷ 0 ∷ 0 ∷ 4 ∷ 0 ∷ 0 ∷ 0 ∷ 0 ∷ 0 ∷
-    3 ∷ 0 ∷ 0 ∷ 0 ∷ 0 ∷ 0 ∷
-    4 ∷ 1 ∷ 0 ∷ 1 ∷ 1 ∷ 0 ∷ 0 ∷ 0 ∷ 0 ∷ 0 ∷ 0 ∷ 0 ∷ 2 ∷
-    3 ∷ 0 ∷ 0 ∷ 0 ∷ 1 ∷ 4 ∷
-    4 ∷ 1 ∷ 0 ∷ 1 ∷ 1 ∷ 0 ∷ 0 ∷ 0 ∷ 0 ∷ 0 ∷ 0 ∷ 0 ∷ 3 ∷
-    3 ∷ 0 ∷ 0 ∷ 0 ∷ 2 ∷ 0 ∷
-    4 ∷ 1 ∷ 0 ∷ 3 ∷ 0 ∷ 0 ∷ 0 ∷ 0 ∷ 0 ∷ 0 ∷ 0 ∷ 0 ∷ 0 ∷
-    3 ∷ 0 ∷ 0 ∷ 0 ∷ 3 ∷ 0 ∷
-    4 ∷ 0 ∷ 0 ∷ 0 ∷ 1 ∷ 0 ∷ 0 ∷ 0 ∷ 0 ∷ 0 ∷ 0 ∷ 0 ∷ 2 ∷
-    3 ∷ 0 ∷ 0 ∷ 0 ∷ 4 ∷ 1 ∷
-    4 ∷ 2 ∷ 0 ∷ 0 ∷ 0 ∷ 0 ∷ 0 ∷ 0 ∷ 0 ∷ 0 ∷ 0 ∷ 0 ∷ 0 ∷
-    3 ∷ 0 ∷ 0 ∷ 0 ∷ 5 ∷ 2 ∷
-    4 ∷ 0 ∷ 3 ∷ 232 ∷ 1 ∷ 0 ∷ 0 ∷ 0 ∷ 0 ∷ 0 ∷ 0 ∷ 0 ∷ 2 ∷
-    5 ∷ 0 ∷ 0 ∷ 0 ∷ 0 ∷ []
-
-abbrev image-7708 : List ℕ
-image-7708 =
-    1 ∷ 0 ∷ 0 ∷ 0 ∷ 0 ∷ 0 ∷ 0 ∷ 0 ∷ 28 ∷ 0 ∷ 0 ∷ 0 ∷ 5 ∷ 0 ∷ 0 ∷ 0 ∷ 0 ∷ 0 ∷ 4 ∷ 0 ∷ 0 ∷ 0 ∷ 6 ∷ 0 ∷
-    2 ∷ 0 ∷ 3 ∷ 1 ∷ 7 ∷ 0 ∷ 0 ∷ 0 ∷ 0 ∷ 5 ∷
-    2 ∷ 3 ∷ 232 ∷ 6 ∷ 7 ∷ 0 ∷ 0 ∷ 0 ∷ 0 ∷ 0 ∷
-    2 ∷ 0 ∷ 2 ∷ 1 ∷ 4 ∷ 0 ∷ 0 ∷ 0 ∷ 0 ∷ 0 ∷
-    2 ∷ 0 ∷ 0 ∷ 3 ∷ 7 ∷ 0 ∷ 0 ∷ 0 ∷ 0 ∷ 0 ∷
-    2 ∷ 3 ∷ 231 ∷ 2 ∷ 1 ∷ 0 ∷ 0 ∷ 0 ∷ 0 ∷ 0 ∷
-    2 ∷ 0 ∷ 0 ∷ 0 ∷ 4 ∷ 0 ∷ 0 ∷ 0 ∷ 0 ∷ 0 ∷
-    3 ∷ 0 ∷ 0 ∷ 0 ∷ 0 ∷ 0 ∷
-    4 ∷ 1 ∷ 0 ∷ 1 ∷ 1 ∷ 0 ∷ 0 ∷ 0 ∷ 0 ∷ 0 ∷ 0 ∷ 0 ∷ 2 ∷
-    3 ∷ 0 ∷ 0 ∷ 0 ∷ 1 ∷ 4 ∷
-    4 ∷ 1 ∷ 0 ∷ 1 ∷ 1 ∷ 0 ∷ 0 ∷ 0 ∷ 0 ∷ 0 ∷ 0 ∷ 0 ∷ 3 ∷
-    3 ∷ 0 ∷ 0 ∷ 0 ∷ 2 ∷ 0 ∷
-    4 ∷ 1 ∷ 0 ∷ 3 ∷ 0 ∷ 0 ∷ 0 ∷ 0 ∷ 0 ∷ 0 ∷ 0 ∷ 0 ∷ 0 ∷
-    3 ∷ 0 ∷ 0 ∷ 0 ∷ 3 ∷ 0 ∷
-    4 ∷ 0 ∷ 0 ∷ 0 ∷ 1 ∷ 0 ∷ 0 ∷ 0 ∷ 0 ∷ 0 ∷ 0 ∷ 0 ∷ 2 ∷
-    3 ∷ 0 ∷ 0 ∷ 0 ∷ 4 ∷ 1 ∷
-    4 ∷ 2 ∷ 0 ∷ 0 ∷ 0 ∷ 0 ∷ 0 ∷ 0 ∷ 0 ∷ 0 ∷ 0 ∷ 0 ∷ 0 ∷
-    3 ∷ 0 ∷ 0 ∷ 0 ∷ 5 ∷ 2 ∷
-    4 ∷ 0 ∷ 3 ∷ 232 ∷ 1 ∷ 0 ∷ 0 ∷ 0 ∷ 0 ∷ 0 ∷ 0 ∷ 0 ∷ 2 ∷
-    5 ∷ 0 ∷ 0 ∷ 0 ∷ 0 ∷
+    4 ∷ 0 ∷ 0 ∷ 0 ∷ 0 ∷ 0 ∷ 0 ∷ 0 ∷ 0 ∷ 0 ∷ 0 ∷ 0 ∷ 0 ∷
+    4 ∷ 0 ∷ 0 ∷ 0 ∷ 0 ∷ 0 ∷ 0 ∷ 0 ∷ 0 ∷ 0 ∷ 0 ∷ 0 ∷ 0 ∷
     6 ∷ 0 ∷ 0 ∷ 0 ∷ 1 ∷ []
 
--- calls 7707 to 7709
-calls-7707 :
+abbrev image-6818 : List ℕ
+image-6818 =
+    1 ∷ 0 ∷ 0 ∷ 0 ∷ 0 ∷ 0 ∷ 1 ∷ 0 ∷ 0 ∷ 0 ∷ 0 ∷ 128 ∷ 0 ∷ 0 ∷ 0 ∷ 0 ∷ 0 ∷ 0 ∷ 0 ∷ 0 ∷ 0 ∷ 0 ∷ 2 ∷ 1 ∷
+    2 ∷ 0 ∷ 1 ∷ 5 ∷ 4 ∷ 0 ∷ 0 ∷ 0 ∷ 0 ∷ 0 ∷
+    2 ∷ 0 ∷ 1 ∷ 4 ∷ 4 ∷ 0 ∷ 0 ∷ 0 ∷ 0 ∷ 0 ∷
+    3 ∷ 0 ∷ 0 ∷ 0 ∷ 0 ∷ 0 ∷
+    4 ∷ 0 ∷ 0 ∷ 0 ∷ 0 ∷ 0 ∷ 0 ∷ 0 ∷ 0 ∷ 0 ∷ 0 ∷ 0 ∷ 0 ∷
+    4 ∷ 1 ∷ 0 ∷ 1 ∷ 1 ∷ 0 ∷ 0 ∷ 0 ∷ 0 ∷ 0 ∷ 0 ∷ 0 ∷ 3 ∷ []
+
+-- calls 6816 to 6819
+calls-6816 :
     outcomes none
-    (read-line 1000000 image-7707
-    ∷ call-line 1000000 (pick-pieces (asking 18 2 3 10 (some 3) 6 (75 ∷ []) []) 4351 (words 4352 (3 ∷ [])))
-    ∷ call-line 1000000 (pick-pieces (asking 193 11 0 0 (some 3) 6 (255 ∷ []) (1 ∷ [])) 4351 (words 4352 (3097071445 ∷ 1949205856 ∷ 3284149954 ∷ [])))
+    (read-line plenty image-6816
+    ∷ call-line plenty (question (list-place 0))
+    ∷ call-line plenty (mark-as-downloading 0 1 (some 3) 2 (words 4352 []))
+    ∷ call-line plenty (question (list-place 0))
     ∷ [])
-    ≡ outcome stands image-7707
-    ∷ outcome (answered (picked [] 14416 (0 ∷ 0 ∷ 1 ∷ 0 ∷ 0 ∷ 0 ∷ 1 ∷ []) 1)) image-7708
-    ∷ outcome (answered (picked ((pieceBlock 0 0) ∷ []) 106541 (1 ∷ 1 ∷ 0 ∷ 1 ∷ 0 ∷ 0 ∷ 2 ∷ []) 3)) image-7708
+    ≡ outcome stands image-6816
+    ∷ outcome (answered (replied (numbers ((some 1) ∷ [])))) image-6816
+    ∷ outcome (answered (said true 0)) image-6818
+    ∷ outcome (answered (replied staleList)) image-6818
     ∷ []
 unfolding replaying
-calls-7707 = refl
+calls-6816 = refl
 
--- call 8131
-calls-8131 :
+abbrev image-6879 : List ℕ
+image-6879 =
+    1 ∷ 0 ∷ 0 ∷ 0 ∷ 0 ∷ 0 ∷ 0 ∷ 128 ∷ 1 ∷ 0 ∷ 0 ∷ 128 ∷ 0 ∷ 0 ∷ 0 ∷ 0 ∷ 0 ∷ 0 ∷ 0 ∷ 0 ∷ 0 ∷ 0 ∷ 2 ∷ 1 ∷
+    2 ∷ 0 ∷ 0 ∷ 4 ∷ 4 ∷ 0 ∷ 0 ∷ 0 ∷ 0 ∷ 0 ∷
+    2 ∷ 0 ∷ 0 ∷ 4 ∷ 4 ∷ 0 ∷ 0 ∷ 0 ∷ 0 ∷ 0 ∷ []
+
+abbrev image-6880 : List ℕ
+image-6880 =
+    1 ∷ 0 ∷ 0 ∷ 0 ∷ 0 ∷ 0 ∷ 0 ∷ 128 ∷ 1 ∷ 0 ∷ 0 ∷ 128 ∷ 0 ∷ 0 ∷ 0 ∷ 0 ∷ 0 ∷ 0 ∷ 0 ∷ 0 ∷ 0 ∷ 0 ∷ 2 ∷ 1 ∷
+    2 ∷ 0 ∷ 0 ∷ 4 ∷ 4 ∷ 0 ∷ 0 ∷ 0 ∷ 0 ∷ 0 ∷
+    2 ∷ 0 ∷ 0 ∷ 2 ∷ 4 ∷ 0 ∷ 0 ∷ 0 ∷ 0 ∷ 0 ∷
+    3 ∷ 0 ∷ 0 ∷ 0 ∷ 1 ∷ 0 ∷
+    4 ∷ 2 ∷ 0 ∷ 0 ∷ 1 ∷ 0 ∷ 0 ∷ 0 ∷ 0 ∷ 0 ∷ 0 ∷ 0 ∷ 7 ∷ []
+
+-- calls 6879 to 6883
+calls-6879 :
     outcomes none
-    (read-line 1000000 (1 ∷ 0 ∷ 0 ∷ 0 ∷ 0 ∷ 0 ∷ 0 ∷ 128 ∷ 0 ∷ 0 ∷ 0 ∷ 64 ∷ 0 ∷ 1 ∷ 46 ∷ 0 ∷ 0 ∷ 0 ∷ 0 ∷ 0 ∷ 0 ∷ 0 ∷ 1 ∷ 1 ∷ 2 ∷ 0 ∷ 3 ∷ 6 ∷ 1 ∷ 0 ∷ 0 ∷ 0 ∷ 32 ∷ 215 ∷ 2 ∷ 2 ∷ 186 ∷ 1 ∷ 4 ∷ 0 ∷ 0 ∷ 0 ∷ 64 ∷ 0 ∷ 3 ∷ 0 ∷ 0 ∷ 0 ∷ 0 ∷ 6 ∷ 4 ∷ 1 ∷ 0 ∷ 1 ∷ 0 ∷ 0 ∷ 0 ∷ 0 ∷ 0 ∷ [])
+    (new-line plenty 32769 32768
+    ∷ call-line plenty (mark-as-writing 1 0 (some 7) (words 4352 []))
+    ∷ call-line plenty (question (listOfPiece get-downloaders 1 1))
+    ∷ call-line plenty (question (listOfPiece get-downloaders 1 2))
+    ∷ call-line plenty (question (listOfPiece blocks-for-piece 1 1))
+    ∷ [])
+    ≡ outcome stands image-6879
+    ∷ outcome (answered (said true 0)) image-6880
+    ∷ outcome (answered (refused ShortMemory)) image-6880
+    ∷ outcome (answered (replied (numbers ((some 7) ∷ [])))) image-6880
+    ∷ outcome (answered (refused ShortMemory)) image-6880
+    ∷ []
+unfolding replaying
+calls-6879 = refl
+
+abbrev image-6908 : List ℕ
+image-6908 =
+    1 ∷ 0 ∷ 0 ∷ 0 ∷ 0 ∷ 0 ∷ 0 ∷ 0 ∷ 3 ∷ 0 ∷ 0 ∷ 0 ∷ 1 ∷ 0 ∷ 0 ∷ 0 ∷ 0 ∷ 0 ∷ 0 ∷ 0 ∷ 0 ∷ 0 ∷ 3 ∷ 1 ∷
+    2 ∷ 0 ∷ 0 ∷ 4 ∷ 4 ∷ 0 ∷ 0 ∷ 0 ∷ 0 ∷ 0 ∷
+    2 ∷ 0 ∷ 0 ∷ 4 ∷ 4 ∷ 0 ∷ 0 ∷ 0 ∷ 0 ∷ 0 ∷
+    2 ∷ 0 ∷ 0 ∷ 4 ∷ 4 ∷ 0 ∷ 0 ∷ 0 ∷ 0 ∷ 0 ∷ []
+
+-- calls 6908 to 6909
+calls-6908 :
+    outcomes none
+    (new-line (lending 9223372036854775807 9223372036854775807 9223372036854775807) 3 1
+    ∷ read-line plenty (171 ∷ 205 ∷ [])
+    ∷ [])
+    ≡ outcome stands image-6908
+    ∷ outcome (notDone (IllFormedImage 0)) image-6908
+    ∷ []
+unfolding replaying
+calls-6908 = refl
+
+-- call 8169
+calls-8169 :
+    outcomes none
+    (read-line plenty (1 ∷ 0 ∷ 0 ∷ 0 ∷ 0 ∷ 0 ∷ 0 ∷ 128 ∷ 0 ∷ 0 ∷ 0 ∷ 64 ∷ 0 ∷ 1 ∷ 46 ∷ 0 ∷ 0 ∷ 0 ∷ 0 ∷ 0 ∷ 0 ∷ 0 ∷ 1 ∷ 1 ∷ 2 ∷ 0 ∷ 3 ∷ 6 ∷ 1 ∷ 0 ∷ 0 ∷ 0 ∷ 32 ∷ 215 ∷ 2 ∷ 2 ∷ 186 ∷ 1 ∷ 4 ∷ 0 ∷ 0 ∷ 0 ∷ 64 ∷ 0 ∷ 3 ∷ 0 ∷ 0 ∷ 0 ∷ 0 ∷ 6 ∷ 4 ∷ 1 ∷ 0 ∷ 1 ∷ 0 ∷ 0 ∷ 0 ∷ 0 ∷ 0 ∷ [])
     ∷ [])
     ≡ outcome (notDone (IllFormedImage 50)) []
     ∷ []
 unfolding replaying
-calls-8131 = refl
+calls-8169 = refl
 
-abbrev image-8249 : List ℕ
-image-8249 =
+abbrev image-8287 : List ℕ
+image-8287 =
     1 ∷ 0 ∷ 0 ∷ 0 ∷ 0 ∷ 0 ∷ 0 ∷ 2 ∷ 1 ∷ 0 ∷ 0 ∷ 0 ∷ 1 ∷ 0 ∷ 1 ∷ 0 ∷ 0 ∷ 0 ∷ 8 ∷ 0 ∷ 0 ∷ 1 ∷ 183 ∷ 0 ∷
     2 ∷ 0 ∷ 1 ∷ 1 ∷ 4 ∷ 0 ∷ 0 ∷ 0 ∷ 0 ∷ 1 ∷
     2 ∷ 0 ∷ 1 ∷ 3 ∷ 0 ∷ 0 ∷ 0 ∷ 0 ∷ 0 ∷ 1 ∷
@@ -2930,18 +2582,18 @@ image-8249 =
     6 ∷ 0 ∷ 0 ∷ 0 ∷ 108 ∷
     6 ∷ 0 ∷ 0 ∷ 0 ∷ 175 ∷ []
 
--- calls 8249 to 8252
-calls-8249 :
+-- calls 8287 to 8290
+calls-8287 :
     outcomes none
-    (read-line 1000000 image-8249
-    ∷ call-line 1000000 (mark-as-downloading 512 0 none 0 (words 4352 []))
-    ∷ call-line 1000000 (mark-as-writing 512 0 (some 1) (words 4352 []))
-    ∷ call-line 1000000 (mark-as-finished 512 0 (some 1) (words 4352 []))
+    (read-line plenty image-8287
+    ∷ call-line plenty (mark-as-downloading 512 0 none 0 (words 4352 []))
+    ∷ call-line plenty (mark-as-writing 512 0 (some 1) (words 4352 []))
+    ∷ call-line plenty (mark-as-finished 512 0 (some 1) (words 4352 []))
     ∷ [])
-    ≡ outcome stands image-8249
-    ∷ outcome (answered (refused TooManyPartials)) image-8249
-    ∷ outcome (answered (refused TooManyPartials)) image-8249
-    ∷ outcome (answered (refused TooManyPartials)) image-8249
+    ≡ outcome stands image-8287
+    ∷ outcome (answered (refused TooManyPartials)) image-8287
+    ∷ outcome (answered (refused TooManyPartials)) image-8287
+    ∷ outcome (answered (refused TooManyPartials)) image-8287
     ∷ []
 unfolding replaying
-calls-8249 = refl
+calls-8287 = refl

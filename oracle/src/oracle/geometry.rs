@@ -1,4 +1,4 @@
-//! Pieces, blocks and memory need of a torrent, from its two lengths alone.
+//! Pieces, blocks and memory needs of a torrent, from its two lengths alone.
 
 const MAX_PIECES: i64 = 4096;
 const MAX_PIECE_SIZE: i64 = 4_194_304;
@@ -7,7 +7,7 @@ const DEFAULT_BLOCK_SIZE: i64 = 16_384;
 /// The most partials that stand at a time.
 pub const MAX_PARTIALS: usize = 512;
 
-/// Words at the front of a picker's memory.
+/// Words at the front of a picker's words.
 pub const HEAD_WORDS: u64 = 16;
 
 /// A valid geometry.
@@ -43,10 +43,23 @@ impl Geometry {
         blocks(self.piece_length(piece), self.piece_size) as usize
     }
 
-    /// Words of memory that a picker of this geometry needs.
-    pub fn memory_need(&self) -> u64 {
-        let partials = self.pieces.min(MAX_PARTIALS) as u64;
-        HEAD_WORDS + 6 * self.pieces as u64 + partials * (3 + 4 * self.blocks_per_piece as u64)
+    /// The most partials that a picker of this geometry can have: so many records it needs.
+    pub fn partials_need(&self) -> u64 {
+        self.pieces.min(MAX_PARTIALS) as u64
+    }
+
+    /// Words of 64 bits that it needs.
+    pub fn words_need(&self) -> u64 {
+        HEAD_WORDS + 2 * self.pieces as u64 + self.blocks_of_partials()
+    }
+
+    /// Cells of 16 bits that it needs.
+    pub fn cells_need(&self) -> u64 {
+        4 * self.pieces as u64 + 3 * self.blocks_of_partials()
+    }
+
+    fn blocks_of_partials(&self) -> u64 {
+        self.partials_need() * self.blocks_per_piece as u64
     }
 }
 

@@ -27,15 +27,19 @@ pub fn new(total: i64, piece_size: i64, lent: &Lent) -> Judgement {
     memory(&Geometry::new(total, piece_size).ok_or(1)?, lent)
 }
 
-/// 2: the lent memory is shorter than the geometry needs.
+/// 2: one of the lent buffers is shorter than the geometry needs.
 pub fn memory(geometry: &Geometry, lent: &Lent) -> Judgement {
-    refuse_if(lent.memory.is_some_and(|words| words < geometry.memory_need()), 2)
+    let short = |lent: Option<u64>, need: u64| lent.is_some_and(|length| length < need);
+    let memory = &lent.memory;
+    refuse_if(short(memory.words, geometry.words_need()), 2)?;
+    refuse_if(short(memory.cells, geometry.cells_need()), 2)?;
+    refuse_if(short(memory.partials, geometry.partials_need()), 2)
 }
 
-/// The picker that stands in the lent memory. 2 for memory shorter than a picker's head or than the geometry in that head needs, 3
-/// where no picker stands.
+/// The picker that stands in the lent memory. 2 for words shorter than a picker's head or a buffer shorter than the geometry in that head
+/// needs, 3 where no picker stands.
 pub fn standing<'a>(picker: Option<&'a PiecePicker>, lent: &Lent) -> Judgement<&'a PiecePicker> {
-    refuse_if(lent.memory.is_some_and(|words| words < HEAD_WORDS), 2)?;
+    refuse_if(lent.memory.words.is_some_and(|words| words < HEAD_WORDS), 2)?;
     let picker = picker.ok_or(3)?;
     memory(&geometry(picker), lent)?;
     Ok(picker)
@@ -71,7 +75,7 @@ fn room_need(picker: &PiecePicker, room: &Room) -> u64 {
     let geometry = geometry(picker);
     match room {
         Room::Pieces => geometry.pieces as u64,
-        Room::Partials => geometry.pieces.min(MAX_PARTIALS) as u64,
+        Room::Partials => geometry.partials_need(),
         Room::BlocksPerPiece => geometry.blocks_per_piece as u64,
     }
 }

@@ -62,9 +62,17 @@ pub struct Pick {
     pub suggestions: Vec<i64>,
 }
 
+/// The lengths of the buffers that the picker stands in. None: as long as it needs.
+#[derive(Default)]
+pub struct Memory {
+    pub words: Option<u64>,
+    pub cells: Option<u64>,
+    pub partials: Option<u64>,
+}
+
 /// What a call is lent. None: as much as it needs.
 pub struct Lent {
-    pub memory: Option<u64>,
+    pub memory: Memory,
     pub room: Option<u64>,
     pub draws: Words,
     pub free: u64,
@@ -198,11 +206,13 @@ fn parse_question(question: &'static Question, arguments: &mut Arguments) -> Res
 }
 
 fn parse_options<'a>(words: impl Iterator<Item = &'a str>, what: &What) -> Result<Lent, String> {
-    let (mut memory, mut room, mut draws, mut free) = (None, None, None, None);
+    let (mut memory, mut room, mut draws, mut free) = (Memory::default(), None, None, None);
     for word in words {
         let (name, value) = word.split_once('=').ok_or_else(|| format!("not an option: {}", quoted(word)))?;
         let before = match name {
-            "mem" => memory.replace(length(value)?).is_some(),
+            "words" => memory.words.replace(length(value)?).is_some(),
+            "cells" => memory.cells.replace(length(value)?).is_some(),
+            "partials" => memory.partials.replace(length(value)?).is_some(),
             "draws" if what.may_draw() => draws.replace(parse_draws(value)?).is_some(),
             "room" if what.takes_room() => room.replace(length(value)?).is_some(),
             "free" if matches!(what, What::Pick(_)) => free.replace(length(value)?).is_some(),

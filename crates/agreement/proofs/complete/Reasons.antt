@@ -40,7 +40,7 @@ pub record Needed (k : ℕ) (s : Picker) (a : PickRequest) (i j : ℕ) : Type 0 
   pub alone : (why : PassedOver s a i) → numberOf s a i why ≡ k
 
 abbrev call : Action → Call
-call x = record { lent = 1000000; action = x }
+call x = record { lent = record { words = 1000000; cells = 1000000; partials = 1000000 }; action = x }
 
 abbrev draws : Draws
 draws = replicate 4352 0

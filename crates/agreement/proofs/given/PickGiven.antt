@@ -20,7 +20,8 @@ use Rattle.model.specs.change.Partials.{partialOf, blockAt}
 use Rattle.model.specs.pick.Blocks.{PickRequest, option, hasBit, PieceBlock, pieceBlock, requestedFrom, isPieceFree, canPick}
 use Rattle.model.specs.pick.Pick.{effectiveRequest, pickPieces, noPartial}
 use Rattle.model.specs.image.Sound.{Sound}
-use Rattle.model.specs.Calls.{picked, check, refuseFewDraws, refusal, bitfieldFits, requestFits, memoryNeeded}
+use Rattle.model.specs.Calls.{picked, check, refuseFewDraws, refusal, bitfieldFits, requestFits}
+use Rattle.model.specs.Memory.{Memory, memoryNeeded, isShort}
 use Rattle.model.specs.Calls.{pick-pieces, lentRequest, answering, picking, act, unlessRefused, step}
 use Rattle.model.proofs.base.Truths.{and-left, and-right, three-true}
 use Rattle.model.proofs.sound.PartialLaws.{findDlPiece-at}
@@ -137,13 +138,13 @@ unfolding requestFits lentRequest option bitfieldFits
 lent-fits s a = refl
 
 -- an answer with blocks: the request is in range, and they are what the pick gave
-answered-fits : (s : Picker) (lent : ℕ) (a : PickRequest) (free : ℕ) (draws : Draws) (blocks : List PieceBlock) (flags : ℕ)
+answered-fits : (s : Picker) (lent : Memory) (a : PickRequest) (free : ℕ) (draws : Draws) (blocks : List PieceBlock) (flags : ℕ)
     (loops : List ℕ) (used : ℕ)
     → step s (record { lent = lent; action = pick-pieces a free draws }) .answer ≡ picked blocks flags loops used
     → (requestFits s a ≡ true) × (pickPieces draws s (lentRequest a) .out ≡ blocks)
 unfolding step refusal refuseFewDraws check unlessRefused act picking answering
 answered-fits s lent a free draws blocks flags loops used e =
-    go (ltb lent (memoryNeeded s)) (ltb (len draws) minDraws) (not (requestFits s a))
+    go (isShort lent (memoryNeeded s)) (ltb (len draws) minDraws) (not (requestFits s a))
     (ltb free (a .wanted + a .contiguous + spareOutput)) refl e
   where
     go : (t₁ t₂ t₃ t₄ : Bool) → not (requestFits s a) ≡ t₃

@@ -59,11 +59,12 @@ use Rattle.model.specs.image.Image.{pieceOf, readPiece, peerFits, peerOf
 use Rattle.model.specs.image.Image.{getPieces, getBlocks, partialWith, getPartial, getPartials, readExtent, comes, getExtents}
 use Rattle.model.specs.image.Image.{readPlace, getOrder, getListing, getPicker, whole, readImage}
 use Rattle.model.specs.image.Program.{requestOf, readRequest, getJob, pickOf, jobAnswer, programAnswer, program}
-use Rattle.model.specs.Calls.{wordsNeeded, memoryNeeded, recordsNeeded, check, refuseFewDraws, refuseBadPiece, refuseBadBlock}
-use Rattle.model.specs.Calls.{peersFull, numPeersFull, blockThere, noPartialLeft, noPlace, questionRefusal, bitfieldFits, requestFits}
-use Rattle.model.specs.Calls.{refusal, answering, changeAnswer, changing, doing, lentPeer, lentRequest, picking, act, unlessRefused}
-use Rattle.model.specs.Calls.{step, answers, run, within, newPicker, readWithin, readPicker, takeImage}
+use Rattle.model.specs.Memory.{partialsNeeded, wordsNeeded, cellsNeeded, memoryFor, memoryNeeded, isShort}
+use Rattle.model.specs.Calls.{recordsNeeded, check, refuseFewDraws, refuseBadPiece, refuseBadBlock, peersFull, numPeersFull}
+use Rattle.model.specs.Calls.{blockThere, noPartialLeft, noPlace, questionRefusal, bitfieldFits, requestFits, refusal, answering}
+use Rattle.model.specs.Calls.{changeAnswer, changing, doing, lentPeer, lentRequest, picking, act, unlessRefused, step, answers, run}
+use Rattle.model.specs.Calls.{within, newPicker, readWithin, readPicker, takeImage}
 
 unfoldable pub everything : Unit {0}
-unfolding least from range rangeDown count filter every any nth len setNth removeNth lastOr reversed member placeOf each concatMap unless when branch repeat forEach walkUntil walk insertBy sortBy partsOf partLength sumTo numPieces pieceLength blockLength blockCount blockStart blockLengthAt wholePieceBlocks pieceBlocks pieceOfByte blockOfByte bitfieldBytes bitOf bitAt noneSet spareZero sameQueue isOpen sameBlockState samePeer hasPeer isDirty listOf noPiece noBlock withPeerCount withState withPriority withFlushed withPeer withBlocks withFlags withSeeds withCursors withPieces withPartials withRecentExtents withListing pieceAt withPiece piecesIn markDirty pieceSizeAt blocksPerPiece blocksInPiece payloadBlocksInPiece extentSize numExtents extentFor extentStart extentEnd validGeometry freshPiece new unlisted adjustment bucketNumber bucket rankOf rank draw groupStart groupSize carry turnLeft bring turnRight placed removed earlier later swap added addDraws groupLast groupDrawn changed changeDraws updated updateDraws inserted sorted shuffled runLength groupsShuffled groupDraws withBucket sortedPieces rebuilt rebuildDraws drawing noDraw updateIn update updatePiecesIn updatePieces changeAndUpdate risingFrom rising ListingOk findDlPiece partialOf blockAt blocksInState progress inQueue replaceIn replacePartial replaceBlock inDirection newState setState moveState updateStateOf updatePieceState freshBlock freshPartial insertIn addPartial addDownloadPiece dropPartial eraseDownloadPiece eraseAndUpdate quietly saying incPeerCount decPeerCount allPieces incRefcount breakOneSeed decRefcount incRefcountAll decRefcountAll flushedOrFiltered flushedOrFilteredRun cursorFrom reverseFrom emptyRange advanceCursors cursorsOnFilter filterChanges prioritySet setPiecePriority neighbours worthRecording recordable recordDownloadingPiece reverseAsked affinityAsked opened setBlock markFirst markOpening setDirection makePieceReverse unreversePiece requestedBy writtenBy finishedBy received request markDownloadingIn markAsDownloading markWritingIn markAsWriting pieceFlushed allFinished flushIf flushDone finishedPeer markFinishedIn markAsFinished freed canceled freeBlock cancelIn markAsCanceled released abortIn abortDownload lockIn lockPiece passIn piecePassed plain one flag passedIn havePiece filtered piecesWhere countWhere sum padBytesWhere numHave numFiltered numHaveFiltered counted copies lowest distributed info infoOf queueInfo queueSizes availability replyPicker listPicker ofPartial hashingIn finishedIn peersIn blockInfo stats replyPiece listPiece blockIn blockTest ofBlockThere numPeersOf downloaderOf replyBlock placeIn listPlace reply option hasBit startState spent withOut withContiguous withBackup withPicker ignore flagged steps isIgnored contiguousIsZero contiguousAbove shorter wholePieces isPieceFree canPick downBy upBy alone lowestStart spanFrom spanOf expandPiece piecesOf pieceBlock took contiguousMet contiguousOver spanStep takeSpan takePayload addNewPiece longer longestFree byAnother requestedFrom freeFrom enoughAside putAside setAside freeHalt takeFree keepingContiguous useFree addBlocksDownloading addPartialOf addStanding addBlocks appendBlocks forced isForced forcedRequest effectiveRequest startPick usable scanStep scanPartials partialCompareRarestFirst byRarity orderedPartials partialStep walkPartials pickScanned pickPartials visit suggest pickSuggested leadingTop visitBelowTop pickRange pickSequential inRange visitOutside rareStep reverseRareStep allFlushed foundFinished extentStep forgetExtent pickExtents pickForward pickRarest standsOpen onward trace sameTrace skipStep skipDone skip randStep takeAll arrive randomSpan randomPiece randomVisit ended marked lapEnds lapFrom lapStep walkOver ring pickRandom busyBlocks fullPartials noPartial swapRemove endGameTry endGameStep endGameDone pickEndGame withListUpdated pickListed pickMain pickRest phases pickPieces headOk pieceOk peerOk blockOk stateOk partialOk extentOk placeOk piecesOk partialsOk extentsOk orderOk listingOk wellFormed partialsFrom bodyLength bytesOf headRecord pieceRecord peerBytes blockRecord flagsOf partialRecords numberRecord image next numberOf field startsWith given judged obeying headOf readHead pieceOf readPiece peerFits peerOf blockOf readBlock lastFits readLastBlock readPartial getPieces getBlocks partialWith getPartial getPartials readExtent comes getExtents readPlace getOrder getListing getPicker whole readImage requestOf readRequest getJob pickOf jobAnswer programAnswer program wordsNeeded memoryNeeded recordsNeeded check refuseFewDraws refuseBadPiece refuseBadBlock peersFull numPeersFull blockThere noPartialLeft noPlace questionRefusal bitfieldFits requestFits refusal answering changeAnswer changing doing lentPeer lentRequest picking act unlessRefused step answers run within newPicker readWithin readPicker takeImage
+unfolding least from range rangeDown count filter every any nth len setNth removeNth lastOr reversed member placeOf each concatMap unless when branch repeat forEach walkUntil walk insertBy sortBy partsOf partLength sumTo numPieces pieceLength blockLength blockCount blockStart blockLengthAt wholePieceBlocks pieceBlocks pieceOfByte blockOfByte bitfieldBytes bitOf bitAt noneSet spareZero sameQueue isOpen sameBlockState samePeer hasPeer isDirty listOf noPiece noBlock withPeerCount withState withPriority withFlushed withPeer withBlocks withFlags withSeeds withCursors withPieces withPartials withRecentExtents withListing pieceAt withPiece piecesIn markDirty pieceSizeAt blocksPerPiece blocksInPiece payloadBlocksInPiece extentSize numExtents extentFor extentStart extentEnd validGeometry freshPiece new unlisted adjustment bucketNumber bucket rankOf rank draw groupStart groupSize carry turnLeft bring turnRight placed removed earlier later swap added addDraws groupLast groupDrawn changed changeDraws updated updateDraws inserted sorted shuffled runLength groupsShuffled groupDraws withBucket sortedPieces rebuilt rebuildDraws drawing noDraw updateIn update updatePiecesIn updatePieces changeAndUpdate risingFrom rising ListingOk findDlPiece partialOf blockAt blocksInState progress inQueue replaceIn replacePartial replaceBlock inDirection newState setState moveState updateStateOf updatePieceState freshBlock freshPartial insertIn addPartial addDownloadPiece dropPartial eraseDownloadPiece eraseAndUpdate quietly saying incPeerCount decPeerCount allPieces incRefcount breakOneSeed decRefcount incRefcountAll decRefcountAll flushedOrFiltered flushedOrFilteredRun cursorFrom reverseFrom emptyRange advanceCursors cursorsOnFilter filterChanges prioritySet setPiecePriority neighbours worthRecording recordable recordDownloadingPiece reverseAsked affinityAsked opened setBlock markFirst markOpening setDirection makePieceReverse unreversePiece requestedBy writtenBy finishedBy received request markDownloadingIn markAsDownloading markWritingIn markAsWriting pieceFlushed allFinished flushIf flushDone finishedPeer markFinishedIn markAsFinished freed canceled freeBlock cancelIn markAsCanceled released abortIn abortDownload lockIn lockPiece passIn piecePassed plain one flag passedIn havePiece filtered piecesWhere countWhere sum padBytesWhere numHave numFiltered numHaveFiltered counted copies lowest distributed info infoOf queueInfo queueSizes availability replyPicker listPicker ofPartial hashingIn finishedIn peersIn blockInfo stats replyPiece listPiece blockIn blockTest ofBlockThere numPeersOf downloaderOf replyBlock placeIn listPlace reply option hasBit startState spent withOut withContiguous withBackup withPicker ignore flagged steps isIgnored contiguousIsZero contiguousAbove shorter wholePieces isPieceFree canPick downBy upBy alone lowestStart spanFrom spanOf expandPiece piecesOf pieceBlock took contiguousMet contiguousOver spanStep takeSpan takePayload addNewPiece longer longestFree byAnother requestedFrom freeFrom enoughAside putAside setAside freeHalt takeFree keepingContiguous useFree addBlocksDownloading addPartialOf addStanding addBlocks appendBlocks forced isForced forcedRequest effectiveRequest startPick usable scanStep scanPartials partialCompareRarestFirst byRarity orderedPartials partialStep walkPartials pickScanned pickPartials visit suggest pickSuggested leadingTop visitBelowTop pickRange pickSequential inRange visitOutside rareStep reverseRareStep allFlushed foundFinished extentStep forgetExtent pickExtents pickForward pickRarest standsOpen onward trace sameTrace skipStep skipDone skip randStep takeAll arrive randomSpan randomPiece randomVisit ended marked lapEnds lapFrom lapStep walkOver ring pickRandom busyBlocks fullPartials noPartial swapRemove endGameTry endGameStep endGameDone pickEndGame withListUpdated pickListed pickMain pickRest phases pickPieces headOk pieceOk peerOk blockOk stateOk partialOk extentOk placeOk piecesOk partialsOk extentsOk orderOk listingOk wellFormed partialsFrom bodyLength bytesOf headRecord pieceRecord peerBytes blockRecord flagsOf partialRecords numberRecord image next numberOf field startsWith given judged obeying headOf readHead pieceOf readPiece peerFits peerOf blockOf readBlock lastFits readLastBlock readPartial getPieces getBlocks partialWith getPartial getPartials readExtent comes getExtents readPlace getOrder getListing getPicker whole readImage requestOf readRequest getJob pickOf jobAnswer programAnswer program partialsNeeded wordsNeeded cellsNeeded memoryFor memoryNeeded isShort recordsNeeded check refuseFewDraws refuseBadPiece refuseBadBlock peersFull numPeersFull blockThere noPartialLeft noPlace questionRefusal bitfieldFits requestFits refusal answering changeAnswer changing doing lentPeer lentRequest picking act unlessRefused step answers run within newPicker readWithin readPicker takeImage
 everything = tt

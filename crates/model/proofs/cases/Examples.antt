@@ -15,6 +15,7 @@ use Rattle.model.specs.pick.Blocks.{PickRequest, pieceBlock}
 use Rattle.model.specs.Calls.{Action, question, inc-refcount, dec-refcount, inc-refcount-all, set-piece-priority, mark-as-downloading}
 use Rattle.model.specs.Calls.{mark-as-writing, mark-as-finished, mark-as-canceled, abort-download, piece-passed, pick-pieces, Call}
 use Rattle.model.specs.Calls.{refused, done, said, replied, picked, answers}
+use Rattle.model.specs.Memory.{Memory}
 use Rattle.model.specs.image.Program.{program}
 use Rattle.model.proofs.cases.Everything.{everything}
 
@@ -28,8 +29,11 @@ draws = lent 4352 []
 abbrev asking : ℕ → ℕ → ℕ → ℕ → Option ℕ → ℕ → List ℕ → List ℕ → PickRequest
 asking o n r p q b bs ss = record { options = o; wanted = n; contiguous = r; peers = p; peer = q; bits = b; bytes = bs; suggestions = ss }
 
+abbrev lending : ℕ → ℕ → ℕ → Memory
+lending w c p = record { words = w; cells = c; partials = p }
+
 abbrev call : Action → Call
-call x = record { lent = 1000000; action = x }
+call x = record { lent = lending 1000000 1000000 1000000; action = x }
 
 -- document 01's pick program: its image and its pick record, a record to a line
 example : List ℕ
@@ -128,7 +132,7 @@ table-order :
     ∷ call (mark-as-downloading 0 1 none 0 draws)
     ∷ call (dec-refcount 1 (lent 4351 []))
     ∷ call (mark-as-downloading 1 0 none 0 (lent 4351 []))
-    ∷ record { lent = 1; action = mark-as-downloading 1 0 none 0 [] }
+    ∷ record { lent = lending 1 1 1; action = mark-as-downloading 1 0 none 0 [] }
     ∷ [])
     ≡ said true 0
     ∷ done 0
@@ -142,6 +146,18 @@ table-order :
     ∷ []
 unfolding everything
 table-order = refl
+
+-- one piece of one block in memory that is just enough, and with each buffer one too short
+each-buffer :
+    answers (new 16384 16384)
+    (record { lent = lending 19 7 1; action = question (ofPiece have-piece 0) }
+    ∷ record { lent = lending 18 7 1; action = question (ofPiece have-piece 0) }
+    ∷ record { lent = lending 19 6 1; action = question (ofPiece have-piece 0) }
+    ∷ record { lent = lending 19 7 0; action = question (ofPiece have-piece 0) }
+    ∷ [])
+    ≡ replied (one 0) ∷ refused ShortMemory ∷ refused ShortMemory ∷ refused ShortMemory ∷ []
+unfolding everything
+each-buffer = refl
 
 -- a Writing block marked again is answered false and takes the peer; a had piece finished again is accepted
 writing-again :

@@ -9,7 +9,7 @@ use mathlib.Core.Option.{Option, none, some}
 use lib.ListN.{length, getElem?}
 use lib.Seq.{ext-getD}
 use lib.Dec.{leb}
-use borrow.Author.Tests.{le-ltb, lt-leb, leb-true}
+use borrow.Author.Tests.{lt-leb, leb-true}
 use Rattle.types.specs.declared.refusal.Refusal.{Refusal}
 use Rattle.types.specs.declared.refusal.Refusal.the-variants.{OutOfRange}
 use Rattle.model.specs.Lists.{bit, len, each, nth}
@@ -24,10 +24,11 @@ use Rattle.model.specs.ask.Questions.{reply, replyPicker, replyPiece, re
 use Rattle.model.specs.ask.Questions.{listPlace}
 use Rattle.model.specs.Calls.{refuseBadPiece as pieceRefusal, refuseBadBlock as blockRefusal, Call, question, Answer, refused}
 use Rattle.model.specs.Calls.{replied, step, answers, act, answering, unlessRefused, check, refusal, questionRefusal, noPlace}
-use Rattle.model.specs.Calls.{memoryNeeded}
+use Rattle.model.specs.Memory.{Memory, memoryNeeded, isShort}
 use Rattle.model.specs.image.Sound.{Sound, PartialSound}
 use Rattle.types.proofs.QueueNumbers.{queue-numbers}
 use Rattle.types.proofs.BlockNumbers.{block-state-numbers}
+use Rattle.model.proofs.base.MemoryLaws.{enough-long}
 use Rattle.model.proofs.sound.PieceLaws.{pieceAt-beyond}
 use Rattle.model.proofs.sound.PartialLaws.{partials-same}
 
@@ -81,9 +82,22 @@ elements-end (x ∷ xs) (suc k) h = elements-end xs k (omega arith)
 abbrev answered : Picker → Question → Answer
 answered u q = unlessRefused (questionRefusal u q) u (question q) .answer
 
-with-memory : (u : Picker) (q : Question) (n : ℕ) → memoryNeeded u ≤ n → step u (record { lent = n; action = question q }) .answer ≡ answered u q
+with-memory : (u : Picker) (q : Question) (m : Memory) → isShort m (memoryNeeded u) ≡ false
+    → step u (record { lent = m; action = question q }) .answer ≡ answered u q
 unfolding step refusal check
-with-memory u q n h = rw (le-ltb n (memoryNeeded u) h)
+with-memory u q m h = rw h
+
+-- memory enough for one and the other
+memories : (m n : Memory) → Memory
+memories m n = record { words = m .words + n .words; cells = m .cells + n .cells; partials = m .partials + n .partials }
+
+one-fits : (m n : Memory) → isShort (memories m n) m ≡ false
+unfolding memories
+one-fits m n = enough-long (memories m n) m (record { words = omega arith; cells = omega arith; partials = omega arith })
+
+other-fits : (m n : Memory) → isShort (memories m n) n ≡ false
+unfolding memories
+other-fits m n = enough-long (memories m n) n (record { words = omega arith; cells = omega arith; partials = omega arith })
 
 unrefused : (u : Picker) (q : Question) → questionRefusal u q ≡ none → answered u q ≡ replied (reply u q)
 unfolding unlessRefused act answering
@@ -127,11 +141,12 @@ module _ (s t : Picker) (same : (cs : List Call) → answers s cs ≡ answers t 
   asked : (q : Question) → answered s q ≡ answered t q
   unfolding answers
   asked q =
-      let n = memoryNeeded s + memoryNeeded t in
-      let c : Call = record { lent = n; action = question q } in
+      let m = memories (memoryNeeded s) (memoryNeeded t) in
+      let c : Call = record { lent = m; action = question q } in
       let e = same (c ∷ []) in
       let f : step s c .answer ≡ step t c .answer = cc in
-      sym (with-memory s q n (omega arith)) ∙ f ∙ with-memory t q n (omega arith)
+      sym (with-memory s q m (one-fits (memoryNeeded s) (memoryNeeded t))) ∙ f
+      ∙ with-memory t q m (other-fits (memoryNeeded s) (memoryNeeded t))
 
   asks : (q : Question) → questionRefusal s q ≡ none → questionRefusal t q ≡ none → reply s q ≡ reply t q
   asks q h k =

@@ -22,11 +22,12 @@ use Rattle.model.specs.ask.Questions.{blockIn, blockTest}
 use Rattle.model.specs.pick.Blocks.{PickRequest, option}
 use Rattle.model.specs.image.WellFormed.{peerOk}
 use Rattle.model.specs.image.Sound.{Sound}
+use Rattle.model.specs.Memory.{memoryNeeded, isShort}
 use Rattle.model.specs.Calls.{Action, question, inc-refcount, dec-refcount, inc-refcount-all, dec-refcount-all, set-piece-priority}
 use Rattle.model.specs.Calls.{mark-as-downloading, mark-as-writing, mark-as-finished, mark-as-canceled, abort-download, lock-piece}
 use Rattle.model.specs.Calls.{piece-passed, pick-pieces, Call, check, refuseFewDraws, refuseBadPiece as pastPieces}
 use Rattle.model.specs.Calls.{refuseBadBlock as pastBlocks, peersFull, numPeersFull, blockThere, noPartialLeft, bitfieldFits}
-use Rattle.model.specs.Calls.{requestFits, refusal, memoryNeeded, answering, changing, doing, lentPeer, lentRequest, picking, act}
+use Rattle.model.specs.Calls.{requestFits, refusal, answering, changing, doing, lentPeer, lentRequest, picking, act}
 use Rattle.model.specs.Calls.{unlessRefused, step, run}
 use Rattle.model.proofs.keep.KeepCounts.{incRefcount-keeps, decRefcount-keeps, incRefcountAll-keeps, decRefcountAll-keeps}
 use Rattle.model.proofs.keep.KeepBlocks.{lockPiece-keeps}
@@ -141,11 +142,11 @@ act-keeps s (pick-pieces a free ds) v e = pick-sound ds s (lentRequest a) v (pic
 -- a call, refused or not
 pub step-keeps : (s : Picker) (c : Call) → Sound s → Sound (step s c .after)
 unfolding step unlessRefused answering
-step-keeps s c v = go (check (ltb (c .lent) (memoryNeeded s)) ShortMemory (refusal s (c .action))) refl
+step-keeps s c v = go (check (isShort (c .lent) (memoryNeeded s)) ShortMemory (refusal s (c .action))) refl
   where
-    go : (r : Option Refusal) → check (ltb (c .lent) (memoryNeeded s)) ShortMemory (refusal s (c .action)) ≡ r
+    go : (r : Option Refusal) → check (isShort (c .lent) (memoryNeeded s)) ShortMemory (refusal s (c .action)) ≡ r
         → Sound (unlessRefused r s (c .action) .after)
-    go none e = act-keeps s (c .action) v (check-none (ltb (c .lent) (memoryNeeded s)) ShortMemory (refusal s (c .action)) e .1)
+    go none e = act-keeps s (c .action) v (check-none (isShort (c .lent) (memoryNeeded s)) ShortMemory (refusal s (c .action)) e .1)
     go (some n) e = v
 
 -- any calls, one after another

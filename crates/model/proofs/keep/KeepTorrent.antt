@@ -3,7 +3,6 @@ use mathlib.Core.Path.{_≡_, refl, ap, ap₂}
 use Prim.Native.Nat.{ℕ}
 use mathlib.Core.List.{List, [], _∷_}
 use mathlib.Core.Option.{Option, none, some}
-use lib.Dec.{ltb}
 use Rattle.types.specs.declared.refusal.Refusal.{Refusal}
 use Rattle.types.specs.declared.refusal.Refusal.the-variants.{ShortMemory}
 use Rattle.model.specs.Lists.{len}
@@ -15,7 +14,8 @@ use Rattle.model.specs.pick.Pick.{pickPieces}
 use Rattle.model.specs.Calls.{Action, question, inc-refcount, dec-refcount, inc-refcount-all, dec-refcount-all, set-piece-priority}
 use Rattle.model.specs.Calls.{mark-as-downloading, mark-as-writing, mark-as-finished, mark-as-canceled, abort-download, lock-piece}
 use Rattle.model.specs.Calls.{piece-passed, pick-pieces, Call, answering, changing, doing, lentPeer, lentRequest, picking, act, check}
-use Rattle.model.specs.Calls.{refusal, unlessRefused, step, run, wordsNeeded, memoryNeeded}
+use Rattle.model.specs.Memory.{memoryFor, memoryNeeded, isShort}
+use Rattle.model.specs.Calls.{refusal, unlessRefused, step, run}
 use Rattle.model.proofs.pick.SoundPick.{ask-fits, OnlyLists, pick-only}
 use Rattle.model.proofs.keep.KeepCalls.{check-none, pick-fits}
 use Rattle.model.proofs.keep.ChangeParts.{SameTorrent, same-torrent, torrent-then, inc-part, dec-part, inc-all-torrent}
@@ -48,11 +48,11 @@ act-torrent s (pick-pieces a free ds) e =
 -- a call, refused or not
 pub step-torrent : (s : Picker) (c : Call) → SameTorrent s (step s c .after)
 unfolding step unlessRefused answering
-step-torrent s c = go (check (ltb (c .lent) (memoryNeeded s)) ShortMemory (refusal s (c .action))) refl
+step-torrent s c = go (check (isShort (c .lent) (memoryNeeded s)) ShortMemory (refusal s (c .action))) refl
   where
-    go : (r : Option Refusal) → check (ltb (c .lent) (memoryNeeded s)) ShortMemory (refusal s (c .action)) ≡ r
+    go : (r : Option Refusal) → check (isShort (c .lent) (memoryNeeded s)) ShortMemory (refusal s (c .action)) ≡ r
         → SameTorrent s (unlessRefused r s (c .action) .after)
-    go none e = act-torrent s (c .action) (check-none (ltb (c .lent) (memoryNeeded s)) ShortMemory (refusal s (c .action)) e .1)
+    go none e = act-torrent s (c .action) (check-none (isShort (c .lent) (memoryNeeded s)) ShortMemory (refusal s (c .action)) e .1)
     go (some why) e = same-torrent s
 
 -- any calls, one after another
@@ -65,7 +65,7 @@ run-torrent s (c ∷ cs) = torrent-then (step-torrent s c) (run-torrent (step s 
 -- it is that of the torrent
 torrent-memory : (s t : Picker) → SameTorrent s t → memoryNeeded t ≡ memoryNeeded s
 unfolding memoryNeeded blocksPerPiece
-torrent-memory s t e = ap₂ wordsNeeded (e .many) (ap wholePieceBlocks (e .pieceSize))
+torrent-memory s t e = ap₂ memoryFor (e .many) (ap wholePieceBlocks (e .pieceSize))
 
 -- no call changes it
 pub run-memory : (s : Picker) (cs : List Call) → memoryNeeded (run s cs) ≡ memoryNeeded s
