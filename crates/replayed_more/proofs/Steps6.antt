@@ -1,4 +1,4 @@
--- Recorded calls 5741 to 8290, those that are replayed, computed. Written by compare/steps.py: not to be edited.
+-- Recorded calls 5741 to 8299, those that are replayed, computed. Written by compare/steps.py: not to be edited.
 use mathlib.Core.Path.{_≡_, refl}
 use mathlib.Core.Bool.{true, false}
 use Prim.Native.Nat.{ℕ}
@@ -476,18 +476,18 @@ calls-6462 :
 unfolding replaying
 calls-6462 = refl
 
--- call 6513
-calls-6513 :
+-- call 6522
+calls-6522 :
     outcomes none
     (new-line (lending 1727 1000000 1000000) 600 1
     ∷ [])
     ≡ outcome (notDone ShortMemory) []
     ∷ []
 unfolding replaying
-calls-6513 = refl
+calls-6522 = refl
 
-abbrev image-6548 : List ℕ
-image-6548 =
+abbrev image-6557 : List ℕ
+image-6557 =
     1 ∷ 0 ∷ 0 ∷ 0 ∷ 0 ∷ 0 ∷ 1 ∷ 127 ∷ 251 ∷ 0 ∷ 0 ∷ 128 ∷ 0 ∷ 0 ∷ 1 ∷ 0 ∷ 0 ∷ 0 ∷ 0 ∷ 0 ∷ 0 ∷ 0 ∷ 3 ∷ 1 ∷
     2 ∷ 0 ∷ 2 ∷ 1 ∷ 7 ∷ 0 ∷ 0 ∷ 0 ∷ 64 ∷ 0 ∷
     2 ∷ 0 ∷ 0 ∷ 4 ∷ 0 ∷ 0 ∷ 0 ∷ 0 ∷ 0 ∷ 0 ∷
@@ -497,10 +497,10 @@ image-6548 =
     4 ∷ 3 ∷ 0 ∷ 0 ∷ 0 ∷ 0 ∷ 0 ∷ 0 ∷ 0 ∷ 0 ∷ 0 ∷ 0 ∷ 0 ∷
     5 ∷ 0 ∷ 0 ∷ 0 ∷ 0 ∷ []
 
--- calls 6548 to 6627
-calls-6548 :
+-- calls 6557 to 6636
+calls-6557 :
     outcomes none
-    (read-line plenty image-6548
+    (read-line plenty image-6557
     ∷ call-line plenty (question (ofPicker num-pieces))
     ∷ call-line plenty (question (ofPicker block-size))
     ∷ call-line plenty (question (ofPicker blocks-per-piece))
@@ -581,106 +581,106 @@ calls-6548 :
     ∷ call-line plenty (question (ofPiece passed-hash-check 0))
     ∷ call-line plenty (question (ofPiece passed-hash-check 1))
     ∷ [])
-    ≡ outcome stands image-6548
-    ∷ outcome (answered (replied (numbers ((some 3) ∷ [])))) image-6548
-    ∷ outcome (answered (replied (numbers ((some 16384) ∷ [])))) image-6548
-    ∷ outcome (answered (replied (numbers ((some 2) ∷ [])))) image-6548
-    ∷ outcome (answered (replied (numbers ((some 16391) ∷ [])))) image-6548
-    ∷ outcome (answered (replied (numbers ((some 0) ∷ [])))) image-6548
-    ∷ outcome (answered (replied (numbers ((some 3) ∷ [])))) image-6548
-    ∷ outcome (answered (replied (numbers ((some 1) ∷ [])))) image-6548
-    ∷ outcome (answered (replied (numbers ((some 1) ∷ [])))) image-6548
-    ∷ outcome (answered (replied (numbers ((some 0) ∷ [])))) image-6548
-    ∷ outcome (answered (replied (numbers ((some 1) ∷ [])))) image-6548
-    ∷ outcome (answered (replied (numbers ((some 0) ∷ [])))) image-6548
-    ∷ outcome (answered (replied (numbers ((some 0) ∷ [])))) image-6548
-    ∷ outcome (answered (replied (numbers ((some 1) ∷ [])))) image-6548
-    ∷ outcome (answered (replied (numbers ((some 1) ∷ [])))) image-6548
-    ∷ outcome (answered (replied (numbers ((some 1) ∷ (some 666) ∷ [])))) image-6548
-    ∷ outcome (answered (replied (numbers ((some 2) ∷ (some 16391) ∷ (some 1) ∷ [])))) image-6548
-    ∷ outcome (answered (replied (numbers ((some 1) ∷ (some 7) ∷ (some 1) ∷ [])))) image-6548
-    ∷ outcome (answered (replied (numbers ((some 1) ∷ (some 7) ∷ (some 1) ∷ [])))) image-6548
-    ∷ outcome (answered (replied (numbers ((some 3) ∷ (some 16391) ∷ (some 1) ∷ [])))) image-6548
-    ∷ outcome (answered (replied (numbers ((some 0) ∷ (some 1) ∷ (some 0) ∷ (some 0) ∷ [])))) image-6548
-    ∷ outcome (answered (replied (numbers ((some 3) ∷ (some 1) ∷ (some 2) ∷ [])))) image-6548
-    ∷ outcome (answered (replied (numbers ((some 7) ∷ (some 0) ∷ (some 4) ∷ [])))) image-6548
-    ∷ outcome (answered (replied (numbers ((some 0) ∷ (some 1) ∷ (some 0) ∷ (some 0) ∷ (some 1) ∷ (some 1) ∷ (some 1) ∷ [])))) image-6548
-    ∷ outcome (answered (replied (numbers ((some 98299) ∷ [])))) image-6548
-    ∷ outcome (answered (replied (numbers ((some 32768) ∷ [])))) image-6548
-    ∷ outcome (answered (replied (numbers ((some 1) ∷ [])))) image-6548
-    ∷ outcome (answered (replied (numbers ((some 2) ∷ [])))) image-6548
-    ∷ outcome (answered (replied (numbers ((some 2) ∷ [])))) image-6548
-    ∷ outcome (answered (replied (numbers ((some 2) ∷ [])))) image-6548
-    ∷ outcome (answered (replied (numbers ((some 1) ∷ [])))) image-6548
-    ∷ outcome (answered (replied (numbers ((some 2) ∷ [])))) image-6548
-    ∷ outcome (answered (replied (numbers ((some 2) ∷ [])))) image-6548
-    ∷ outcome (answered (replied (numbers ((some 32768) ∷ [])))) image-6548
-    ∷ outcome (answered (replied (numbers ((some 32768) ∷ [])))) image-6548
-    ∷ outcome (answered (replied (numbers ((some 32763) ∷ [])))) image-6548
-    ∷ outcome (answered (replied (numbers ((some 16384) ∷ [])))) image-6548
-    ∷ outcome (answered (replied (numbers ((some 0) ∷ [])))) image-6548
-    ∷ outcome (answered (replied (numbers ((some 7) ∷ [])))) image-6548
-    ∷ outcome (answered (replied (numbers ((some 3) ∷ [])))) image-6548
-    ∷ outcome (answered (replied (numbers ((some 1) ∷ [])))) image-6548
-    ∷ outcome (answered (replied (numbers ((some 2) ∷ [])))) image-6548
-    ∷ outcome (answered (replied (numbers ((some 0) ∷ [])))) image-6548
-    ∷ outcome (answered (replied (numbers ((some 0) ∷ [])))) image-6548
-    ∷ outcome (answered (replied (numbers ((some 1) ∷ [])))) image-6548
-    ∷ outcome (answered (replied (numbers ((some 0) ∷ [])))) image-6548
-    ∷ outcome (answered (replied (numbers ((some 0) ∷ [])))) image-6548
-    ∷ outcome (answered (replied (numbers ((some 1) ∷ [])))) image-6548
-    ∷ outcome (answered (replied (numbers ((some 1) ∷ [])))) image-6548
-    ∷ outcome (answered (replied (numbers ((some 0) ∷ [])))) image-6548
-    ∷ outcome (answered (replied (numbers ((some 0) ∷ [])))) image-6548
-    ∷ outcome (answered (replied (numbers ((some 1) ∷ [])))) image-6548
-    ∷ outcome (answered (replied (numbers ((some 0) ∷ [])))) image-6548
-    ∷ outcome (answered (replied (numbers ((some 0) ∷ [])))) image-6548
-    ∷ outcome (answered (replied (numbers ((some 0) ∷ [])))) image-6548
-    ∷ outcome (answered (replied (numbers ((some 0) ∷ [])))) image-6548
-    ∷ outcome (answered (replied (numbers ((some 1) ∷ [])))) image-6548
-    ∷ outcome (answered (replied (numbers ((some 7) ∷ [])))) image-6548
-    ∷ outcome (answered (replied (numbers ((some 0) ∷ [])))) image-6548
-    ∷ outcome (answered (replied (numbers ((some 4) ∷ [])))) image-6548
-    ∷ outcome (answered (replied (numbers ((some 3) ∷ none ∷ (some 0) ∷ (some 1) ∷ [])))) image-6548
-    ∷ outcome (answered (replied (numbers ((some 1) ∷ none ∷ (some 0) ∷ (some 0) ∷ [])))) image-6548
-    ∷ outcome (answered (replied (numbers ((some 2) ∷ none ∷ (some 1) ∷ (some 0) ∷ [])))) image-6548
-    ∷ outcome (answered (replied (numbers ((some 0) ∷ (some 1) ∷ (some 0) ∷ (some 0) ∷ (some 1) ∷ (some 1) ∷ (some 1) ∷ [])))) image-6548
-    ∷ outcome (answered (replied (numbers ((some 1) ∷ (some 0) ∷ (some 0) ∷ (some 0) ∷ (some 0) ∷ (some 0) ∷ (some 0) ∷ [])))) image-6548
-    ∷ outcome (answered (replied (numbers ((some 2) ∷ (some 2) ∷ (some 0) ∷ (some 0) ∷ (some 0) ∷ (some 0) ∷ (some 0) ∷ [])))) image-6548
-    ∷ outcome (answered (replied (numbers ((some 18446744073709551615) ∷ none ∷ [])))) image-6548
-    ∷ outcome (answered (replied (numbers (none ∷ none ∷ [])))) image-6548
-    ∷ outcome (answered (replied (numbers (none ∷ none ∷ [])))) image-6548
-    ∷ outcome (answered (replied (numbers ((some 1) ∷ (some 2) ∷ (some 18446744073709551615) ∷ (some 3) ∷ (some 0) ∷ none ∷ [])))) image-6548
-    ∷ outcome (answered (replied nothing)) image-6548
-    ∷ outcome (answered (replied nothing)) image-6548
-    ∷ outcome (answered (replied (numbers ((some 2) ∷ [])))) image-6548
-    ∷ outcome (answered (replied (numbers ((some 0) ∷ [])))) image-6548
-    ∷ outcome (answered (replied (numbers ((some 1) ∷ [])))) image-6548
-    ∷ outcome (answered (replied (numbers ((some 1) ∷ [])))) image-6548
-    ∷ outcome (answered (replied (numbers ((some 4) ∷ [])))) image-6548
-    ∷ outcome (answered (replied (numbers ((some 4) ∷ [])))) image-6548
-    ∷ outcome (answered (replied (numbers ((some 0) ∷ [])))) image-6548
-    ∷ outcome (answered (replied nothing)) image-6548
+    ≡ outcome stands image-6557
+    ∷ outcome (answered (replied (numbers ((some 3) ∷ [])))) image-6557
+    ∷ outcome (answered (replied (numbers ((some 16384) ∷ [])))) image-6557
+    ∷ outcome (answered (replied (numbers ((some 2) ∷ [])))) image-6557
+    ∷ outcome (answered (replied (numbers ((some 16391) ∷ [])))) image-6557
+    ∷ outcome (answered (replied (numbers ((some 0) ∷ [])))) image-6557
+    ∷ outcome (answered (replied (numbers ((some 3) ∷ [])))) image-6557
+    ∷ outcome (answered (replied (numbers ((some 1) ∷ [])))) image-6557
+    ∷ outcome (answered (replied (numbers ((some 1) ∷ [])))) image-6557
+    ∷ outcome (answered (replied (numbers ((some 0) ∷ [])))) image-6557
+    ∷ outcome (answered (replied (numbers ((some 1) ∷ [])))) image-6557
+    ∷ outcome (answered (replied (numbers ((some 0) ∷ [])))) image-6557
+    ∷ outcome (answered (replied (numbers ((some 0) ∷ [])))) image-6557
+    ∷ outcome (answered (replied (numbers ((some 1) ∷ [])))) image-6557
+    ∷ outcome (answered (replied (numbers ((some 1) ∷ [])))) image-6557
+    ∷ outcome (answered (replied (numbers ((some 1) ∷ (some 666) ∷ [])))) image-6557
+    ∷ outcome (answered (replied (numbers ((some 2) ∷ (some 16391) ∷ (some 1) ∷ [])))) image-6557
+    ∷ outcome (answered (replied (numbers ((some 1) ∷ (some 7) ∷ (some 1) ∷ [])))) image-6557
+    ∷ outcome (answered (replied (numbers ((some 1) ∷ (some 7) ∷ (some 1) ∷ [])))) image-6557
+    ∷ outcome (answered (replied (numbers ((some 3) ∷ (some 16391) ∷ (some 1) ∷ [])))) image-6557
+    ∷ outcome (answered (replied (numbers ((some 0) ∷ (some 1) ∷ (some 0) ∷ (some 0) ∷ [])))) image-6557
+    ∷ outcome (answered (replied (numbers ((some 3) ∷ (some 1) ∷ (some 2) ∷ [])))) image-6557
+    ∷ outcome (answered (replied (numbers ((some 7) ∷ (some 0) ∷ (some 4) ∷ [])))) image-6557
+    ∷ outcome (answered (replied (numbers ((some 0) ∷ (some 1) ∷ (some 0) ∷ (some 0) ∷ (some 1) ∷ (some 1) ∷ (some 1) ∷ [])))) image-6557
+    ∷ outcome (answered (replied (numbers ((some 98299) ∷ [])))) image-6557
+    ∷ outcome (answered (replied (numbers ((some 32768) ∷ [])))) image-6557
+    ∷ outcome (answered (replied (numbers ((some 1) ∷ [])))) image-6557
+    ∷ outcome (answered (replied (numbers ((some 2) ∷ [])))) image-6557
+    ∷ outcome (answered (replied (numbers ((some 2) ∷ [])))) image-6557
+    ∷ outcome (answered (replied (numbers ((some 2) ∷ [])))) image-6557
+    ∷ outcome (answered (replied (numbers ((some 1) ∷ [])))) image-6557
+    ∷ outcome (answered (replied (numbers ((some 2) ∷ [])))) image-6557
+    ∷ outcome (answered (replied (numbers ((some 2) ∷ [])))) image-6557
+    ∷ outcome (answered (replied (numbers ((some 32768) ∷ [])))) image-6557
+    ∷ outcome (answered (replied (numbers ((some 32768) ∷ [])))) image-6557
+    ∷ outcome (answered (replied (numbers ((some 32763) ∷ [])))) image-6557
+    ∷ outcome (answered (replied (numbers ((some 16384) ∷ [])))) image-6557
+    ∷ outcome (answered (replied (numbers ((some 0) ∷ [])))) image-6557
+    ∷ outcome (answered (replied (numbers ((some 7) ∷ [])))) image-6557
+    ∷ outcome (answered (replied (numbers ((some 3) ∷ [])))) image-6557
+    ∷ outcome (answered (replied (numbers ((some 1) ∷ [])))) image-6557
+    ∷ outcome (answered (replied (numbers ((some 2) ∷ [])))) image-6557
+    ∷ outcome (answered (replied (numbers ((some 0) ∷ [])))) image-6557
+    ∷ outcome (answered (replied (numbers ((some 0) ∷ [])))) image-6557
+    ∷ outcome (answered (replied (numbers ((some 1) ∷ [])))) image-6557
+    ∷ outcome (answered (replied (numbers ((some 0) ∷ [])))) image-6557
+    ∷ outcome (answered (replied (numbers ((some 0) ∷ [])))) image-6557
+    ∷ outcome (answered (replied (numbers ((some 1) ∷ [])))) image-6557
+    ∷ outcome (answered (replied (numbers ((some 1) ∷ [])))) image-6557
+    ∷ outcome (answered (replied (numbers ((some 0) ∷ [])))) image-6557
+    ∷ outcome (answered (replied (numbers ((some 0) ∷ [])))) image-6557
+    ∷ outcome (answered (replied (numbers ((some 1) ∷ [])))) image-6557
+    ∷ outcome (answered (replied (numbers ((some 0) ∷ [])))) image-6557
+    ∷ outcome (answered (replied (numbers ((some 0) ∷ [])))) image-6557
+    ∷ outcome (answered (replied (numbers ((some 0) ∷ [])))) image-6557
+    ∷ outcome (answered (replied (numbers ((some 0) ∷ [])))) image-6557
+    ∷ outcome (answered (replied (numbers ((some 1) ∷ [])))) image-6557
+    ∷ outcome (answered (replied (numbers ((some 7) ∷ [])))) image-6557
+    ∷ outcome (answered (replied (numbers ((some 0) ∷ [])))) image-6557
+    ∷ outcome (answered (replied (numbers ((some 4) ∷ [])))) image-6557
+    ∷ outcome (answered (replied (numbers ((some 3) ∷ none ∷ (some 0) ∷ (some 1) ∷ [])))) image-6557
+    ∷ outcome (answered (replied (numbers ((some 1) ∷ none ∷ (some 0) ∷ (some 0) ∷ [])))) image-6557
+    ∷ outcome (answered (replied (numbers ((some 2) ∷ none ∷ (some 1) ∷ (some 0) ∷ [])))) image-6557
+    ∷ outcome (answered (replied (numbers ((some 0) ∷ (some 1) ∷ (some 0) ∷ (some 0) ∷ (some 1) ∷ (some 1) ∷ (some 1) ∷ [])))) image-6557
+    ∷ outcome (answered (replied (numbers ((some 1) ∷ (some 0) ∷ (some 0) ∷ (some 0) ∷ (some 0) ∷ (some 0) ∷ (some 0) ∷ [])))) image-6557
+    ∷ outcome (answered (replied (numbers ((some 2) ∷ (some 2) ∷ (some 0) ∷ (some 0) ∷ (some 0) ∷ (some 0) ∷ (some 0) ∷ [])))) image-6557
+    ∷ outcome (answered (replied (numbers ((some 18446744073709551615) ∷ none ∷ [])))) image-6557
+    ∷ outcome (answered (replied (numbers (none ∷ none ∷ [])))) image-6557
+    ∷ outcome (answered (replied (numbers (none ∷ none ∷ [])))) image-6557
+    ∷ outcome (answered (replied (numbers ((some 1) ∷ (some 2) ∷ (some 18446744073709551615) ∷ (some 3) ∷ (some 0) ∷ none ∷ [])))) image-6557
+    ∷ outcome (answered (replied nothing)) image-6557
+    ∷ outcome (answered (replied nothing)) image-6557
+    ∷ outcome (answered (replied (numbers ((some 2) ∷ [])))) image-6557
+    ∷ outcome (answered (replied (numbers ((some 0) ∷ [])))) image-6557
+    ∷ outcome (answered (replied (numbers ((some 1) ∷ [])))) image-6557
+    ∷ outcome (answered (replied (numbers ((some 1) ∷ [])))) image-6557
+    ∷ outcome (answered (replied (numbers ((some 4) ∷ [])))) image-6557
+    ∷ outcome (answered (replied (numbers ((some 4) ∷ [])))) image-6557
+    ∷ outcome (answered (replied (numbers ((some 0) ∷ [])))) image-6557
+    ∷ outcome (answered (replied nothing)) image-6557
     ∷ []
 unfolding replaying
-calls-6548 = refl
+calls-6557 = refl
 
-abbrev image-6709 : List ℕ
-image-6709 =
+abbrev image-6718 : List ℕ
+image-6718 =
     1 ∷ 0 ∷ 0 ∷ 0 ∷ 0 ∷ 0 ∷ 1 ∷ 128 ∷ 0 ∷ 0 ∷ 0 ∷ 128 ∷ 0 ∷ 0 ∷ 0 ∷ 0 ∷ 0 ∷ 0 ∷ 0 ∷ 0 ∷ 0 ∷ 0 ∷ 3 ∷ 1 ∷
     2 ∷ 0 ∷ 0 ∷ 4 ∷ 4 ∷ 0 ∷ 0 ∷ 0 ∷ 0 ∷ 0 ∷
     2 ∷ 0 ∷ 0 ∷ 4 ∷ 4 ∷ 0 ∷ 0 ∷ 0 ∷ 0 ∷ 0 ∷
     2 ∷ 0 ∷ 0 ∷ 4 ∷ 4 ∷ 0 ∷ 0 ∷ 0 ∷ 0 ∷ 0 ∷ []
 
-abbrev image-6739 : List ℕ
-image-6739 =
+abbrev image-6748 : List ℕ
+image-6748 =
     1 ∷ 0 ∷ 0 ∷ 0 ∷ 0 ∷ 0 ∷ 1 ∷ 128 ∷ 0 ∷ 0 ∷ 0 ∷ 128 ∷ 0 ∷ 0 ∷ 0 ∷ 0 ∷ 0 ∷ 0 ∷ 0 ∷ 0 ∷ 0 ∷ 0 ∷ 3 ∷ 1 ∷
     2 ∷ 0 ∷ 0 ∷ 4 ∷ 4 ∷ 0 ∷ 0 ∷ 0 ∷ 0 ∷ 0 ∷
     2 ∷ 0 ∷ 0 ∷ 4 ∷ 4 ∷ 0 ∷ 0 ∷ 0 ∷ 0 ∷ 0 ∷
     2 ∷ 0 ∷ 1 ∷ 4 ∷ 4 ∷ 0 ∷ 0 ∷ 0 ∷ 0 ∷ 0 ∷ []
 
--- calls 6709 to 6749
-calls-6709 :
+-- calls 6718 to 6758
+calls-6718 :
     outcomes none
     (new-line (lending 28 30 3) 98304 32768
     ∷ call-line (lending 15 1000000 1000000) (question (ofPicker num-pieces))
@@ -721,69 +721,69 @@ calls-6709 :
     ∷ call-line plenty (question (ofBlock is-requested 0 2))
     ∷ call-line plenty (question (ofPiece blocks-in-piece 3))
     ∷ [])
-    ≡ outcome stands image-6709
-    ∷ outcome (answered (refused ShortMemory)) image-6709
-    ∷ outcome (answered (refused ShortMemory)) image-6709
-    ∷ outcome (answered (refused ShortMemory)) image-6709
-    ∷ outcome (answered (replied (numbers ((some 3) ∷ [])))) image-6709
-    ∷ outcome (answered (refused ShortMemory)) image-6709
-    ∷ outcome (answered (refused ShortMemory)) image-6709
-    ∷ outcome (answered (replied (numbers ((some 3) ∷ [])))) image-6709
-    ∷ outcome (answered (refused ShortMemory)) image-6709
-    ∷ outcome (answered (refused ShortMemory)) image-6709
-    ∷ outcome (answered (replied (numbers ((some 3) ∷ [])))) image-6709
-    ∷ outcome (answered (refused ShortMemory)) image-6709
-    ∷ outcome (answered (refused ShortMemory)) image-6709
-    ∷ outcome (answered (refused ShortMemory)) image-6709
-    ∷ outcome (answered (replied (numbers ((some 3) ∷ [])))) image-6709
-    ∷ outcome (notDone ShortMemory) image-6709
-    ∷ outcome (answered (replied (numbers ((some 3) ∷ [])))) image-6709
-    ∷ outcome (answered (refused ShortMemory)) image-6709
-    ∷ outcome (answered (replied (numbers ((some 4) ∷ (some 4) ∷ (some 4) ∷ [])))) image-6709
-    ∷ outcome (answered (refused ShortMemory)) image-6709
-    ∷ outcome (answered (replied (numbers []))) image-6709
-    ∷ outcome (answered (refused ShortMemory)) image-6709
-    ∷ outcome (answered (refused OutOfRange)) image-6709
-    ∷ outcome (answered (replied nothing)) image-6709
-    ∷ outcome (notDone ShortMemory) image-6709
-    ∷ outcome (bytesTaken (1 ∷ 0 ∷ 0 ∷ 0 ∷ 0 ∷ 0 ∷ 1 ∷ 128 ∷ 0 ∷ 0 ∷ 0 ∷ 128 ∷ 0 ∷ 0 ∷ 0 ∷ 0 ∷ 0 ∷ 0 ∷ 0 ∷ 0 ∷ 0 ∷ 0 ∷ 3 ∷ 1 ∷ 2 ∷ 0 ∷ 0 ∷ 4 ∷ 4 ∷ 0 ∷ 0 ∷ 0 ∷ 0 ∷ 0 ∷ 2 ∷ 0 ∷ 0 ∷ 4 ∷ 4 ∷ 0 ∷ 0 ∷ 0 ∷ 0 ∷ 0 ∷ 2 ∷ 0 ∷ 0 ∷ 4 ∷ 4 ∷ 0 ∷ 0 ∷ 0 ∷ 0 ∷ 0 ∷ [])) image-6709
-    ∷ outcome (answered (refused FewDraws)) image-6709
-    ∷ outcome (answered (refused OutOfRange)) image-6709
-    ∷ outcome (answered (refused OutOfRange)) image-6709
-    ∷ outcome (answered (done 0)) image-6739
-    ∷ outcome (answered (refused OutOfRange)) image-6739
-    ∷ outcome (answered (refused OutOfRange)) image-6739
-    ∷ outcome (answered (refused OutOfRange)) image-6739
-    ∷ outcome (answered (refused OutOfRange)) image-6739
-    ∷ outcome (answered (refused OutOfRange)) image-6739
-    ∷ outcome (answered (refused OutOfRange)) image-6739
-    ∷ outcome (answered (refused OutOfRange)) image-6739
-    ∷ outcome (answered (refused OutOfRange)) image-6739
+    ≡ outcome stands image-6718
+    ∷ outcome (answered (refused ShortMemory)) image-6718
+    ∷ outcome (answered (refused ShortMemory)) image-6718
+    ∷ outcome (answered (refused ShortMemory)) image-6718
+    ∷ outcome (answered (replied (numbers ((some 3) ∷ [])))) image-6718
+    ∷ outcome (answered (refused ShortMemory)) image-6718
+    ∷ outcome (answered (refused ShortMemory)) image-6718
+    ∷ outcome (answered (replied (numbers ((some 3) ∷ [])))) image-6718
+    ∷ outcome (answered (refused ShortMemory)) image-6718
+    ∷ outcome (answered (refused ShortMemory)) image-6718
+    ∷ outcome (answered (replied (numbers ((some 3) ∷ [])))) image-6718
+    ∷ outcome (answered (refused ShortMemory)) image-6718
+    ∷ outcome (answered (refused ShortMemory)) image-6718
+    ∷ outcome (answered (refused ShortMemory)) image-6718
+    ∷ outcome (answered (replied (numbers ((some 3) ∷ [])))) image-6718
+    ∷ outcome (notDone ShortMemory) image-6718
+    ∷ outcome (answered (replied (numbers ((some 3) ∷ [])))) image-6718
+    ∷ outcome (answered (refused ShortMemory)) image-6718
+    ∷ outcome (answered (replied (numbers ((some 4) ∷ (some 4) ∷ (some 4) ∷ [])))) image-6718
+    ∷ outcome (answered (refused ShortMemory)) image-6718
+    ∷ outcome (answered (replied (numbers []))) image-6718
+    ∷ outcome (answered (refused ShortMemory)) image-6718
+    ∷ outcome (answered (refused OutOfRange)) image-6718
+    ∷ outcome (answered (replied nothing)) image-6718
+    ∷ outcome (notDone ShortMemory) image-6718
+    ∷ outcome (bytesTaken (1 ∷ 0 ∷ 0 ∷ 0 ∷ 0 ∷ 0 ∷ 1 ∷ 128 ∷ 0 ∷ 0 ∷ 0 ∷ 128 ∷ 0 ∷ 0 ∷ 0 ∷ 0 ∷ 0 ∷ 0 ∷ 0 ∷ 0 ∷ 0 ∷ 0 ∷ 3 ∷ 1 ∷ 2 ∷ 0 ∷ 0 ∷ 4 ∷ 4 ∷ 0 ∷ 0 ∷ 0 ∷ 0 ∷ 0 ∷ 2 ∷ 0 ∷ 0 ∷ 4 ∷ 4 ∷ 0 ∷ 0 ∷ 0 ∷ 0 ∷ 0 ∷ 2 ∷ 0 ∷ 0 ∷ 4 ∷ 4 ∷ 0 ∷ 0 ∷ 0 ∷ 0 ∷ 0 ∷ [])) image-6718
+    ∷ outcome (answered (refused FewDraws)) image-6718
+    ∷ outcome (answered (refused OutOfRange)) image-6718
+    ∷ outcome (answered (refused OutOfRange)) image-6718
+    ∷ outcome (answered (done 0)) image-6748
+    ∷ outcome (answered (refused OutOfRange)) image-6748
+    ∷ outcome (answered (refused OutOfRange)) image-6748
+    ∷ outcome (answered (refused OutOfRange)) image-6748
+    ∷ outcome (answered (refused OutOfRange)) image-6748
+    ∷ outcome (answered (refused OutOfRange)) image-6748
+    ∷ outcome (answered (refused OutOfRange)) image-6748
+    ∷ outcome (answered (refused OutOfRange)) image-6748
+    ∷ outcome (answered (refused OutOfRange)) image-6748
     ∷ []
 unfolding replaying
-calls-6709 = refl
+calls-6718 = refl
 
-abbrev image-6797 : List ℕ
-image-6797 =
+abbrev image-6806 : List ℕ
+image-6806 =
     1 ∷ 0 ∷ 0 ∷ 0 ∷ 0 ∷ 0 ∷ 1 ∷ 128 ∷ 0 ∷ 0 ∷ 0 ∷ 128 ∷ 0 ∷ 0 ∷ 0 ∷ 0 ∷ 0 ∷ 0 ∷ 0 ∷ 0 ∷ 0 ∷ 0 ∷ 3 ∷ 1 ∷
     2 ∷ 0 ∷ 0 ∷ 4 ∷ 4 ∷ 0 ∷ 0 ∷ 0 ∷ 0 ∷ 0 ∷
     2 ∷ 0 ∷ 0 ∷ 4 ∷ 4 ∷ 0 ∷ 0 ∷ 0 ∷ 0 ∷ 0 ∷
     2 ∷ 0 ∷ 0 ∷ 4 ∷ 4 ∷ 0 ∷ 0 ∷ 0 ∷ 0 ∷ 0 ∷ []
 
--- calls 6797 to 6798
-calls-6797 :
+-- calls 6806 to 6807
+calls-6806 :
     outcomes none
     (new-line plenty 98304 32768
     ∷ call-line plenty (pick-pieces (asking 0 1 0 0 none 3 (224 ∷ []) []) 4351 (words 4351 []))
     ∷ [])
-    ≡ outcome stands image-6797
-    ∷ outcome (answered (refused FewDraws)) image-6797
+    ≡ outcome stands image-6806
+    ∷ outcome (answered (refused FewDraws)) image-6806
     ∷ []
 unfolding replaying
-calls-6797 = refl
+calls-6806 = refl
 
-abbrev image-6816 : List ℕ
-image-6816 =
+abbrev image-6825 : List ℕ
+image-6825 =
     1 ∷ 0 ∷ 0 ∷ 0 ∷ 0 ∷ 0 ∷ 1 ∷ 0 ∷ 0 ∷ 0 ∷ 0 ∷ 128 ∷ 0 ∷ 0 ∷ 0 ∷ 0 ∷ 0 ∷ 0 ∷ 0 ∷ 0 ∷ 0 ∷ 0 ∷ 2 ∷ 0 ∷
     2 ∷ 0 ∷ 1 ∷ 1 ∷ 4 ∷ 0 ∷ 0 ∷ 0 ∷ 0 ∷ 0 ∷
     2 ∷ 0 ∷ 1 ∷ 4 ∷ 4 ∷ 0 ∷ 0 ∷ 0 ∷ 0 ∷ 0 ∷
@@ -792,8 +792,8 @@ image-6816 =
     4 ∷ 0 ∷ 0 ∷ 0 ∷ 0 ∷ 0 ∷ 0 ∷ 0 ∷ 0 ∷ 0 ∷ 0 ∷ 0 ∷ 0 ∷
     6 ∷ 0 ∷ 0 ∷ 0 ∷ 1 ∷ []
 
-abbrev image-6818 : List ℕ
-image-6818 =
+abbrev image-6827 : List ℕ
+image-6827 =
     1 ∷ 0 ∷ 0 ∷ 0 ∷ 0 ∷ 0 ∷ 1 ∷ 0 ∷ 0 ∷ 0 ∷ 0 ∷ 128 ∷ 0 ∷ 0 ∷ 0 ∷ 0 ∷ 0 ∷ 0 ∷ 0 ∷ 0 ∷ 0 ∷ 0 ∷ 2 ∷ 1 ∷
     2 ∷ 0 ∷ 1 ∷ 5 ∷ 4 ∷ 0 ∷ 0 ∷ 0 ∷ 0 ∷ 0 ∷
     2 ∷ 0 ∷ 1 ∷ 4 ∷ 4 ∷ 0 ∷ 0 ∷ 0 ∷ 0 ∷ 0 ∷
@@ -801,38 +801,38 @@ image-6818 =
     4 ∷ 0 ∷ 0 ∷ 0 ∷ 0 ∷ 0 ∷ 0 ∷ 0 ∷ 0 ∷ 0 ∷ 0 ∷ 0 ∷ 0 ∷
     4 ∷ 1 ∷ 0 ∷ 1 ∷ 1 ∷ 0 ∷ 0 ∷ 0 ∷ 0 ∷ 0 ∷ 0 ∷ 0 ∷ 3 ∷ []
 
--- calls 6816 to 6819
-calls-6816 :
+-- calls 6825 to 6828
+calls-6825 :
     outcomes none
-    (read-line plenty image-6816
+    (read-line plenty image-6825
     ∷ call-line plenty (question (list-place 0))
     ∷ call-line plenty (mark-as-downloading 0 1 (some 3) 2 (words 4352 []))
     ∷ call-line plenty (question (list-place 0))
     ∷ [])
-    ≡ outcome stands image-6816
-    ∷ outcome (answered (replied (numbers ((some 1) ∷ [])))) image-6816
-    ∷ outcome (answered (said true 0)) image-6818
-    ∷ outcome (answered (replied staleList)) image-6818
+    ≡ outcome stands image-6825
+    ∷ outcome (answered (replied (numbers ((some 1) ∷ [])))) image-6825
+    ∷ outcome (answered (said true 0)) image-6827
+    ∷ outcome (answered (replied staleList)) image-6827
     ∷ []
 unfolding replaying
-calls-6816 = refl
+calls-6825 = refl
 
-abbrev image-6879 : List ℕ
-image-6879 =
+abbrev image-6888 : List ℕ
+image-6888 =
     1 ∷ 0 ∷ 0 ∷ 0 ∷ 0 ∷ 0 ∷ 0 ∷ 128 ∷ 1 ∷ 0 ∷ 0 ∷ 128 ∷ 0 ∷ 0 ∷ 0 ∷ 0 ∷ 0 ∷ 0 ∷ 0 ∷ 0 ∷ 0 ∷ 0 ∷ 2 ∷ 1 ∷
     2 ∷ 0 ∷ 0 ∷ 4 ∷ 4 ∷ 0 ∷ 0 ∷ 0 ∷ 0 ∷ 0 ∷
     2 ∷ 0 ∷ 0 ∷ 4 ∷ 4 ∷ 0 ∷ 0 ∷ 0 ∷ 0 ∷ 0 ∷ []
 
-abbrev image-6880 : List ℕ
-image-6880 =
+abbrev image-6889 : List ℕ
+image-6889 =
     1 ∷ 0 ∷ 0 ∷ 0 ∷ 0 ∷ 0 ∷ 0 ∷ 128 ∷ 1 ∷ 0 ∷ 0 ∷ 128 ∷ 0 ∷ 0 ∷ 0 ∷ 0 ∷ 0 ∷ 0 ∷ 0 ∷ 0 ∷ 0 ∷ 0 ∷ 2 ∷ 1 ∷
     2 ∷ 0 ∷ 0 ∷ 4 ∷ 4 ∷ 0 ∷ 0 ∷ 0 ∷ 0 ∷ 0 ∷
     2 ∷ 0 ∷ 0 ∷ 2 ∷ 4 ∷ 0 ∷ 0 ∷ 0 ∷ 0 ∷ 0 ∷
     3 ∷ 0 ∷ 0 ∷ 0 ∷ 1 ∷ 0 ∷
     4 ∷ 2 ∷ 0 ∷ 0 ∷ 1 ∷ 0 ∷ 0 ∷ 0 ∷ 0 ∷ 0 ∷ 0 ∷ 0 ∷ 7 ∷ []
 
--- calls 6879 to 6883
-calls-6879 :
+-- calls 6888 to 6892
+calls-6888 :
     outcomes none
     (new-line plenty 32769 32768
     ∷ call-line plenty (mark-as-writing 1 0 (some 7) (words 4352 []))
@@ -840,46 +840,46 @@ calls-6879 :
     ∷ call-line plenty (question (listOfPiece get-downloaders 1 2))
     ∷ call-line plenty (question (listOfPiece blocks-for-piece 1 1))
     ∷ [])
-    ≡ outcome stands image-6879
-    ∷ outcome (answered (said true 0)) image-6880
-    ∷ outcome (answered (refused ShortMemory)) image-6880
-    ∷ outcome (answered (replied (numbers ((some 7) ∷ [])))) image-6880
-    ∷ outcome (answered (refused ShortMemory)) image-6880
+    ≡ outcome stands image-6888
+    ∷ outcome (answered (said true 0)) image-6889
+    ∷ outcome (answered (refused ShortMemory)) image-6889
+    ∷ outcome (answered (replied (numbers ((some 7) ∷ [])))) image-6889
+    ∷ outcome (answered (refused ShortMemory)) image-6889
     ∷ []
 unfolding replaying
-calls-6879 = refl
+calls-6888 = refl
 
-abbrev image-6908 : List ℕ
-image-6908 =
+abbrev image-6917 : List ℕ
+image-6917 =
     1 ∷ 0 ∷ 0 ∷ 0 ∷ 0 ∷ 0 ∷ 0 ∷ 0 ∷ 3 ∷ 0 ∷ 0 ∷ 0 ∷ 1 ∷ 0 ∷ 0 ∷ 0 ∷ 0 ∷ 0 ∷ 0 ∷ 0 ∷ 0 ∷ 0 ∷ 3 ∷ 1 ∷
     2 ∷ 0 ∷ 0 ∷ 4 ∷ 4 ∷ 0 ∷ 0 ∷ 0 ∷ 0 ∷ 0 ∷
     2 ∷ 0 ∷ 0 ∷ 4 ∷ 4 ∷ 0 ∷ 0 ∷ 0 ∷ 0 ∷ 0 ∷
     2 ∷ 0 ∷ 0 ∷ 4 ∷ 4 ∷ 0 ∷ 0 ∷ 0 ∷ 0 ∷ 0 ∷ []
 
--- calls 6908 to 6909
-calls-6908 :
+-- calls 6917 to 6918
+calls-6917 :
     outcomes none
     (new-line (lending 9223372036854775807 9223372036854775807 9223372036854775807) 3 1
     ∷ read-line plenty (171 ∷ 205 ∷ [])
     ∷ [])
-    ≡ outcome stands image-6908
-    ∷ outcome (notDone (IllFormedImage 0)) image-6908
+    ≡ outcome stands image-6917
+    ∷ outcome (notDone (IllFormedImage 0)) image-6917
     ∷ []
 unfolding replaying
-calls-6908 = refl
+calls-6917 = refl
 
--- call 8169
-calls-8169 :
+-- call 8178
+calls-8178 :
     outcomes none
     (read-line plenty (1 ∷ 0 ∷ 0 ∷ 0 ∷ 0 ∷ 0 ∷ 0 ∷ 128 ∷ 0 ∷ 0 ∷ 0 ∷ 64 ∷ 0 ∷ 1 ∷ 46 ∷ 0 ∷ 0 ∷ 0 ∷ 0 ∷ 0 ∷ 0 ∷ 0 ∷ 1 ∷ 1 ∷ 2 ∷ 0 ∷ 3 ∷ 6 ∷ 1 ∷ 0 ∷ 0 ∷ 0 ∷ 32 ∷ 215 ∷ 2 ∷ 2 ∷ 186 ∷ 1 ∷ 4 ∷ 0 ∷ 0 ∷ 0 ∷ 64 ∷ 0 ∷ 3 ∷ 0 ∷ 0 ∷ 0 ∷ 0 ∷ 6 ∷ 4 ∷ 1 ∷ 0 ∷ 1 ∷ 0 ∷ 0 ∷ 0 ∷ 0 ∷ 0 ∷ [])
     ∷ [])
     ≡ outcome (notDone (IllFormedImage 50)) []
     ∷ []
 unfolding replaying
-calls-8169 = refl
+calls-8178 = refl
 
-abbrev image-8287 : List ℕ
-image-8287 =
+abbrev image-8296 : List ℕ
+image-8296 =
     1 ∷ 0 ∷ 0 ∷ 0 ∷ 0 ∷ 0 ∷ 0 ∷ 2 ∷ 1 ∷ 0 ∷ 0 ∷ 0 ∷ 1 ∷ 0 ∷ 1 ∷ 0 ∷ 0 ∷ 0 ∷ 8 ∷ 0 ∷ 0 ∷ 1 ∷ 183 ∷ 0 ∷
     2 ∷ 0 ∷ 1 ∷ 1 ∷ 4 ∷ 0 ∷ 0 ∷ 0 ∷ 0 ∷ 1 ∷
     2 ∷ 0 ∷ 1 ∷ 3 ∷ 0 ∷ 0 ∷ 0 ∷ 0 ∷ 0 ∷ 1 ∷
@@ -2582,18 +2582,18 @@ image-8287 =
     6 ∷ 0 ∷ 0 ∷ 0 ∷ 108 ∷
     6 ∷ 0 ∷ 0 ∷ 0 ∷ 175 ∷ []
 
--- calls 8287 to 8290
-calls-8287 :
+-- calls 8296 to 8299
+calls-8296 :
     outcomes none
-    (read-line plenty image-8287
+    (read-line plenty image-8296
     ∷ call-line plenty (mark-as-downloading 512 0 none 0 (words 4352 []))
     ∷ call-line plenty (mark-as-writing 512 0 (some 1) (words 4352 []))
     ∷ call-line plenty (mark-as-finished 512 0 (some 1) (words 4352 []))
     ∷ [])
-    ≡ outcome stands image-8287
-    ∷ outcome (answered (refused TooManyPartials)) image-8287
-    ∷ outcome (answered (refused TooManyPartials)) image-8287
-    ∷ outcome (answered (refused TooManyPartials)) image-8287
+    ≡ outcome stands image-8296
+    ∷ outcome (answered (refused TooManyPartials)) image-8296
+    ∷ outcome (answered (refused TooManyPartials)) image-8296
+    ∷ outcome (answered (refused TooManyPartials)) image-8296
     ∷ []
 unfolding replaying
-calls-8287 = refl
+calls-8296 = refl
