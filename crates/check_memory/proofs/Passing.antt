@@ -15,7 +15,9 @@ use Rattle.model.specs.Bep3.{numPieces}
 use Rattle.model.specs.State.{Picker, piecesIn}
 use Rattle.model.specs.list.Order.{rank}
 use Rattle.model.specs.image.WellFormed.{headOk, piecesOk, partialsOk, extentsOk, listingOk, wellFormed}
+use Rattle.model.specs.Memory.{memoryFor}
 use Rattle.model.proofs.base.Truths.{both-true, true-both}
+use Rattle.model.proofs.base.MemoryLaws.{enough-long}
 use Rattle.memory_records.specs.declared.record.DownloadingPiece.{DownloadingPiece as Record}
 use Rattle.memory_records.specs.Rows.{liveRecords, recordsIn}
 use Rattle.memory_layout.specs.declared.shape.Shape.{Shape}
@@ -25,7 +27,7 @@ use Rattle.memory_layout.specs.Decode.{headWord, pieceCell, blockCell}
 use Rattle.memory_layout.specs.Decode.{recordAt, piecesOn, blocksOn, blocksOf, yes?, decode}
 use Rattle.memory_layout.specs.Bounds.{ShapeOf, PlainPieces, PlainRecord, RanksHeld}
 use Rattle.memory_layout.specs.Standing.{Stands, Changed}
-use Rattle.memory_layout.specs.Good.{short, headRaw, pieceRaw, piecesRaw, blockRaw, recordRaw, placeRaw, rankRaw, goodHead, goodPieces}
+use Rattle.memory_layout.specs.Good.{lengths, short, headRaw, pieceRaw, piecesRaw, blockRaw, recordRaw, placeRaw, rankRaw, goodHead, goodPieces}
 use Rattle.memory_layout.specs.Good.{goodPlaces, goodPartials, goodExtents, goodList, goodBody, orElse, memoryRefusal}
 use Rattle.memory_layout.proofs.OffsetLaws.{head-in}
 use Rattle.memory_layout.proofs.StandingLaws.{changed-stands}
@@ -145,7 +147,7 @@ module _ (s : Shape) (records : List Record) (words cells : List ℕ) (t : Stand
 
   -- no buffer is short, where enough records are lent
   long-enough : (lent : ℕ) → s .places ≤ lent → short lent words cells ≡ false
-  unfolding short
+  unfolding short lengths memoryFor
   long-enough lent h =
       let w : wordsFor (piecesOn words) (blocksOn words) ≤ length words =
       subst (λ (n : ℕ). wordsFor n (blocksOn words) ≤ length words) (t .bounds .pieces)
@@ -153,11 +155,11 @@ module _ (s : Shape) (records : List Record) (words cells : List ℕ) (t : Stand
       let c : cellsFor (piecesOn words) (blocksOn words) ≤ length cells =
       subst (λ (n : ℕ). cellsFor n (blocksOn words) ≤ length cells) (t .bounds .pieces)
       (subst (λ (b : ℕ). cellsFor (s .pieces) b ≤ length cells) (t .bounds .blocks) (t .bounds .spans .inCells .long)) in
-      rw (
-        le-leb (wordsFor (piecesOn words) (blocksOn words)) (length words) w,
-        le-leb (cellsFor (piecesOn words) (blocksOn words)) (length cells) c,
-        le-leb (placesFor (piecesOn words)) lent (omega (arith, places-are)),
-      )
+      enough-long (lengths lent words cells) (memoryFor (piecesOn words) (blocksOn words)) (record {
+        words = w;
+        cells = c;
+        partials = omega (arith, places-are);
+      })
 
   -- ---- the whole test passes
   pub stands-passes : (lent : ℕ) → s .places ≤ lent → memoryRefusal lent records words cells ≡ none

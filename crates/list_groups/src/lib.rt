@@ -81,7 +81,7 @@ pub fn group_end(list: &[u64], from: usize, end: usize, near: usize, top: u64) -
     halve(list, within.low, within.high, top)
 }
 
-// Where the group of w's rank stands, or would.
+// Where the group of w's rank stands, or would: its start may be anywhere and is found by halving, its end is near.
 pub fn group_of(list: &[u64], from: usize, end: usize, w: u64) -> Span
     requires { ⌜ from ≤ end ⌝ }
     requires { ⌜ end ≤ length (now list) ⌝ }
@@ -90,7 +90,7 @@ pub fn group_of(list: &[u64], from: usize, end: usize, w: u64) -> Span
     ensures { λ r. ⌜ IsGroup (listedRank w) from end (now (list .entry)) (r .low) (r .high) ⌝ }
 {
     let top = top_of(w);
-    let low = group_end(list, from, end, 1, top - 65536);
+    let low = halve(list, from, end, top - 65536);
     let high = group_end(list, low, end, 1, top);
     Span { low, high }
 }

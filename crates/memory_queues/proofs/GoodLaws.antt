@@ -10,7 +10,7 @@ use Rattle.memory_layout.specs.declared.shape.Shape.{Shape}
 use Rattle.memory_layout.specs.Bounds.{ShapeOf}
 use Rattle.memory_layout.specs.Good.{memoryRefusal}
 use Rattle.check_memory.proofs.VerdictLaws.{head-any, live-is}
-use Rattle.check_memory.proofs.Standing.{stands, in-bounds, well-formed-picker}
+use Rattle.check_memory.proofs.Standing.{parts-pass, in-bounds, well-formed-picker}
 use Rattle.memory_rows.specs.Lookup.{LiveRows}
 use Rattle.memory_rows.proofs.RisingLaws.{well-formed-rise}
 use Rattle.memory_queues.specs.Queues.{InQueues}
@@ -22,7 +22,7 @@ module _ (s : Shape) (lent : ℕ) (rows words cells : List ℕ) (g : ShapeOf s w
   pub good-rows : LiveRows s (liveRecords words) rows words cells
   good-rows =
       let rs = recordsIn (liveRecords words) rows in
-      let v = stands lent rs words cells h in
+      let v = parts-pass lent rs words cells h in
       record {
         bounds = in-bounds s lent rows words cells g h;
         many = live-is s lent words cells g (v .there) (v .geometry) (v .long) (head-any rs words cells (v .head));
