@@ -12,12 +12,13 @@ use Rattle.model.proofs.sound.SoundLaws.{wellFormed-sound}
 use Rattle.memory_records.specs.declared.record.DownloadingPiece.{DownloadingPiece as Record}
 use Rattle.memory_layout.specs.declared.shape.Shape.{Shape}
 use Rattle.memory_layout.specs.Decode.{decode}
-use Rattle.memory_layout.specs.Standing.{Stands, Changed}
+use Rattle.memory_layout.specs.Standing.{Stands, StandsBeside, Changed}
 use Rattle.memory_layout.proofs.BoundsLaws.{words-kept-again, cells-kept-none}
 use Rattle.memory_fields.specs.Storing.{DirtyMarked}
 use Rattle.memory_list.specs.Listings.{ListBounds, ListBefore, ListBecame}
 use Rattle.memory_list.proofs.Moving.{well-formed-range, ranges-held, ranks-right, list-before}
-use Rattle.change_steps.specs.Working.{Works, Went, Stored}
+use Rattle.change_steps.specs.Working.{Works, WorksBeside, Went, Goes, Stored}
+use Rattle.change_steps.specs.Whole.{Done, ChangedBy}
 
 -- ---- a picker before all steps, and behind them
 module _ (s : Shape) (records : List Record) (words cells : List ℕ) where
@@ -46,6 +47,23 @@ module _ (s : Shape) (records : List Record) (words cells : List ℕ) where
     },
     ap (λ (v : Drawing). v .used) (w .is),
   )
+
+  pub went-done : (step : Drawing → Drawing) (records′ : List Record) (words′ cells′ : List ℕ) (next : ℕ)
+      → Went s step records words cells 0 records′ words′ cells′ next
+      → Done s step records words cells records′ words′ cells′ next
+  went-done step records′ words′ cells′ next w =
+      let c = went-changed step 0 records′ words′ cells′ next w in
+      record { changed = c .0; draws = c .1 }
+
+pub beside-works : (s : Shape) (words cells : List ℕ) → StandsBeside s words cells → WorksBeside s words cells
+beside-works s words cells b = record { records = b .records; works = stands-works s (b .records) words cells (b .stands) }
+
+-- a step from the first draw on, as a whole change
+pub goes-done : (s : Shape) (step : Drawing → Drawing) (words cells words′ cells′ : List ℕ) (next : ℕ)
+    → Goes s step words cells 0 words′ cells′ next → ChangedBy s step words cells words′ cells′ next
+goes-done s step words cells words′ cells′ next g = record {
+  done = λ records t. went-done s records words cells step records words′ cells′ next (g .went records (stands-works s records words cells t));
+}
 
 -- ---- a change stored, and the list mended after it
 module _ (s : Shape) (f : Picker → Picker) (i : ℕ) (records : List Record) (words cells : List ℕ) (records′ : List Record)

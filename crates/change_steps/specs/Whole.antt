@@ -1,0 +1,19 @@
+-- A whole change, from a picker that stands to what a call has to leave. Assumes nothing.
+use Prim.Native.Nat.{ℕ}
+use mathlib.Core.Path.{_≡_}
+use mathlib.Core.List.{List}
+use Rattle.model.specs.list.Order.{Drawing, drawing}
+use Rattle.memory_records.specs.declared.record.DownloadingPiece.{DownloadingPiece as Record}
+use Rattle.memory_layout.specs.declared.shape.Shape.{Shape}
+use Rattle.memory_layout.specs.Decode.{decode}
+use Rattle.memory_layout.specs.Standing.{Stands, Changed}
+
+-- the picker with these records is changed as `step` changes it from the first draw on, and so many draws are used
+pub record Done (s : Shape) (step : Drawing → Drawing) (records : List Record) (words cells : List ℕ) (records′ : List Record)
+    (words′ cells′ : List ℕ) (used : ℕ) : Type 0 where
+  pub changed : Changed s (step (drawing 0 (decode records words cells)) .picker) words cells records′ words′ cells′
+  pub draws : used ≡ step (drawing 0 (decode records words cells)) .used
+
+-- and that with whichever records make a picker stand, which stay
+pub record ChangedBy (s : Shape) (step : Drawing → Drawing) (words cells : List ℕ) (words′ cells′ : List ℕ) (used : ℕ) : Type 0 where
+  pub done : (records : List Record) → Stands s records words cells → Done s step records words cells records words′ cells′ used

@@ -1,0 +1,25 @@
+-- The numbers of a partial's blocks, read from the rows and the counts. Assumes nothing.
+use Prim.Native.Nat.{ℕ, _<_}
+use mathlib.Core.Path.{_≡_}
+use mathlib.Core.List.{List}
+use Rattle.memory_records.specs.Rows.{rowAt}
+use Rattle.memory_layout.specs.declared.shape.Shape.{Shape}
+use Rattle.memory_layout.specs.Changes.{partialIn}
+use Rattle.check_partials.specs.Records.{CountsHeld}
+use Rattle.memory_rows.specs.Lookup.{LiveRows, pickerIn}
+use Rattle.change_state.specs.declared.states.Tally.{Tally}
+use Rattle.change_state.specs.Numbers.{IsTally}
+
+-- with some cells beside them, the rows are the live records of a picker and the counts those of its partials; row k is piece i's
+pub record TalliesBeside (s : Shape) (words rows counts : List ℕ) (k i : ℕ) : Type 0 where
+  pub live : ℕ
+  pub cells : List ℕ
+  pub rowsLive : LiveRows s live rows words cells
+  pub counted : CountsHeld (pickerIn live rows words cells) live counts
+  pub there : k < live
+  pub piece : rowAt rows k .index ≡ i
+
+-- the numbers are those of partial k of every such picker
+pub record Tallied (s : Shape) (words rows counts : List ℕ) (k : ℕ) (t : Tally) : Type 0 where
+  pub is : (live : ℕ) (cells : List ℕ) → LiveRows s live rows words cells → CountsHeld (pickerIn live rows words cells) live counts
+      → IsTally t (partialIn (pickerIn live rows words cells) k)
