@@ -39,6 +39,55 @@ pub {kebab}-spec : {{M : Type 1}} → statement M
 {kebab}-spec = tie.close (tie.spec {below}-requires returns)
 """
 
+# a total that is one number: question, field of the count, further definitions
+NUMBERS = [
+    ('num_pad_bytes', 'padBytes', ''),
+    ('num_have', 'pieces', 'numHave'),
+    ('num_filtered', 'pieces', 'numFiltered'),
+    ('num_have_filtered', 'pieces', 'numHaveFiltered'),
+]
+
+NUMBER = """-- `{fn}` meets its contract. Assumes nothing.
+-- Written by tools/asks.py, and not by hand.
+use mathlib.Core.Path.{{ap}}
+use borrow.Author.Needs.{{needs}}
+use Rattle.model.specs.ask.Questions.{{replyPicker, one{comma}{more}}}
+use Rattle.ask_totals.proofs.totals.{fn}.Statement.{{statement}}
+use Rattle.ask_totals.proofs.totals.{fn}.Tie as tie
+
+counted-requires : tie.Need-counted-requires
+counted-requires c κs = search needs
+
+returns : tie.Need-returns
+unfolding replyPicker{space}{more}
+returns c = ap one (c .counted .ensures .{field})
+
+pub {kebab}-spec : {{M : Type 1}} → statement M
+{kebab}-spec = tie.close (tie.spec counted-requires returns)
+"""
+
+# a total with pad bytes and the last piece
+COUNTS = ['want', 'have_want', 'have', 'all_pieces']
+
+COUNT = """-- `{fn}` meets its contract. Assumes nothing.
+-- Written by tools/asks.py, and not by hand.
+use borrow.Author.Needs.{{needs}}
+use Rattle.model.specs.ask.Questions.{{replyPicker}}
+use Rattle.ask_totals.proofs.CountLaws.{{count-reply}}
+use Rattle.ask_totals.proofs.totals.{fn}.Statement.{{statement}}
+use Rattle.ask_totals.proofs.totals.{fn}.Tie as tie
+
+counted-requires : tie.Need-counted-requires
+counted-requires c κs = search needs
+
+returns : tie.Need-returns
+unfolding replyPicker
+returns c = count-reply _ _ _ (c .counted .ensures)
+
+pub {kebab}-spec : {{M : Type 1}} → statement M
+{kebab}-spec = tie.close (tie.spec counted-requires returns)
+"""
+
 
 def kebab(name):
     """A name as proofs write it."""
@@ -51,6 +100,12 @@ def files():
     for crate, fn, below, wrap, says in FIELDS:
         text = FIELD.format(crate=crate, fn=fn, below=kebab(below), wrap=wrap, says=says, kebab=kebab(fn))
         made[ROOT / 'crates' / crate / 'proofs' / fn / 'Proof.antt'] = text
+    totals = ROOT / 'crates/ask_totals/proofs/totals'
+    for fn, field, more in NUMBERS:
+        between = {'comma': ', ' if more else '', 'space': ' ' if more else ''}
+        made[totals / fn / 'Proof.antt'] = NUMBER.format(fn=fn, field=field, more=more, kebab=kebab(fn), **between)
+    for fn in COUNTS:
+        made[totals / fn / 'Proof.antt'] = COUNT.format(fn=fn, kebab=kebab(fn))
     return made
 
 
