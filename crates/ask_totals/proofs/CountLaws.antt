@@ -30,7 +30,8 @@ bit-less false w = omega arith
 
 -- ---- one element more
 module _ {A : Type 0} (t : A → Bool) (x : A) (xs : List A) where
-  size-more : len (filter t (x ∷ xs)) ≡ bit (t x) * 1 + len (filter t xs)
+  -- what they are of a list
+  pub size-more : len (filter t (x ∷ xs)) ≡ bit (t x) * 1 + len (filter t xs)
   unfolding filter len
   size-more = go (t x)
     where
