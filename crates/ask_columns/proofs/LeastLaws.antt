@@ -97,7 +97,9 @@ module _ (cells : List ℕ) (n i peers flushed : ℕ) (e : peers ≡ pieceCell c
 -- ---- the pass
 module _ (cells : List ℕ) (n : ℕ) where
   table-more : (i : ℕ) → tabulate (i + 1) (copiesHeld cells n) ≡ tabulate i (copiesHeld cells n) ++ (copiesHeld cells n i ∷ [])
-  table-more i = let e : i + 1 ≡ suc i = omega arith in ap (λ (k : ℕ). tabulate k (copiesHeld cells n)) e ∙ tabulate-more i (copiesHeld cells n)
+  table-more i =
+      let e : i + 1 ≡ suc i = omega arith in
+      ap (λ (k : ℕ). tabulate k (copiesHeld cells n)) e ∙ tabulate-more i (copiesHeld cells n)
 
   pub least-start : LeastIn cells n 0 (record { copies = 65535; more = 0 })
   unfolding tabulate leastOf count

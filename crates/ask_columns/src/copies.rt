@@ -43,10 +43,16 @@ fn lower(least: Least, passed: u64, copies: u64) -> Least
     ensures { λ r. ⌜ Lowered least passed copies r ⌝ }
 {
     if copies < least.copies {
-        return Least { copies: copies, more: passed };
+        return Least {
+            copies: copies,
+            more: passed,
+        };
     }
     if least.copies < copies {
-        return Least { copies: least.copies, more: least.more + 1 };
+        return Least {
+            copies: least.copies,
+            more: least.more + 1,
+        };
     }
     least
 }
@@ -56,7 +62,10 @@ fn least_copies(cells: &[u16], s: Shape) -> Least
     requires { ⌜ CellsSpan s (now cells) ⌝ }
     ensures { λ r. ⌜ LeastIn (now (cells .entry)) (s .pieces) (s .pieces) r ⌝ }
 {
-    let mut least = Least { copies: 65535, more: 0 };
+    let mut least = Least {
+        copies: 65535,
+        more: 0,
+    };
     let mut i = 0;
     while i < s.pieces {
         least = lower(least, usize_to_u64(i), copies_at(cells, s, i));

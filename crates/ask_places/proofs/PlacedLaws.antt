@@ -45,7 +45,8 @@ module _ (l : List ℕ) (k : ℕ) where
 -- ---- partials
 module _ (s : Shape) (live : ℕ) (rows words cells : List ℕ) (v : LiveRows s live rows words cells) (k : ℕ) where
   pieces-many : len (each (λ (d : DownloadingPiece). d .piece) (pickerIn live rows words cells .partials)) ≡ live
-  pieces-many = size-each (λ (d : DownloadingPiece). d .piece) (pickerIn live rows words cells .partials) ∙ live-number s live rows words cells v
+  pieces-many =
+      size-each (λ (d : DownloadingPiece). d .piece) (pickerIn live rows words cells .partials) ∙ live-number s live rows words cells v
 
   pub partial-there : k < live → (r : ℕ) → r ≡ getD rows k 0 → one r ≡ reply (pickerIn live rows words cells) (partial-at k)
   unfolding reply
@@ -58,11 +59,13 @@ module _ (s : Shape) (live : ℕ) (rows words cells : List ℕ) (v : LiveRows s 
 
   pub partial-past : live ≤ k → nothing ≡ reply (pickerIn live rows words cells) (partial-at k)
   unfolding reply
-  partial-past h = placed-past (each (λ (d : DownloadingPiece). d .piece) (pickerIn live rows words cells .partials)) k (omega (arith, pieces-many))
+  partial-past h =
+      placed-past (each (λ (d : DownloadingPiece). d .piece) (pickerIn live rows words cells .partials)) k (omega (arith, pieces-many))
 
 -- ---- extents
 module _ (s : Shape) (words : List ℕ) (k many : ℕ) (e : HeadSays words (λ d. len (d .recentExtents)) many) where
-  pub extent-there : k < many → (r : ℕ) → HeadSays words (λ d. nth 0 (d .recentExtents) k) r → WordsSay s words (λ d. reply d (recent-extent k)) (one r)
+  pub extent-there : k < many → (r : ℕ) → HeadSays words (λ d. nth 0 (d .recentExtents) k) r
+      → WordsSay s words (λ d. reply d (recent-extent k)) (one r)
   unfolding reply
   extent-there h r o = record {
     is = λ records cells q.
@@ -110,5 +113,6 @@ module _ (s : Shape) (words : List ℕ) (k : ℕ) (t : Bool) (e : HeadSays words
     unfolding reply
     place-past l = record {
       is = λ records cells q.
-          placed-past (listOf (decode records words cells .listing)) k (omega (arith, m .is records cells q)) ∙ sym (listed-fresh _ k (sym (e .is records cells) ∙ h));
+          placed-past (listOf (decode records words cells .listing)) k (omega (arith, m .is records cells q))
+          ∙ sym (listed-fresh _ k (sym (e .is records cells) ∙ h));
     }

@@ -24,7 +24,14 @@ pub enum Placed {
 }
 
 // The piece of partial k.
-pub fn partial_at(words: &[u64], cells: &[u16], rows: &[u32], live: usize, s: Shape, k: usize) -> Placed
+pub fn partial_at(
+    words: &[u64],
+    cells: &[u16],
+    rows: &[u32],
+    live: usize,
+    s: Shape,
+    k: usize,
+) -> Placed
     requires { ⌜ Asked s live (now rows) (now words) (now cells) ⌝ }
     ensures { λ r. ⌜ placedReply r ≡ reply (pickerIn live (now (rows .entry)) (now (words .entry)) (now (cells .entry))) (partial-at k) ⌝ }
 {

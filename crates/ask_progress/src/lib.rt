@@ -42,7 +42,13 @@ pub fn num_want_left(words: &[u64], cells: &[u16], rows: &[u32], live: usize, s:
     counted(words, cells, rows, live, s, Which::Left).num_pieces
 }
 
-pub fn get_download_queue_sizes(words: &[u64], cells: &[u16], rows: &[u32], live: usize, s: Shape) -> QueueSizes
+pub fn get_download_queue_sizes(
+    words: &[u64],
+    cells: &[u16],
+    rows: &[u32],
+    live: usize,
+    s: Shape,
+) -> QueueSizes
     requires { ⌜ Asked s live (now rows) (now words) (now cells) ⌝ }
     ensures { λ r. ⌜ sizesReply r ≡ replyPicker (pickerIn live (now (rows .entry)) (now (words .entry)) (now (cells .entry)))
         get-download-queue-sizes ⌝ }

@@ -24,8 +24,8 @@ returns-2 c =
     let d = c .before .before .before .before .before .is-dirty in
     let m = c .before .before .before .list-length in
     let r = say-same _ _ _ _ _ (c .before .list-place .ensures) (c .usize-to-u64 .ensures) in
-    place-there _ _ _ (d .result) (d .ensures) (c .before .before .before .before .if1 .left) (m .result) (m .ensures .1) (c .before .before .if2 .taken)
-    (c .usize-to-u64 .result) r
+    place-there _ _ _ (d .result) (d .ensures) (c .before .before .before .before .if1 .left) (m .result) (m .ensures .1)
+    (c .before .before .if2 .taken) (c .usize-to-u64 .result) r
 
 returns-3 : tie.Need-returns-3
 returns-3 c =

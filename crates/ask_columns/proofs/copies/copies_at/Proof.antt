@@ -18,10 +18,14 @@ add-result : tie.Need-add-result
 add-result c = search needs
 
 returns : tie.Need-returns
-returns c = copies-flushed _ _ _ _ _ (c .before .before .u16-to-u64 .ensures ∙ c .before .before .before .piece-cell .ensures) (c .before .piece-cell2 .ensures) (c .if1 .taken)
+returns c =
+    let e = c .before .before .u16-to-u64 .ensures ∙ c .before .before .before .piece-cell .ensures in
+    copies-flushed _ _ _ _ _ e (c .before .piece-cell2 .ensures) (c .if1 .taken)
 
 returns-2 : tie.Need-returns-2
-returns-2 c = copies-plain _ _ _ _ _ (c .before .before .u16-to-u64 .ensures ∙ c .before .before .before .piece-cell .ensures) (c .before .piece-cell2 .ensures) (c .if1 .left)
+returns-2 c =
+    let e = c .before .before .u16-to-u64 .ensures ∙ c .before .before .before .piece-cell .ensures in
+    copies-plain _ _ _ _ _ e (c .before .piece-cell2 .ensures) (c .if1 .left)
 
 pub copies-at-spec : {M : Type 1} → statement M
 copies-at-spec =

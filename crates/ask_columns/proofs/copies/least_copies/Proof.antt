@@ -38,9 +38,11 @@ loop-less c = search needs
 
 loop-again : tie.Need-loop-again Inv-loop μ-loop
 loop-again c =
-    let l = c .before .before .before .before .before .loop in
-    (omega arith, least-next _ _ (l .i) (l .least) (c .lower .result) _ _ (l .inv .1) (c .before .before .usize-to-u64 .ensures)
-        (c .before .copies-at .ensures) (c .lower .ensures))
+    let l = c .before .before .before .before .before .loop in (
+      omega arith,
+      least-next _ _ (l .i) (l .least) (c .lower .result) _ _ (l .inv .1) (c .before .before .usize-to-u64 .ensures)
+          (c .before .copies-at .ensures) (c .lower .ensures),
+    )
 
 returns : tie.Need-returns Inv-loop μ-loop
 returns c =

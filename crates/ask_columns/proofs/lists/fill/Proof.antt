@@ -41,9 +41,11 @@ loop-less c = search needs
 loop-again : tie.Need-loop-again Inv-loop μ-loop
 loop-again c =
     let c7 = c .before .before .before .before .before .before .before in
-    let l = c .before .before .before .before .loop in
-    (omega arith, filled-next _ _ _ _ (l .i) _ (l .out) (l .inv .1) (omega (arith, c7 .pre .1 .2)) _ _ refl
-        (c .u16-to-u64 .ensures ∙ c .before .piece-cell .ensures))
+    let l = c .before .before .before .before .loop in (
+      omega arith,
+      filled-next _ _ _ _ (l .i) _ (l .out) (l .inv .1) (omega (arith, c7 .pre .1 .2)) _ _ refl
+          (c .u16-to-u64 .ensures ∙ c .before .piece-cell .ensures),
+    )
 
 same-length : tie.Need-same-length Inv-loop μ-loop
 same-length c = search needs

@@ -32,16 +32,24 @@ loop-holds : tie.Need-loop-holds Inv-loop μ-loop
 loop-holds c = counting-start _ _
 
 flushed-requires : tie.Need-flushed-requires Inv-loop μ-loop
-flushed-requires c κs = (c .before .before .before .before .before .before .before .before .pre .stands .bounds .spans .inCells, omega arith)
+flushed-requires c κs =
+    let g = c .before .before .before .before .before .before .before .before .pre in
+    (g .stands .bounds .spans .inCells, omega arith)
 
 mul-have : tie.Need-mul-have Inv-loop μ-loop
-mul-have c = omega (arith, c .before .before .before .before .before .before .before .before .before .pre .stands .bounds .spans .inCells .sizes .many)
+mul-have c =
+    let g = c .before .before .before .before .before .before .before .before .before .pre in
+    omega (arith, g .stands .bounds .spans .inCells .sizes .many)
 
 array-read-have : tie.Need-array-read-have Inv-loop μ-loop
-array-read-have c = omega (arith, c .before .before .before .before .before .before .before .before .before .pre .stands .bounds .spans .inCells .sizes .many)
+array-read-have c =
+    let g = c .before .before .before .before .before .before .before .before .before .pre in
+    omega (arith, g .stands .bounds .spans .inCells .sizes .many)
 
 priority-requires : tie.Need-priority-requires Inv-loop μ-loop
-priority-requires c κs = (c .before .before .before .before .before .before .before .before .before .pre .stands .bounds .spans .inCells, omega arith)
+priority-requires c κs =
+    let g = c .before .before .before .before .before .before .before .before .before .pre in
+    (g .stands .bounds .spans .inCells, omega arith)
 
 passes-requires : tie.Need-passes-requires Inv-loop μ-loop
 passes-requires c κs = search needs
@@ -51,11 +59,14 @@ counting-requires c κs = search needs
 
 add-num : tie.Need-add-num Inv-loop μ-loop
 add-num c =
-    let n = c .before .before .before .before .before .before .before .before .before .before .before .before .pre .stands .bounds .spans .inCells .sizes .many in
-    omega (arith, n, c .before .before .before .before .before .before .loop .inv .few, c .counting .ensures, bit-few (c .before .passes .result))
+    let g = c .before .before .before .before .before .before .before .before .before .before .before .before .pre in
+    let l = c .before .before .before .before .before .before .loop in
+    omega (arith, g .stands .bounds .spans .inCells .sizes .many, l .inv .few, c .counting .ensures, bit-few (c .before .passes .result))
 
 pad-bytes-requires : tie.Need-pad-bytes-requires Inv-loop μ-loop
-pad-bytes-requires c κs = (c .before .before .before .before .before .before .before .before .before .before .before .before .pre .stands .bounds .spans .inWords, omega arith)
+pad-bytes-requires c κs =
+    let g = c .before .before .before .before .before .before .before .before .before .before .before .before .pre in
+    (g .stands .bounds .spans .inWords, omega arith)
 
 counting-requires-2 : tie.Need-counting-requires-2 Inv-loop μ-loop
 counting-requires-2 c κs = search needs
