@@ -11,13 +11,13 @@ import sys
 
 ROOT = pathlib.Path(__file__).resolve().parent.parent
 
-# a field of the head: crate, question, function below, what makes a reply of it, where its contract says what it reads
+# a field of the head: question, function below, what makes a reply of it, where its contract says what it reads
 FIELDS = [
-    ('ask_picker', 'num_seeds', 'seeds', 'one', '.ensures'),
-    ('ask_picker', 'cursor', 'cursor', 'one', '.ensures'),
-    ('ask_picker', 'reverse_cursor', 'reverse_cursor', 'one', '.ensures'),
-    ('ask_picker', 'dirty', 'is_dirty', 'flag', '.ensures'),
-    ('ask_picker', 'get_download_queue_size', 'num_partials', 'one', '.ensures .1'),
+    ('num_seeds', 'seeds', 'one', '.ensures'),
+    ('cursor', 'cursor', 'one', '.ensures'),
+    ('reverse_cursor', 'reverse_cursor', 'one', '.ensures'),
+    ('dirty', 'is_dirty', 'flag', '.ensures'),
+    ('get_download_queue_size', 'num_partials', 'one', '.ensures .1'),
 ]
 
 FIELD = """-- `{fn}` meets its contract. Assumes nothing.
@@ -25,8 +25,8 @@ FIELD = """-- `{fn}` meets its contract. Assumes nothing.
 use mathlib.Core.Path.{{ap}}
 use borrow.Author.Needs.{{needs}}
 use Rattle.model.specs.ask.Questions.{{replyPicker, {wrap}}}
-use Rattle.{crate}.proofs.{fn}.Statement.{{statement}}
-use Rattle.{crate}.proofs.{fn}.Tie as tie
+use Rattle.ask_picker.proofs.{fn}.Statement.{{statement}}
+use Rattle.ask_picker.proofs.{fn}.Tie as tie
 
 {below}-requires : tie.Need-{below}-requires
 {below}-requires c κs = search needs
@@ -37,6 +37,29 @@ returns c = record {{ is = λ records cells. ap {wrap} (c .{below} {says} .is re
 
 pub {kebab}-spec : {{M : Type 1}} → statement M
 {kebab}-spec = tie.close (tie.spec {below}-requires returns)
+"""
+
+# a word of the head
+WORDS = ['total_size', 'full_piece_size']
+
+WORD = """-- `{fn}` meets its contract. Assumes nothing.
+-- Written by tools/asks.py, and not by hand.
+use mathlib.Core.Path.{{ap}}
+use native.Mathlib.Omega.{{arith}}
+use Rattle.model.specs.ask.Questions.{{replyPicker, one}}
+use Rattle.memory_layout.proofs.OffsetLaws.{{head-in}}
+use Rattle.ask_picker.proofs.{fn}.Statement.{{statement}}
+use Rattle.ask_picker.proofs.{fn}.Tie as tie
+
+head-word-requires : tie.Need-head-word-requires
+head-word-requires c κs = (head-in (c .before .args .s) (c .before .args .words .now) (c .before .pre), omega arith)
+
+returns : tie.Need-returns
+unfolding replyPicker
+returns c = record {{ is = λ records cells. ap one (c .head-word .ensures) }}
+
+pub {kebab}-spec : {{M : Type 1}} → statement M
+{kebab}-spec = tie.close (tie.spec head-word-requires returns)
 """
 
 # a total that is one number: question, field of the count, further definitions
@@ -97,9 +120,11 @@ def kebab(name):
 def files():
     """Every file with its text."""
     made = {}
-    for crate, fn, below, wrap, says in FIELDS:
-        text = FIELD.format(crate=crate, fn=fn, below=kebab(below), wrap=wrap, says=says, kebab=kebab(fn))
-        made[ROOT / 'crates' / crate / 'proofs' / fn / 'Proof.antt'] = text
+    for fn, below, wrap, says in FIELDS:
+        text = FIELD.format(fn=fn, below=kebab(below), wrap=wrap, says=says, kebab=kebab(fn))
+        made[ROOT / 'crates/ask_picker/proofs' / fn / 'Proof.antt'] = text
+    for fn in WORDS:
+        made[ROOT / 'crates/ask_picker/proofs' / fn / 'Proof.antt'] = WORD.format(fn=fn, kebab=kebab(fn))
     totals = ROOT / 'crates/ask_totals/proofs/totals'
     for fn, field, more in NUMBERS:
         between = {'comma': ', ' if more else '', 'space': ' ' if more else ''}

@@ -2,7 +2,7 @@
 use mathlib.Core.Path.{_≡_, refl, sym, ap, _∙_}
 use mathlib.Core.Bool.{Bool, true, false, not, _&&_, _||_, Bool·beq}
 use mathlib.Core.List.{List, [], _∷_}
-use Prim.Native.Nat.{ℕ, _+_, _-_, _*_, _≤_}
+use Prim.Native.Nat.{ℕ, _+_, _-_, _*_}
 use native.Mathlib.Decide.{decLe}
 use native.Mathlib.Omega.{arith}
 use lib.Dec.{eqb, leb}
@@ -12,6 +12,7 @@ use Rattle.model.specs.State.{Picker, piecesIn}
 use Rattle.model.specs.ask.Questions.{replyPicker, flag, one, is-finished, is-seeding, num-want-left, havePiece, filtered, piecesWhere}
 use Rattle.model.specs.ask.Questions.{countWhere, numHave, numFiltered, numHaveFiltered}
 use Rattle.model.proofs.base.Counts.{length-from}
+use Rattle.model.proofs.sound.PartialLaws.{size-filter-le}
 use Rattle.ask_totals.specs.declared.count.Which.the-variants.{Settled, Left}
 use Rattle.ask_totals.specs.Totals.{passesIn}
 use Rattle.ask_totals.proofs.CountLaws.{size-more}
@@ -62,15 +63,6 @@ module _ (h f : ℕ → Bool) where
 
 -- ---- of a picker
 module _ (d : Picker) where
-  size-most : (t : ℕ → Bool) (l : List ℕ) → len (filter t l) ≤ len l
-  unfolding filter len
-  size-most t [] = omega arith
-  size-most t (x ∷ xs) = omega (arith, size-more t x xs, size-most t xs, bit-most (t x))
-    where
-      bit-most : (p : Bool) → bit p * 1 ≤ 1
-      bit-most true = omega arith
-      bit-most false = omega arith
-
   -- all settled: those not filtered are no more than those had
   pub finished-is : (r n : ℕ) → r ≡ countWhere d (passesIn Settled d) → n ≡ piecesIn d → flag (eqb r n) ≡ replyPicker d is-finished
   unfolding replyPicker countWhere piecesWhere numHave numFiltered len
@@ -78,7 +70,7 @@ module _ (d : Picker) where
       let l = from 0 (piecesIn d) in
       let a = settled-size (havePiece d) (filtered d) l in
       let m = length-from 0 (piecesIn d) in
-      let t = size-most (passesIn Settled d) l in
+      let t = size-filter-le (passesIn Settled d) l in
       let nh = len (filter (havePiece d) l) in
       let nf = len (filter (λ i. filtered d i && not (havePiece d i)) l) in
       ap flag (elim (decLe (piecesIn d - nf) nh) [
@@ -98,5 +90,5 @@ module _ (d : Picker) where
       let a = left-size (havePiece d) (filtered d) l in
       let b = settled-size (havePiece d) (filtered d) l in
       let m = length-from 0 (piecesIn d) in
-      let t = size-most (passesIn Settled d) l in
+      let t = size-filter-le (passesIn Settled d) l in
       ap one (omega (arith, a, b, m, t, e))

@@ -8,6 +8,7 @@ use native.Mathlib.Omega.{arith}
 use Rattle.model.specs.Lists.{bit, filter, from, range, len, each}
 use Rattle.model.specs.State.{Picker, pieceAt, piecesIn}
 use Rattle.model.specs.ask.Questions.{piecesWhere, countWhere, padBytesWhere, counted, sum}
+use Rattle.model.proofs.base.Counts.{bit-le}
 use Rattle.ask_totals.specs.declared.count.PieceCount.{PieceCount}
 use Rattle.ask_totals.specs.Totals.{Counted, countReply}
 
@@ -17,11 +18,6 @@ counts t x e = rw e (omega arith)
 
 pub counts-not : (t : Bool) (x : ℕ) → t ≡ false → 0 ≡ bit t * x
 counts-not t x e = rw e (omega arith)
-
--- at most 1
-pub bit-few : (x : Bool) → bit x * 1 ≤ 1
-bit-few true = omega arith
-bit-few false = omega arith
 
 -- at most itself
 pub bit-less : (x : Bool) (w : ℕ) → bit x * w ≤ w
@@ -95,7 +91,7 @@ module _ (d : Picker) (t : ℕ → Bool) where
       let o = ap (λ (xs : List ℕ). sum (each f (filter t xs))) (range-next i n h) ∙ sum-more t i (range (i + 1) n) f in
       record {
         within = omega arith;
-        few = omega (arith, g .few, bit-few x);
+        few = omega (arith, g .few, bit-le x);
         small = omega (arith, g .small, bit-less x w);
         pieces = omega (arith, g .pieces);
         padBytes = omega (arith, g .padBytes);

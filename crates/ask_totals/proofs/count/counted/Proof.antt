@@ -2,10 +2,11 @@
 use borrow.Author.Needs.{needs}
 use Prim.Native.Nat.{_-_}
 use native.Mathlib.Omega.{arith}
+use Rattle.model.proofs.base.Counts.{bit-le}
 use Rattle.memory_rows.specs.Lookup.{pickerIn}
 use Rattle.ask_picker.proofs.AskedLaws.{asked-queues, asked-rise}
 use Rattle.ask_totals.specs.Totals.{passesIn}
-use Rattle.ask_totals.proofs.CountLaws.{Counting, bit-few, counting-start}
+use Rattle.ask_totals.proofs.CountLaws.{Counting, counting-start}
 use Rattle.ask_totals.proofs.TotalLaws.{asked-low, total-next, pads-room, total-end}
 use Rattle.ask_totals.proofs.count.counted.Statement.{statement}
 use Rattle.ask_totals.proofs.count.counted.Tie as tie
@@ -61,7 +62,7 @@ add-num : tie.Need-add-num Inv-loop μ-loop
 add-num c =
     let g = c .before .before .before .before .before .before .before .before .before .before .before .before .pre in
     let l = c .before .before .before .before .before .before .loop in
-    omega (arith, g .stands .bounds .spans .inCells .sizes .many, l .inv .few, c .counting .ensures, bit-few (c .before .passes .result))
+    omega (arith, g .stands .bounds .spans .inCells .sizes .many, l .inv .few, c .counting .ensures, bit-le (c .before .passes .result))
 
 pad-bytes-requires : tie.Need-pad-bytes-requires Inv-loop μ-loop
 pad-bytes-requires c κs =
