@@ -13,7 +13,6 @@ use Rattle.memory_records.specs.declared.record.DownloadingPiece.{DownloadingPi
 use Rattle.memory_layout.specs.declared.shape.Shape.{Shape}
 use Rattle.memory_layout.specs.Tables.{tabulate, front}
 use Rattle.memory_layout.specs.Decode.{headWord, pieceCell, pieceHeld, piecesHeld, decode}
-use Rattle.memory_layout.specs.Bounds.{InBounds}
 use Rattle.memory_layout.proofs.TableLaws.{tabulate-ext}
 use Rattle.memory_layout.proofs.BoundsLaws.{decode-at}
 use Rattle.memory_layout.specs.Standing.{StandsBeside}

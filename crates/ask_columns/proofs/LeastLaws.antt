@@ -1,24 +1,21 @@
 -- The least copies and how many have more, one piece after another, and what they are of the picker. Assumes nothing.
 use mathlib.Core.Path.{_≡_, refl, sym, ap, ap₂, _∙_}
 use mathlib.Core.Logic.{_≢_}
-use mathlib.Core.Bool.{Bool, true, false, cond}
+use mathlib.Core.Bool.{Bool, cond}
 use mathlib.Core.List.{List, [], _∷_, _++_}
 use Prim.Native.Nat.{ℕ, zero, suc, _+_, _*_, _/_, _≤_, _<_}
 use native.Mathlib.Decide.{decLt, decLe}
 use native.Mathlib.Omega.{arith}
-use lib.Dec.{ltb, leb}
+use lib.Dec.{ltb}
 use borrow.Author.Tests.{eq-eqb, ne-eqb, lt-ltb, le-ltb, le-leb, lt-leb}
 use Rattle.model.specs.Lists.{bit, least, count, len}
 use Rattle.model.specs.State.{Piece, Picker, piecesIn}
 use Rattle.model.specs.ask.Questions.{replyPicker, plain, distributed-copies, copies, lowest, maxPeerCount, distributed}
 use Rattle.model.proofs.base.Counts.{count-append, count-le}
-use Rattle.memory_records.specs.declared.record.DownloadingPiece.{DownloadingPiece as Record}
 use Rattle.memory_layout.specs.declared.shape.Shape.{Shape}
 use Rattle.memory_layout.specs.Tables.{tabulate}
-use Rattle.memory_layout.specs.Decode.{headWord, pieceCell, yes?, pieceHeld, piecesHeld, decode, decodeAt}
-use Rattle.memory_layout.specs.Bounds.{InBounds}
+use Rattle.memory_layout.specs.Decode.{headWord, pieceCell, yes?, pieceHeld, piecesHeld}
 use Rattle.memory_layout.proofs.TableLaws.{tabulate-len, tabulate-more}
-use Rattle.memory_layout.proofs.Meanings.{pieces-number}
 use Rattle.memory_layout.proofs.BoundsLaws.{decode-at}
 use Rattle.ask_picker.specs.Telling.{BothSay}
 use Rattle.ask_columns.specs.declared.copies.Least.{Least}

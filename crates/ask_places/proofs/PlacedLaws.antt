@@ -2,7 +2,7 @@
 use mathlib.Core.Path.{_≡_, refl, sym, ap, _∙_}
 use mathlib.Core.Bool.{Bool, true, false, true≢false}
 use mathlib.Core.List.{List, [], _∷_}
-use mathlib.Core.Option.{Option, none, some}
+use mathlib.Core.Option.{none, some}
 use Prim.Native.Nat.{ℕ, zero, suc, _≤_, _<_}
 use native.Mathlib.Nat.{le-of-suc-le-suc}
 use native.Mathlib.Omega.{arith}
@@ -10,13 +10,14 @@ use lib.ListN.{getElem?, getD}
 use Rattle.model.specs.Lists.{nth, len, each}
 use Rattle.model.specs.State.{Listing, dirty, fresh, isDirty, listOf, DownloadingPiece, Picker}
 use Rattle.model.specs.pick.Pick.{noPartial}
-use Rattle.model.specs.ask.Questions.{Reply, reply, one, nothing, staleList, placeIn, listPlace, partial-at, recent-extent, list-place}
+use Rattle.model.specs.ask.Questions.{reply, one, nothing, staleList, placeIn, listPlace, partial-at, recent-extent, list-place}
 use Rattle.model.proofs.sound.PieceLaws.{size-each, at-each-in}
 use Rattle.memory_layout.specs.declared.shape.Shape.{Shape}
 use Rattle.memory_layout.specs.Decode.{decode}
 use Rattle.memory_fields.specs.Reading.{HeadSays, WordsSay}
-use Rattle.memory_rows.specs.Lookup.{LiveRows, pickerIn}
+use Rattle.memory_rows.specs.Lookup.{pickerIn}
 use Rattle.memory_rows.proofs.RisingLaws.{live-number, live-nth}
+use Rattle.ask_picker.specs.Telling.{RowsSay}
 
 -- ---- a list
 module _ (l : List ℕ) (k : ℕ) where
@@ -43,24 +44,28 @@ module _ (l : List ℕ) (k : ℕ) where
   placed-past h = sym (ap placeIn (at-past l k h))
 
 -- ---- partials
-module _ (s : Shape) (live : ℕ) (rows words cells : List ℕ) (v : LiveRows s live rows words cells) (k : ℕ) where
-  pieces-many : len (each (λ (d : DownloadingPiece). d .piece) (pickerIn live rows words cells .partials)) ≡ live
-  pieces-many =
-      size-each (λ (d : DownloadingPiece). d .piece) (pickerIn live rows words cells .partials) ∙ live-number s live rows words cells v
+pieceOf : DownloadingPiece → ℕ
+pieceOf d = d .piece
 
-  pub partial-there : k < live → (r : ℕ) → r ≡ getD rows k 0 → one r ≡ reply (pickerIn live rows words cells) (partial-at k)
-  unfolding reply
-  partial-there h r e =
-      let ds = pickerIn live rows words cells .partials in
-      let m = live-number s live rows words cells v in
-      ap one (e ∙ sym (live-nth s live rows words cells v k h noPartial)
-      ∙ sym (at-each-in (λ (d : DownloadingPiece). d .piece) noPartial 0 ds k (omega arith)))
-      ∙ placed-there (each (λ (d : DownloadingPiece). d .piece) ds) k (omega (arith, pieces-many))
+module _ (live : ℕ) (rows : List ℕ) (k : ℕ) where
+  pub partial-there : k < live → (r : ℕ) → r ≡ getD rows k 0 → RowsSay live rows (λ d. reply d (partial-at k)) (one r)
+  unfolding reply pieceOf
+  partial-there h r e = record {
+    is = λ s words cells v.
+        let ds = pickerIn live rows words cells .partials in
+        let m = live-number s live rows words cells v in
+        ap one (e ∙ sym (live-nth s live rows words cells v k h noPartial) ∙ sym (at-each-in pieceOf noPartial 0 ds k (omega arith)))
+        ∙ placed-there (each pieceOf ds) k (omega (arith, size-each pieceOf ds));
+  }
 
-  pub partial-past : live ≤ k → nothing ≡ reply (pickerIn live rows words cells) (partial-at k)
-  unfolding reply
-  partial-past h =
-      placed-past (each (λ (d : DownloadingPiece). d .piece) (pickerIn live rows words cells .partials)) k (omega (arith, pieces-many))
+  pub partial-past : live ≤ k → RowsSay live rows (λ d. reply d (partial-at k)) nothing
+  unfolding reply pieceOf
+  partial-past h = record {
+    is = λ s words cells v.
+        let ds = pickerIn live rows words cells .partials in
+        let m = live-number s live rows words cells v in
+        placed-past (each pieceOf ds) k (omega (arith, size-each pieceOf ds));
+  }
 
 -- ---- extents
 module _ (s : Shape) (words : List ℕ) (k many : ℕ) (e : HeadSays words (λ d. len (d .recentExtents)) many) where

@@ -7,13 +7,13 @@ use types::u32_to_usize;
 use types::usize_to_u64;
 ghost use mathlib.Core.Path.{_≡_};
 ghost use Prim.Native.Nat.{_≤_};
+ghost use lib.ListN.{length};
 ghost use Rattle.model.specs.State.{maxExtents};
 ghost use Rattle.model.specs.ask.Questions.{reply, partial-at, recent-extent, list-place};
 ghost use Rattle.memory_layout.specs.Decode.{headWord};
 ghost use Rattle.memory_layout.specs.Bounds.{WordsSpan};
 ghost use Rattle.memory_fields.specs.Reading.{WordsSay};
-ghost use Rattle.memory_rows.specs.Lookup.{pickerIn};
-ghost use Rattle.ask_picker.specs.Asked.{Asked};
+ghost use Rattle.ask_picker.specs.Telling.{RowsSay};
 ghost use Rattle.ask_places.specs.Placed.{placedReply};
 
 // A number there, nothing there, or a list that has to be rebuilt before it has places.
@@ -24,16 +24,9 @@ pub enum Placed {
 }
 
 // The piece of partial k.
-pub fn partial_at(
-    words: &[u64],
-    cells: &[u16],
-    rows: &[u32],
-    live: usize,
-    s: Shape,
-    k: usize,
-) -> Placed
-    requires { ⌜ Asked s live (now rows) (now words) (now cells) ⌝ }
-    ensures { λ r. ⌜ placedReply r ≡ reply (pickerIn live (now (rows .entry)) (now (words .entry)) (now (cells .entry))) (partial-at k) ⌝ }
+pub fn partial_at(rows: &[u32], live: usize, k: usize) -> Placed
+    requires { ⌜ (live ≤ 512) × (length (now rows) ≡ 1536) ⌝ }
+    ensures { λ r. ⌜ RowsSay live (now (rows .entry)) (λ d. reply d (partial-at k)) (placedReply r) ⌝ }
 {
     if k < live {
         return Placed::Number(usize_to_u64(u32_to_usize(rows[k])));

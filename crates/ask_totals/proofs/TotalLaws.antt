@@ -1,5 +1,5 @@
 -- A turn of the pass over the pieces of a picker that stands, and its end. Assumes nothing.
-use mathlib.Core.Path.{_≡_, sym, ap, ap₂, _∙_}
+use mathlib.Core.Path.{_≡_, ap, ap₂, _∙_}
 use mathlib.Core.Bool.{Bool, _||_}
 use mathlib.Core.List.{List}
 use Prim.Native.Nat.{ℕ, _+_, _*_, _≤_, _<_}
@@ -7,7 +7,7 @@ use native.Mathlib.Omega.{arith}
 use lib.Dec.{eqb}
 use lib.ListN.{getD}
 use Rattle.model.specs.Lists.{bit}
-use Rattle.model.specs.State.{Picker, pieceAt, piecesIn}
+use Rattle.model.specs.State.{pieceAt, piecesIn}
 use Rattle.model.specs.ask.Questions.{havePiece, filtered}
 use Rattle.memory_records.specs.Rows.{recordsIn}
 use Rattle.memory_layout.specs.declared.shape.Shape.{Shape}

@@ -1,25 +1,15 @@
 -- `partial_at` meets its contract. Assumes nothing.
 use mathlib.Core.Path.{_∙_}
-use native.Mathlib.Omega.{arith}
 use borrow.Author.Needs.{needs}
-use Rattle.ask_picker.proofs.AskedLaws.{asked-rows, asked-queues}
 use Rattle.ask_places.proofs.PlacedLaws.{partial-there, partial-past}
 use Rattle.ask_places.proofs.partial_at.Statement.{statement}
 use Rattle.ask_places.proofs.partial_at.Tie as tie
 
 mul-u32-to-usize : tie.Need-mul-u32-to-usize
-mul-u32-to-usize c =
-    let c4 = c .before .before .before .before in
-    let a = c4 .args in
-    let g = asked-queues (a .s) (a .live) (a .rows .now) (a .words .now) (a .cells .now) (c4 .pre) in
-    omega (arith, g .few, c4 .pre .wide)
+mul-u32-to-usize c = search needs
 
 shared-slice-read-u32-to-usize : tie.Need-shared-slice-read-u32-to-usize
-shared-slice-read-u32-to-usize c =
-    let c5 = c .before .before .before .before .before in
-    let a = c5 .args in
-    let g = asked-queues (a .s) (a .live) (a .rows .now) (a .words .now) (a .cells .now) (c5 .pre) in
-    omega (arith, g .few, c5 .pre .wide)
+shared-slice-read-u32-to-usize c = search needs
 
 u32-to-usize-requires : tie.Need-u32-to-usize-requires
 u32-to-usize-requires c κs = search needs
@@ -29,18 +19,10 @@ usize-to-u64-requires c κs = search needs
 
 returns : tie.Need-returns
 returns c =
-    let c7 = c .before .before .before .before .before .before .before in
-    let a = c7 .args in
-    let v = asked-rows (a .s) (a .live) (a .rows .now) (a .words .now) (a .cells .now) (c7 .pre) in
-    partial-there (a .s) (a .live) (a .rows .now) (a .words .now) (a .cells .now) v (a .k) (c .before .before .before .if1 .taken) _
-    (c .usize-to-u64 .ensures ∙ c .before .u32-to-usize .ensures)
+    partial-there _ _ _ (c .before .before .before .if1 .taken) _ (c .usize-to-u64 .ensures ∙ c .before .u32-to-usize .ensures)
 
 returns-2 : tie.Need-returns-2
-returns-2 c =
-    let c4 = c .before .before .before .before in
-    let a = c4 .args in
-    let v = asked-rows (a .s) (a .live) (a .rows .now) (a .words .now) (a .cells .now) (c4 .pre) in
-    partial-past (a .s) (a .live) (a .rows .now) (a .words .now) (a .cells .now) v (a .k) (c .if1 .left)
+returns-2 c = partial-past _ _ _ (c .if1 .left)
 
 pub partial-at-spec : {M : Type 1} → statement M
 partial-at-spec =

@@ -1,5 +1,5 @@
 -- `copies_at` meets its contract. Assumes nothing.
-use mathlib.Core.Path.{sym, _∙_}
+use mathlib.Core.Path.{_∙_}
 use borrow.Author.Needs.{needs}
 use Rattle.ask_columns.proofs.LeastLaws.{copies-flushed, copies-plain}
 use Rattle.ask_columns.proofs.copies.copies_at.Statement.{statement}
