@@ -11,13 +11,13 @@ import sys
 
 ROOT = pathlib.Path(__file__).resolve().parent.parent
 
-# a field of the head: question, function below, what makes a reply of it, where its contract says what it reads
+# a field of the head: crate, question, function below, what makes a reply of it, where its contract says what it reads
 FIELDS = [
-    ('num_seeds', 'seeds', 'one', '.ensures'),
-    ('cursor', 'cursor', 'one', '.ensures'),
-    ('reverse_cursor', 'reverse_cursor', 'one', '.ensures'),
-    ('dirty', 'is_dirty', 'flag', '.ensures'),
-    ('get_download_queue_size', 'num_partials', 'one', '.ensures .1'),
+    ('ask_picker', 'num_seeds', 'seeds', 'one', '.ensures'),
+    ('ask_picker', 'cursor', 'cursor', 'one', '.ensures'),
+    ('ask_picker', 'reverse_cursor', 'reverse_cursor', 'one', '.ensures'),
+    ('ask_picker', 'dirty', 'is_dirty', 'flag', '.ensures'),
+    ('ask_picker', 'get_download_queue_size', 'num_partials', 'one', '.ensures .1'),
 ]
 
 FIELD = """-- `{fn}` meets its contract. Assumes nothing.
@@ -25,8 +25,8 @@ FIELD = """-- `{fn}` meets its contract. Assumes nothing.
 use mathlib.Core.Path.{{ap}}
 use borrow.Author.Needs.{{needs}}
 use Rattle.model.specs.ask.Questions.{{replyPicker, {wrap}}}
-use Rattle.ask_picker.proofs.{fn}.Statement.{{statement}}
-use Rattle.ask_picker.proofs.{fn}.Tie as tie
+use Rattle.{crate}.proofs.{fn}.Statement.{{statement}}
+use Rattle.{crate}.proofs.{fn}.Tie as tie
 
 {below}-requires : tie.Need-{below}-requires
 {below}-requires c κs = search needs
@@ -120,9 +120,9 @@ def kebab(name):
 def files():
     """Every file with its text."""
     made = {}
-    for fn, below, wrap, says in FIELDS:
-        text = FIELD.format(fn=fn, below=kebab(below), wrap=wrap, says=says, kebab=kebab(fn))
-        made[ROOT / 'crates/ask_picker/proofs' / fn / 'Proof.antt'] = text
+    for crate, fn, below, wrap, says in FIELDS:
+        text = FIELD.format(crate=crate, fn=fn, below=kebab(below), wrap=wrap, says=says, kebab=kebab(fn))
+        made[ROOT / 'crates' / crate / 'proofs' / fn / 'Proof.antt'] = text
     for fn in WORDS:
         made[ROOT / 'crates/ask_picker/proofs' / fn / 'Proof.antt'] = WORD.format(fn=fn, kebab=kebab(fn))
     totals = ROOT / 'crates/ask_totals/proofs/totals'
