@@ -20,6 +20,15 @@ FIELDS = [
     ('ask_picker', 'get_download_queue_size', 'num_partials', 'one', '.ensures .1'),
 ]
 
+# a field of a piece: crate, question, function below, what makes a reply of it, the buffer that is not read
+PIECE_FIELDS = [
+    ('ask_piece', 'fields/pad_bytes_in_piece', 'pad_bytes', 'one', 'cells'),
+    ('ask_piece', 'fields/peer_count', 'peer_count', 'one', 'words'),
+    ('ask_piece', 'fields/piece_priority', 'priority', 'one', 'words'),
+    ('ask_piece', 'fields/download_state', 'state', 'one', 'words'),
+    ('ask_piece', 'fields/is_piece_flushed', 'flushed', 'flag', 'words'),
+]
+
 FIELD = """-- `{fn}` meets its contract. Assumes nothing.
 -- Written by tools/asks.py, and not by hand.
 use mathlib.Core.Path.{{ap}}
@@ -39,6 +48,25 @@ pub {kebab}-spec : {{M : Type 1}} → statement M
 {kebab}-spec = tie.close (tie.spec {below}-requires returns)
 """
 
+PIECE_FIELD = """-- `{fn}` meets its contract. Assumes nothing.
+-- Written by tools/asks.py, and not by hand.
+use mathlib.Core.Path.{{ap}}
+use borrow.Author.Needs.{{needs}}
+use Rattle.model.specs.ask.Questions.{{replyPiece, {wrap}}}
+use Rattle.{crate}.proofs.{path}.Statement.{{statement}}
+use Rattle.{crate}.proofs.{path}.Tie as tie
+
+{below}-requires : tie.Need-{below}-requires
+{below}-requires c κs = search needs
+
+returns : tie.Need-returns
+unfolding replyPiece
+returns c = record {{ is = λ records {other} q. ap {wrap} (c .{below} .ensures .is records {other} q) }}
+
+pub {kebab}-spec : {{M : Type 1}} → statement M
+{kebab}-spec = tie.close (tie.spec {below}-requires returns)
+"""
+
 
 def kebab(name):
     """A name as proofs write it."""
@@ -51,6 +79,10 @@ def files():
     for crate, fn, below, wrap, says in FIELDS:
         text = FIELD.format(crate=crate, fn=fn, below=kebab(below), wrap=wrap, says=says, kebab=kebab(fn))
         made[ROOT / 'crates' / crate / 'proofs' / fn / 'Proof.antt'] = text
+    for crate, place, below, wrap, other in PIECE_FIELDS:
+        fn = place.split('/')[-1]
+        text = PIECE_FIELD.format(crate=crate, path=place.replace('/', '.'), fn=fn, below=kebab(below), wrap=wrap, other=other, kebab=kebab(fn))
+        made[ROOT / 'crates' / crate / 'proofs' / place / 'Proof.antt'] = text
     return made
 
 
