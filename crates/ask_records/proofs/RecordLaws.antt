@@ -83,7 +83,7 @@ module _ {B : Type 0} (w : ℕ) (read : List ℕ → List B) (parts : ℕ → Li
 
 -- ---- what they tell
 module _ {A B C : Type 0} (read : A → List B) (parts : C → List B) where
-  concat-ext : (n : ℕ) (f : ℕ → A) (g : ℕ → C) → ((j : ℕ) → j < n → read (f j) ≡ parts (g j))
+  pub concat-ext : (n : ℕ) (f : ℕ → A) (g : ℕ → C) → ((j : ℕ) → j < n → read (f j) ≡ parts (g j))
       → concatMap read (tabulate n f) ≡ concatMap parts (tabulate n g)
   unfolding tabulate concatMap
   concat-ext zero f g h = refl
