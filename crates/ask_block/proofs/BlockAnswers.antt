@@ -95,7 +95,8 @@ module _ (d : Picker) (i j : ℕ) where
   finished-flushed e = ap (λ (t : Bool). flag (t || blockTest (λ x. sameBlockState (x .state) Finished) found)) e
 
   -- one that is not
-  pub downloaded-open : false ≡ pieceAt d i .flushed → (t : Bool) → t ≡ blockTest received found → flag t ≡ reply d (ofBlock is-downloaded i j)
+  pub downloaded-open : false ≡ pieceAt d i .flushed → (t : Bool) → t ≡ blockTest received found
+      → flag t ≡ reply d (ofBlock is-downloaded i j)
   unfolding reply replyBlock
   downloaded-open e t h = ap flag h ∙ ap (λ (u : Bool). flag (u || blockTest received found)) e
 

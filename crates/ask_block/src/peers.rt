@@ -41,7 +41,8 @@ pub fn get_downloader(
 ) -> PeerOf
     requires { ⌜ Asked s live (now rows) (now words) (now cells) ⌝ }
     requires { ⌜ (i < s .pieces) × (j < blocksOf (now words) i) ⌝ }
-    ensures { λ r. ⌜ peerReply r ≡ reply (pickerIn live (now (rows .entry)) (now (words .entry)) (now (cells .entry))) (ofBlock get-downloader i j) ⌝ }
+    ensures { λ r. ⌜ peerReply r
+        ≡ reply (pickerIn live (now (rows .entry)) (now (words .entry)) (now (cells .entry))) (ofBlock get-downloader i j) ⌝ }
 {
     let BlockOf::Block(x) = block_of(words, cells, rows, live, s, i, j) else {
         return PeerOf::NoPeer;
@@ -63,7 +64,8 @@ pub fn block_peer(
 ) -> PeerOf
     requires { ⌜ Asked s live (now rows) (now words) (now cells) ⌝ }
     requires { ⌜ (i < s .pieces) × (j < blocksOf (now words) i) ⌝ }
-    ensures { λ r. ⌜ peerReply r ≡ reply (pickerIn live (now (rows .entry)) (now (words .entry)) (now (cells .entry))) (ofBlock block-peer i j) ⌝ }
+    ensures { λ r. ⌜ peerReply r
+        ≡ reply (pickerIn live (now (rows .entry)) (now (words .entry)) (now (cells .entry))) (ofBlock block-peer i j) ⌝ }
 {
     let BlockOf::Block(x) = block_of(words, cells, rows, live, s, i, j) else {
         return PeerOf::Nothing;

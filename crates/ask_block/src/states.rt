@@ -30,7 +30,8 @@ pub fn num_peers_block(
 ) -> u16
     requires { ⌜ Asked s live (now rows) (now words) (now cells) ⌝ }
     requires { ⌜ (i < s .pieces) × (j < blocksOf (now words) i) ⌝ }
-    ensures { λ r. ⌜ one r ≡ reply (pickerIn live (now (rows .entry)) (now (words .entry)) (now (cells .entry))) (ofBlock num-peers-block i j) ⌝ }
+    ensures { λ r. ⌜ one r
+        ≡ reply (pickerIn live (now (rows .entry)) (now (words .entry)) (now (cells .entry))) (ofBlock num-peers-block i j) ⌝ }
 {
     let BlockOf::Block(x) = block_of(words, cells, rows, live, s, i, j) else {
         return 0;
@@ -49,7 +50,8 @@ pub fn is_requested(
 ) -> bool
     requires { ⌜ Asked s live (now rows) (now words) (now cells) ⌝ }
     requires { ⌜ (i < s .pieces) × (j < blocksOf (now words) i) ⌝ }
-    ensures { λ r. ⌜ flag r ≡ reply (pickerIn live (now (rows .entry)) (now (words .entry)) (now (cells .entry))) (ofBlock is-requested i j) ⌝ }
+    ensures { λ r. ⌜ flag r
+        ≡ reply (pickerIn live (now (rows .entry)) (now (words .entry)) (now (cells .entry))) (ofBlock is-requested i j) ⌝ }
 {
     let BlockOf::Block(x) = block_of(words, cells, rows, live, s, i, j) else {
         return false;
@@ -69,7 +71,8 @@ pub fn is_downloaded(
 ) -> bool
     requires { ⌜ Asked s live (now rows) (now words) (now cells) ⌝ }
     requires { ⌜ (i < s .pieces) × (j < blocksOf (now words) i) ⌝ }
-    ensures { λ r. ⌜ flag r ≡ reply (pickerIn live (now (rows .entry)) (now (words .entry)) (now (cells .entry))) (ofBlock is-downloaded i j) ⌝ }
+    ensures { λ r. ⌜ flag r
+        ≡ reply (pickerIn live (now (rows .entry)) (now (words .entry)) (now (cells .entry))) (ofBlock is-downloaded i j) ⌝ }
 {
     if flushed(cells, s, i) {
         return true;
@@ -92,7 +95,8 @@ pub fn is_finished_block(
 ) -> bool
     requires { ⌜ Asked s live (now rows) (now words) (now cells) ⌝ }
     requires { ⌜ (i < s .pieces) × (j < blocksOf (now words) i) ⌝ }
-    ensures { λ r. ⌜ flag r ≡ reply (pickerIn live (now (rows .entry)) (now (words .entry)) (now (cells .entry))) (ofBlock is-finished-block i j) ⌝ }
+    ensures { λ r. ⌜ flag r
+        ≡ reply (pickerIn live (now (rows .entry)) (now (words .entry)) (now (cells .entry))) (ofBlock is-finished-block i j) ⌝ }
 {
     if flushed(cells, s, i) {
         return true;
@@ -115,7 +119,8 @@ pub fn block_state(
 ) -> NumberOf
     requires { ⌜ Asked s live (now rows) (now words) (now cells) ⌝ }
     requires { ⌜ (i < s .pieces) × (j < blocksOf (now words) i) ⌝ }
-    ensures { λ r. ⌜ numberReply r ≡ reply (pickerIn live (now (rows .entry)) (now (words .entry)) (now (cells .entry))) (ofBlock block-state i j) ⌝ }
+    ensures { λ r. ⌜ numberReply r
+        ≡ reply (pickerIn live (now (rows .entry)) (now (words .entry)) (now (cells .entry))) (ofBlock block-state i j) ⌝ }
 {
     let BlockOf::Block(x) = block_of(words, cells, rows, live, s, i, j) else {
         return NumberOf::Nothing;
@@ -134,7 +139,8 @@ pub fn block_num_peers(
 ) -> NumberOf
     requires { ⌜ Asked s live (now rows) (now words) (now cells) ⌝ }
     requires { ⌜ (i < s .pieces) × (j < blocksOf (now words) i) ⌝ }
-    ensures { λ r. ⌜ numberReply r ≡ reply (pickerIn live (now (rows .entry)) (now (words .entry)) (now (cells .entry))) (ofBlock block-num-peers i j) ⌝ }
+    ensures { λ r. ⌜ numberReply r
+        ≡ reply (pickerIn live (now (rows .entry)) (now (words .entry)) (now (cells .entry))) (ofBlock block-num-peers i j) ⌝ }
 {
     let BlockOf::Block(x) = block_of(words, cells, rows, live, s, i, j) else {
         return NumberOf::Nothing;

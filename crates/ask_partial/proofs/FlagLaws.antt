@@ -41,7 +41,6 @@ module _ (s : Shape) (live : ℕ) (rows words cells : List ℕ) (v : LiveRows s 
   unfolding rowAt
   row-flags = ap (λ (r : Record). r .flags) (record-row live rows k h)
 
-
   pub row-flag : (weight : ℕ) → IsWeight weight
       → eqb (getD rows (1024 + k) 0 / weight % 2) 1 ≡ flagIn weight (partialIn (pickerIn live rows words cells) k)
   unfolding flagIn bitOf

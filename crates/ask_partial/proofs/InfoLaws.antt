@@ -11,7 +11,8 @@ use Rattle.model.specs.Lists.{bit}
 use Rattle.model.specs.Bep3.{bitOf}
 use Rattle.model.specs.State.{Picker, DownloadingPiece, pieceAt, blocksInPiece}
 use Rattle.model.specs.change.Partials.{partialOf, blocksInState}
-use Rattle.model.specs.ask.Questions.{replyPiece, infoOf, info, finishedIn, plain, flag, one, blocks-in-piece, piece-info, is-piece-finished}
+use Rattle.model.specs.ask.Questions.{replyPiece, infoOf, info, finishedIn, plain, flag, one, blocks-in-piece, piece-info}
+use Rattle.model.specs.ask.Questions.{is-piece-finished}
 use Rattle.memory_records.specs.declared.record.DownloadingPiece.{DownloadingPiece as Record}
 use Rattle.memory_records.specs.declared.search.Found.the-variants.{At, Nothing}
 use Rattle.memory_records.specs.Rows.{rowAt, recordsIn}
@@ -139,7 +140,8 @@ module _ (s : Shape) (live : ℕ) (rows counts words cells : List ℕ) (g : Aske
         ∙ ap (infoOf here i) (sym (f .is s words cells (asked-rows s live rows words cells (g .asked)))))
 
     -- that of a row
-    pub info-some : (r : PieceInfo) (k : ℕ) → FoundIn live rows i (At k) → InfoSays rows counts k r → infoReply r ≡ replyPiece here i piece-info
+    pub info-some : (r : PieceInfo) (k : ℕ) → FoundIn live rows i (At k) → InfoSays rows counts k r
+        → infoReply r ≡ replyPiece here i piece-info
     unfolding infoReply replyPiece infoOf
     info-some r k f e =
         let v = asked-rows s live rows words cells (g .asked) in
@@ -153,7 +155,8 @@ module _ (s : Shape) (live : ℕ) (rows counts words cells : List ℕ) (g : Aske
         ∙ ap (finishedIn here i) (sym (f .is s words cells (asked-rows s live rows words cells (g .asked)))))
 
     pub finished-some : (k finished writing blocks there : ℕ) → FoundIn live rows i (At k) → CountSays counts k Finished finished
-        → CountSays counts k Writing writing → HeadSays words (λ d. replyPiece d i blocks-in-piece) (one blocks) → there ≡ finished + writing
+        → CountSays counts k Writing writing → HeadSays words (λ d. replyPiece d i blocks-in-piece) (one blocks)
+        → there ≡ finished + writing
         → flag (leb blocks there) ≡ replyPiece here i is-piece-finished
     unfolding replyPiece finishedIn
     finished-some k finished writing blocks there f a b n e =

@@ -102,7 +102,8 @@ pub fn is_piece_finished(
 ) -> bool
     requires { ⌜ AskedCounts s live (now rows) (now counts) (now words) (now cells) ⌝ }
     requires { ⌜ i < s .pieces ⌝ }
-    ensures { λ r. ⌜ flag r ≡ replyPiece (pickerIn live (now (rows .entry)) (now (words .entry)) (now (cells .entry))) i is-piece-finished ⌝ }
+    ensures { λ r. ⌜ flag r
+        ≡ replyPiece (pickerIn live (now (rows .entry)) (now (words .entry)) (now (cells .entry))) i is-piece-finished ⌝ }
 {
     let Found::At(k) = find(rows, live, i) else {
         return flushed(cells, s, i);

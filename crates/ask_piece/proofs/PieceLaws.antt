@@ -33,7 +33,8 @@ use Rattle.ask_piece.proofs.ReplyLaws.{one-is}
 
 -- ---- lengths
 -- a piece of the shape is one of the geometry
-pub piece-there : (s : Shape) (words : List ℕ) (i : ℕ) → ShapeOf s words → i < s .pieces → i < numPieces (headWord words 0) (headWord words 1)
+pub piece-there : (s : Shape) (words : List ℕ) (i : ℕ) → ShapeOf s words → i < s .pieces
+    → i < numPieces (headWord words 0) (headWord words 1)
 unfolding piecesOn
 piece-there s words i g h = omega (arith, g .pieces)
 
@@ -43,7 +44,8 @@ unfolding blockLength numPieces
 block-long s words i g h = omega (arith, part-some (headWord words 0) (headWord words 1) i (piece-there s words i g h))
 
 -- the blocks without those that pads fill
-pub payload-says : (s : Shape) (words : List ℕ) (i blocks pad long r : ℕ) → HeadSays words (λ d. replyPiece d i blocks-in-piece) (one blocks)
+pub payload-says : (s : Shape) (words : List ℕ) (i blocks pad long r : ℕ)
+    → HeadSays words (λ d. replyPiece d i blocks-in-piece) (one blocks)
     → WordsSay s words (λ d. pieceAt d i .padBytes) pad → long ≡ blockLength (headWord words 1) → r ≡ blocks - pad / long
     → WordsSay s words (λ d. replyPiece d i payload-blocks-in-piece) (one r)
 unfolding replyPiece payloadBlocksInPiece

@@ -49,7 +49,8 @@ info-long x = refl
 pub infos-start : (rows counts row : List ℕ) (n : ℕ) (out : List ℕ) → InfosPut rows counts row n 0 out out
 infos-start rows counts row n out = record { long = refl; put = λ j h. absurd (omega arith); below = λ k h. refl; behind = λ k h. refl }
 
-pub infos-next : (rows counts row : List ℕ) (n j k : ℕ) (x : PieceInfo) (before mid after : List ℕ) → InfosPut rows counts row n j before mid
+pub infos-next : (rows counts row : List ℕ) (n j k : ℕ) (x : PieceInfo) (before mid after : List ℕ)
+    → InfosPut rows counts row n j before mid
     → k ≡ nth 0 row j → InfoSays rows counts k x → WordsPut (7 * (n + j)) 7 (infoNumbers x) mid after
     → InfosPut rows counts row n (j + 1) before after
 infos-next rows counts row n j k x before mid after g e i p =

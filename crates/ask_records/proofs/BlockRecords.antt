@@ -124,7 +124,8 @@ module _ (s : Shape) (live : ℕ) (rows words cells : List ℕ) (g : Asked s liv
           → numbers (told 2 peerRead many after) ≡ listPiece here i get-downloaders
       unfolding listPiece peersIn
       downloaders-some before after l =
-          ap numbers (told-parts 2 peerRead (λ (x : Block). x .peer ∷ []) (blockHeld words cells (s .pieces) (s .blocks) p) many before after l
+          ap numbers (told-parts 2 peerRead (λ (x : Block). x .peer ∷ []) (blockHeld words cells (s .pieces) (s .blocks) p) many before
+          after l
           ∙ concat-each (λ (x : Block). x .peer) (tabulate many (blockHeld words cells (s .pieces) (s .blocks) p))
           ∙ ap (each (λ (x : Block). x .peer)) (sym blocks-there)
           ∙ ap (peersIn here i) (sym (f .is s words cells (asked-rows s live rows words cells g) .1)))
@@ -136,7 +137,8 @@ module _ (s : Shape) (live : ℕ) (rows words cells : List ℕ) (g : Asked s liv
       blocks-some before after l =
           ap numbers (told-parts 4 blockRead blockInfo (blockHeld words cells (s .pieces) (s .blocks) p) many before after l
           ∙ ap (concatMap blockInfo) (sym blocks-there))
-          ∙ ap (ofPartial (λ d. numbers (concatMap blockInfo (d .blocks)))) (sym (f .is s words cells (asked-rows s live rows words cells g) .1))
+          ∙ ap (ofPartial (λ d. numbers (concatMap blockInfo (d .blocks))))
+          (sym (f .is s words cells (asked-rows s live rows words cells g) .1))
 
   -- no partial stands
   pub blocks-none : FoundIn live rows i Nothing → (out : List ℕ) → blocksReply out NoRecords ≡ listPiece here i blocks-for-piece

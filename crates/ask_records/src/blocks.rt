@@ -38,7 +38,12 @@ fn blocks_at(words: &[u64], cells: &[u16], s: Shape, p: usize, many: usize, out:
     let mut j = 0;
     while j < many {
         let x = get_block(words, cells, s, p, j);
-        let block = [u16_to_u64(x.state), u16_to_u64(x.num_peers), bit_of(x.has_peer), x.peer];
+        let block = [
+            u16_to_u64(x.state),
+            u16_to_u64(x.num_peers),
+            bit_of(x.has_peer),
+            x.peer,
+        ];
         put_words(out, 4 * j, &block);
         j += 1;
     }

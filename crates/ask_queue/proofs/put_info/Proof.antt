@@ -27,21 +27,35 @@ bit-of-requires-3 : tie.Need-bit-of-requires-3
 bit-of-requires-3 c κs = search needs
 
 mul-put-words : tie.Need-mul-put-words
-mul-put-words c = omega (arith, c .before .before .before .before .before .before .before .before .before .pre)
+mul-put-words c =
+    let c9 = c .before .before .before .before .before .before .before .before .before in
+    omega (arith, c9 .pre)
 
 slice-aggregate-put-words : tie.Need-slice-aggregate-put-words
 slice-aggregate-put-words c = search needs
 
 put-words-requires : tie.Need-put-words-requires
-put-words-requires c κs = omega (arith, c .before .before .before .before .before .before .before .before .before .before .pre)
+put-words-requires c κs =
+    let c10 = c .before .before .before .before .before .before .before .before .before .before in
+    omega (arith, c10 .pre)
 
 same-length : tie.Need-same-length
 same-length c = c .before .before .put-words .ensures .long
 
 returns : tie.Need-returns
 returns c =
-    info-row (c .before .before .before .before .before .before .before .before .before .before .before .before .before .args .x) _ _ _ _ _ _ _ _ _ _ (c .before .before .before .before .before .before .before .before .before .before .before .usize-to-u64 .ensures) (c .before .before .before .before .before .before .before .before .before .before .u16-to-u64 .ensures) (c .before .before .before .before .before .before .before .before .before .bit-of .ensures) (c .before .before .before .before .before .before .before .before .u16-to-u642 .ensures)
-    (c .before .before .before .before .before .before .before .bit-of2 .ensures) (c .before .before .before .before .before .before .u16-to-u643 .ensures) (c .before .before .before .before .before .bit-of3 .ensures) (c .before .before .put-words .ensures)
+    let c2 = c .before .before in
+    let c5 = c2 .before .before .before in
+    let c6 = c5 .before in
+    let c7 = c6 .before in
+    let c8 = c7 .before in
+    let c9 = c8 .before in
+    let c10 = c9 .before in
+    let c11 = c10 .before in
+    let c13 = c11 .before .before in
+    info-row (c13 .args .x) _ _ _ _ _ _ _ _ _ _ (c11 .usize-to-u64 .ensures) (c10 .u16-to-u64 .ensures) (c9 .bit-of .ensures)
+    (c8 .u16-to-u642 .ensures)
+    (c7 .bit-of2 .ensures) (c6 .u16-to-u643 .ensures) (c5 .bit-of3 .ensures) (c2 .put-words .ensures)
 
 pub put-info-spec : {M : Type 1} → statement M
 put-info-spec =

@@ -20,16 +20,26 @@ loop-holds : tie.Need-loop-holds Inv-loop μ-loop
 loop-holds c = (omega arith, infos-start _ _ _ _ _)
 
 place-at-requires : tie.Need-place-at-requires Inv-loop μ-loop
-place-at-requires c κs = (c .before .before .before .before .before .pre .1 .0 .0, omega (arith, c .before .before .before .before .before .pre .1 .0 .1))
+place-at-requires c κs =
+    let c5 = c .before .before .before .before .before in
+    (c5 .pre .1 .0 .0, omega (arith, c5 .pre .1 .0 .1))
 
 add-put-info : tie.Need-add-put-info Inv-loop μ-loop
 add-put-info c = omega (arith, c .before .before .before .before .before .before .before .pre .1 .1 .1)
 
 info-at-requires : tie.Need-info-at-requires Inv-loop μ-loop
-info-at-requires c κs = ((omega (arith, c .before .place-at .ensures, c .before .before .before .before .before .before .before .pre .1 .1 .0 (c .before .before .before .loop .j) (c .before .before .loop-test .taken)), c .before .before .before .before .before .before .before .pre .0 .0), c .before .before .before .before .before .before .before .pre .0 .1)
+info-at-requires c κs =
+    let c1 = c .before in
+    let c2 = c1 .before in
+    let c3 = c2 .before in
+    let c7 = c3 .before .before .before .before in
+    ((omega (arith, c1 .place-at .ensures, c7 .pre .1 .1 .0 (c3 .loop .j) (c2 .loop-test .taken)), c7 .pre .0 .0), c7 .pre .0 .1)
 
 put-info-requires : tie.Need-put-info-requires Inv-loop μ-loop
-put-info-requires c κs = omega (arith, c .before .before .before .before .before .before .before .before .pre .1 .1 .1, c .before .before .before .before .loop .inv .1 .long)
+put-info-requires c κs =
+    let c4 = c .before .before .before .before in
+    let c8 = c4 .before .before .before .before in
+    omega (arith, c8 .pre .1 .1 .1, c4 .loop .inv .1 .long)
 
 add-j : tie.Need-add-j Inv-loop μ-loop
 add-j c = search needs
@@ -38,7 +48,15 @@ loop-less : tie.Need-loop-less Inv-loop μ-loop
 loop-less c = search needs
 
 loop-again : tie.Need-loop-again Inv-loop μ-loop
-loop-again c = (omega arith, infos-next _ _ _ _ _ _ _ _ _ _ (c .before .before .before .before .before .before .before .loop .inv .1) (c .before .before .before .before .before .place-at .ensures) (c .before .before .before .info-at .ensures) (c .before .before .put-info .ensures))
+loop-again c =
+    let c2 = c .before .before in
+    let c3 = c2 .before in
+    let c5 = c3 .before .before in
+    let c7 = c5 .before .before in (
+      omega arith,
+      infos-next _ _ _ _ _ _ _ _ _ _ (c7 .loop .inv .1) (c5 .place-at .ensures) (c3 .info-at .ensures)
+          (c2 .put-info .ensures),
+    )
 
 same-length : tie.Need-same-length Inv-loop μ-loop
 same-length c = c .before .loop .inv .1 .long

@@ -24,9 +24,11 @@ enum-told c = search needs
 returns : tie.Need-returns
 unfolding replyBlock ofBlockThere peerReply
 returns c =
-    let a = c .before .before .before .before .before .before .args in
+    let c2 = c .before .before in
+    let c6 = c2 .before .before .before .before in
+    let a = c6 .args in
     let d = pickerIn (a .live) (a .rows .now) (a .words .now) (a .cells .now) in
-    let t = subst (BlockTold (blockIn (partialOf d (a .i)) (a .j))) (c .enum-told .given .1) (c .before .before .block-of .ensures) in
+    let t = subst (BlockTold (blockIn (partialOf d (a .i)) (a .j))) (c .enum-told .given .1) (c2 .block-of .ensures) in
     asked-of d (a .i) (a .j) block-peer none t
 
 peer-of-requires : tie.Need-peer-of-requires
@@ -35,9 +37,12 @@ peer-of-requires c κs = search needs
 returns-2 : tie.Need-returns-2
 unfolding replyBlock ofBlockThere peerReply
 returns-2 c =
-    let a = c .before .before .before .before .before .before .before .before .args in
+    let c2 = c .before .before in
+    let c4 = c2 .before .before in
+    let c8 = c4 .before .before .before .before in
+    let a = c8 .args in
     let d = pickerIn (a .live) (a .rows .now) (a .words .now) (a .cells .now) in
-    let t = subst (BlockTold (blockIn (partialOf d (a .i)) (a .j))) (c .before .before .x .given .1) (c .before .before .before .before .block-of .ensures) in
+    let t = subst (BlockTold (blockIn (partialOf d (a .i)) (a .j))) (c2 .x .given .1) (c4 .block-of .ensures) in
     ap peerReply (c .peer-of .ensures) ∙ peer-reply _ ∙ asked-of d (a .i) (a .j) block-peer _ (t .0)
 
 pub block-peer-spec : {M : Type 1} → statement M

@@ -24,17 +24,22 @@ enum-told c = search needs
 returns : tie.Need-returns
 unfolding replyBlock downloaderOf peerReply
 returns c =
-    let a = c .before .before .before .before .before .before .args in
+    let c2 = c .before .before in
+    let c6 = c2 .before .before .before .before in
+    let a = c6 .args in
     let d = pickerIn (a .live) (a .rows .now) (a .words .now) (a .cells .now) in
-    let t = subst (BlockTold (blockIn (partialOf d (a .i)) (a .j))) (c .enum-told .given .1) (c .before .before .block-of .ensures) in
+    let t = subst (BlockTold (blockIn (partialOf d (a .i)) (a .j))) (c .enum-told .given .1) (c2 .block-of .ensures) in
     asked-of d (a .i) (a .j) get-downloader none t
 
 returns-2 : tie.Need-returns-2
 unfolding peerReply
 returns-2 c =
-    let a = c .before .before .before .before .before .before .before .before .before .args in
+    let c3 = c .before .before .before in
+    let c5 = c3 .before .before in
+    let c9 = c5 .before .before .before .before in
+    let a = c9 .args in
     let d = pickerIn (a .live) (a .rows .now) (a .words .now) (a .cells .now) in
-    let t = subst (BlockTold (blockIn (partialOf d (a .i)) (a .j))) (c .before .before .before .x .given .1) (c .before .before .before .before .before .block-of .ensures) in
+    let t = subst (BlockTold (blockIn (partialOf d (a .i)) (a .j))) (c3 .x .given .1) (c5 .block-of .ensures) in
     downloader-free d (a .i) (a .j) _ (t .0) (t .1) (c .if1 .taken)
 
 peer-of-requires : tie.Need-peer-of-requires
@@ -42,10 +47,14 @@ peer-of-requires c κs = search needs
 
 returns-3 : tie.Need-returns-3
 returns-3 c =
-    let a = c .before .before .before .before .before .before .before .before .before .before .args in
+    let c1 = c .before in
+    let c4 = c1 .before .before .before in
+    let c6 = c4 .before .before in
+    let c10 = c6 .before .before .before .before in
+    let a = c10 .args in
     let d = pickerIn (a .live) (a .rows .now) (a .words .now) (a .cells .now) in
-    let t = subst (BlockTold (blockIn (partialOf d (a .i)) (a .j))) (c .before .before .before .before .x .given .1) (c .before .before .before .before .before .before .block-of .ensures) in
-    ap peerReply (c .peer-of .ensures) ∙ peer-reply _ ∙ downloader-busy d (a .i) (a .j) _ (t .0) (t .1) (c .before .if1 .left)
+    let t = subst (BlockTold (blockIn (partialOf d (a .i)) (a .j))) (c4 .x .given .1) (c6 .block-of .ensures) in
+    ap peerReply (c .peer-of .ensures) ∙ peer-reply _ ∙ downloader-busy d (a .i) (a .j) _ (t .0) (t .1) (c1 .if1 .left)
 
 pub get-downloader-spec : {M : Type 1} → statement M
 get-downloader-spec =

@@ -24,10 +24,12 @@ flushed-requires c κs = search needs
 
 returns : tie.Need-returns
 returns c =
-    let a = c .before .before .before .before .before .args in
+    let c1 = c .before in
+    let c5 = c1 .before .before .before .before in
+    let a = c5 .args in
     let d = pickerIn (a .live) (a .rows .now) (a .words .now) (a .cells .now) in
-    let e = subst (CellsSay (a .s) (a .cells .now) (λ d. pieceAt d (a .i) .flushed)) (c .if1 .taken) (c .before .flushed .ensures)
-    .is (recordsIn (a .live) (a .rows .now)) (a .words .now) (c .before .before .before .before .before .pre .0 .stands .bounds) in
+    let e = subst (CellsSay (a .s) (a .cells .now) (λ d. pieceAt d (a .i) .flushed)) (c .if1 .taken) (c1 .flushed .ensures)
+    .is (recordsIn (a .live) (a .rows .now)) (a .words .now) (c5 .pre .0 .stands .bounds) in
     downloaded-flushed d (a .i) (a .j) e
 
 block-of-requires : tie.Need-block-of-requires
@@ -42,21 +44,30 @@ enum-told c = search needs
 returns-2 : tie.Need-returns-2
 unfolding blockTest
 returns-2 c =
-    let a = c .before .before .before .before .before .before .before .before .args in
+    let c2 = c .before .before in
+    let c3 = c2 .before in
+    let c4 = c3 .before in
+    let c8 = c4 .before .before .before .before in
+    let a = c8 .args in
     let d = pickerIn (a .live) (a .rows .now) (a .words .now) (a .cells .now) in
-    let t = subst (BlockTold (blockIn (partialOf d (a .i)) (a .j))) (c .enum-told .given .1) (c .before .before .block-of .ensures) in
-    let e = subst (CellsSay (a .s) (a .cells .now) (λ d. pieceAt d (a .i) .flushed)) (c .before .before .before .if1 .left) (c .before .before .before .before .flushed .ensures)
-    .is (recordsIn (a .live) (a .rows .now)) (a .words .now) (c .before .before .before .before .before .before .before .before .pre .0 .stands .bounds) in
+    let t = subst (BlockTold (blockIn (partialOf d (a .i)) (a .j))) (c .enum-told .given .1) (c2 .block-of .ensures) in
+    let e = subst (CellsSay (a .s) (a .cells .now) (λ d. pieceAt d (a .i) .flushed)) (c3 .if1 .left) (c4 .flushed .ensures)
+    .is (recordsIn (a .live) (a .rows .now)) (a .words .now) (c8 .pre .0 .stands .bounds) in
     downloaded-open d (a .i) (a .j) e _ (ap (blockTest received) (sym t))
 
 returns-3 : tie.Need-returns-3
 unfolding blockTest sameBlockState received
 returns-3 c =
-    let a = c .before .before .before .before .before .before .before .before .before .before .before .args in
+    let c3 = c .before .before .before in
+    let c5 = c3 .before .before in
+    let c6 = c5 .before in
+    let c7 = c6 .before in
+    let c11 = c7 .before .before .before .before in
+    let a = c11 .args in
     let d = pickerIn (a .live) (a .rows .now) (a .words .now) (a .cells .now) in
-    let t = subst (BlockTold (blockIn (partialOf d (a .i)) (a .j))) (c .before .before .before .x .given .1) (c .before .before .before .before .before .block-of .ensures) in
-    let e = subst (CellsSay (a .s) (a .cells .now) (λ d. pieceAt d (a .i) .flushed)) (c .before .before .before .before .before .before .if1 .left) (c .before .before .before .before .before .before .before .flushed .ensures)
-    .is (recordsIn (a .live) (a .rows .now)) (a .words .now) (c .before .before .before .before .before .before .before .before .before .before .before .pre .0 .stands .bounds) in
+    let t = subst (BlockTold (blockIn (partialOf d (a .i)) (a .j))) (c3 .x .given .1) (c5 .block-of .ensures) in
+    let e = subst (CellsSay (a .s) (a .cells .now) (λ d. pieceAt d (a .i) .flushed)) (c6 .if1 .left) (c7 .flushed .ensures)
+    .is (recordsIn (a .live) (a .rows .now)) (a .words .now) (c11 .pre .0 .stands .bounds) in
     downloaded-open d (a .i) (a .j) e _ (ap (λ (n : ℕ). eqb n 2 || eqb n 3) (t .1) ∙ ap (blockTest received) (sym (t .0)))
 
 pub is-downloaded-spec : {M : Type 1} → statement M

@@ -24,10 +24,12 @@ flushed-requires c κs = search needs
 
 returns : tie.Need-returns
 returns c =
-    let a = c .before .before .before .before .before .args in
+    let c1 = c .before in
+    let c5 = c1 .before .before .before .before in
+    let a = c5 .args in
     let d = pickerIn (a .live) (a .rows .now) (a .words .now) (a .cells .now) in
-    let e = subst (CellsSay (a .s) (a .cells .now) (λ d. pieceAt d (a .i) .flushed)) (c .if1 .taken) (c .before .flushed .ensures)
-    .is (recordsIn (a .live) (a .rows .now)) (a .words .now) (c .before .before .before .before .before .pre .0 .stands .bounds) in
+    let e = subst (CellsSay (a .s) (a .cells .now) (λ d. pieceAt d (a .i) .flushed)) (c .if1 .taken) (c1 .flushed .ensures)
+    .is (recordsIn (a .live) (a .rows .now)) (a .words .now) (c5 .pre .0 .stands .bounds) in
     finished-flushed d (a .i) (a .j) e
 
 block-of-requires : tie.Need-block-of-requires
@@ -42,22 +44,32 @@ enum-told c = search needs
 returns-2 : tie.Need-returns-2
 unfolding blockTest
 returns-2 c =
-    let a = c .before .before .before .before .before .before .before .before .args in
+    let c2 = c .before .before in
+    let c3 = c2 .before in
+    let c4 = c3 .before in
+    let c8 = c4 .before .before .before .before in
+    let a = c8 .args in
     let d = pickerIn (a .live) (a .rows .now) (a .words .now) (a .cells .now) in
-    let t = subst (BlockTold (blockIn (partialOf d (a .i)) (a .j))) (c .enum-told .given .1) (c .before .before .block-of .ensures) in
-    let e = subst (CellsSay (a .s) (a .cells .now) (λ d. pieceAt d (a .i) .flushed)) (c .before .before .before .if1 .left) (c .before .before .before .before .flushed .ensures)
-    .is (recordsIn (a .live) (a .rows .now)) (a .words .now) (c .before .before .before .before .before .before .before .before .pre .0 .stands .bounds) in
+    let t = subst (BlockTold (blockIn (partialOf d (a .i)) (a .j))) (c .enum-told .given .1) (c2 .block-of .ensures) in
+    let e = subst (CellsSay (a .s) (a .cells .now) (λ d. pieceAt d (a .i) .flushed)) (c3 .if1 .left) (c4 .flushed .ensures)
+    .is (recordsIn (a .live) (a .rows .now)) (a .words .now) (c8 .pre .0 .stands .bounds) in
     finished-open d (a .i) (a .j) e _ (ap (blockTest (λ x. sameBlockState (x .state) Finished)) (sym t))
 
 returns-3 : tie.Need-returns-3
 unfolding blockTest sameBlockState
 returns-3 c =
-    let a = c .before .before .before .before .before .before .before .before .before .before .args in
+    let c2 = c .before .before in
+    let c4 = c2 .before .before in
+    let c5 = c4 .before in
+    let c6 = c5 .before in
+    let c10 = c6 .before .before .before .before in
+    let a = c10 .args in
     let d = pickerIn (a .live) (a .rows .now) (a .words .now) (a .cells .now) in
-    let t = subst (BlockTold (blockIn (partialOf d (a .i)) (a .j))) (c .before .before .x .given .1) (c .before .before .before .before .block-of .ensures) in
-    let e = subst (CellsSay (a .s) (a .cells .now) (λ d. pieceAt d (a .i) .flushed)) (c .before .before .before .before .before .if1 .left) (c .before .before .before .before .before .before .flushed .ensures)
-    .is (recordsIn (a .live) (a .rows .now)) (a .words .now) (c .before .before .before .before .before .before .before .before .before .before .pre .0 .stands .bounds) in
-    finished-open d (a .i) (a .j) e _ (ap (λ (n : ℕ). eqb n 3) (t .1) ∙ ap (blockTest (λ x. sameBlockState (x .state) Finished)) (sym (t .0)))
+    let t = subst (BlockTold (blockIn (partialOf d (a .i)) (a .j))) (c2 .x .given .1) (c4 .block-of .ensures) in
+    let e = subst (CellsSay (a .s) (a .cells .now) (λ d. pieceAt d (a .i) .flushed)) (c5 .if1 .left) (c6 .flushed .ensures)
+    .is (recordsIn (a .live) (a .rows .now)) (a .words .now) (c10 .pre .0 .stands .bounds) in
+    finished-open d (a .i) (a .j) e _ (ap (λ (n : ℕ). eqb n 3) (t .1) ∙ ap (blockTest (λ x. sameBlockState (x .state) Finished)) (sym
+    (t .0)))
 
 pub is-finished-block-spec : {M : Type 1} → statement M
 is-finished-block-spec =

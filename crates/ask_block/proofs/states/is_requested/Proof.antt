@@ -25,17 +25,22 @@ enum-told c = search needs
 returns : tie.Need-returns
 unfolding replyBlock blockTest sameBlockState
 returns c =
-    let a = c .before .before .before .before .before .before .args in
+    let c2 = c .before .before in
+    let c6 = c2 .before .before .before .before in
+    let a = c6 .args in
     let d = pickerIn (a .live) (a .rows .now) (a .words .now) (a .cells .now) in
-    let t = subst (BlockTold (blockIn (partialOf d (a .i)) (a .j))) (c .enum-told .given .1) (c .before .before .block-of .ensures) in
+    let t = subst (BlockTold (blockIn (partialOf d (a .i)) (a .j))) (c .enum-told .given .1) (c2 .block-of .ensures) in
     asked-of d (a .i) (a .j) is-requested none t
 
 returns-2 : tie.Need-returns-2
 unfolding replyBlock blockTest sameBlockState
 returns-2 c =
-    let a = c .before .before .before .before .before .before .before .before .args in
+    let c2 = c .before .before in
+    let c4 = c2 .before .before in
+    let c8 = c4 .before .before .before .before in
+    let a = c8 .args in
     let d = pickerIn (a .live) (a .rows .now) (a .words .now) (a .cells .now) in
-    let t = subst (BlockTold (blockIn (partialOf d (a .i)) (a .j))) (c .before .before .x .given .1) (c .before .before .before .before .block-of .ensures) in
+    let t = subst (BlockTold (blockIn (partialOf d (a .i)) (a .j))) (c2 .x .given .1) (c4 .block-of .ensures) in
     ap (λ (n : ℕ). flag (eqb n 1)) (t .1) ∙ asked-of d (a .i) (a .j) is-requested _ (t .0)
 
 pub is-requested-spec : {M : Type 1} → statement M

@@ -17,8 +17,10 @@ flushed-requires c κs = search needs
 returns : tie.Need-returns
 unfolding replyPiece
 returns c =
-    let a = c .before .before .before .before .args in
-    let e = subst (CellsSay (a .s) (a .cells .now) (λ d. pieceAt d (a .i) .flushed)) (c .if1 .taken) (c .before .flushed .ensures) in
+    let c1 = c .before in
+    let c4 = c1 .before .before .before in
+    let a = c4 .args in
+    let e = subst (CellsSay (a .s) (a .cells .now) (λ d. pieceAt d (a .i) .flushed)) (c .if1 .taken) (c1 .flushed .ensures) in
     record { is = λ words v. ap flag (have-flushed (a .s) (a .live) (a .rows .now) (a .cells .now) (a .i) e .is words v) }
 
 flag-of-requires : tie.Need-flag-of-requires
@@ -33,17 +35,28 @@ enum-told c = search needs
 returns-2 : tie.Need-returns-2
 unfolding replyPiece
 returns-2 c =
-    let a = c .before .before .before .before .before .before .before .args in
-    let e = subst (CellsSay (a .s) (a .cells .now) (λ d. pieceAt d (a .i) .flushed)) (c .before .before .before .if1 .left) (c .before .before .before .before .flushed .ensures) in
-    let f = subst (RowsSay (a .live) (a .rows .now) (λ d. flagFound 1 (partialOf d (a .i)))) (c .enum-told .given .1) (c .before .before .flag-of .ensures) in
+    let c2 = c .before .before in
+    let c3 = c2 .before in
+    let c4 = c3 .before in
+    let c7 = c4 .before .before .before in
+    let a = c7 .args in
+    let e = subst (CellsSay (a .s) (a .cells .now) (λ d. pieceAt d (a .i) .flushed)) (c3 .if1 .left) (c4 .flushed .ensures) in
+    let f = subst (RowsSay (a .live) (a .rows .now) (λ d. flagFound 1 (partialOf d (a .i)))) (c .enum-told .given .1)
+    (c2 .flag-of .ensures) in
     record { is = λ words v. ap flag (have-says (a .live) (a .rows .now) (a .i) _ (a .s) (a .cells .now) _ e f .is words v) }
 
 returns-3 : tie.Need-returns-3
 unfolding replyPiece
 returns-3 c =
-    let a = c .before .before .before .before .before .before .before .before .args in
-    let e = subst (CellsSay (a .s) (a .cells .now) (λ d. pieceAt d (a .i) .flushed)) (c .before .before .before .before .if1 .left) (c .before .before .before .before .before .flushed .ensures) in
-    let f = subst (RowsSay (a .live) (a .rows .now) (λ d. flagFound 1 (partialOf d (a .i)))) (c .before .passed .given .1) (c .before .before .before .flag-of .ensures) in
+    let c1 = c .before in
+    let c3 = c1 .before .before in
+    let c4 = c3 .before in
+    let c5 = c4 .before in
+    let c8 = c5 .before .before .before in
+    let a = c8 .args in
+    let e = subst (CellsSay (a .s) (a .cells .now) (λ d. pieceAt d (a .i) .flushed)) (c4 .if1 .left) (c5 .flushed .ensures) in
+    let f = subst (RowsSay (a .live) (a .rows .now) (λ d. flagFound 1 (partialOf d (a .i)))) (c1 .passed .given .1)
+    (c3 .flag-of .ensures) in
     record { is = λ words v. ap flag (have-says (a .live) (a .rows .now) (a .i) _ (a .s) (a .cells .now) _ e f .is words v) }
 
 pub have-piece-spec : {M : Type 1} → statement M

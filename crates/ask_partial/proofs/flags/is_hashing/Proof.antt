@@ -22,15 +22,22 @@ enum-told c = search needs
 returns : tie.Need-returns
 unfolding replyPiece
 returns c =
-    let a = c .before .before .before .before .args in
-    let f = subst (RowsSay (a .live) (a .rows .now) (λ d. flagFound 4 (partialOf d (a .i)))) (c .enum-told .given .1) (c .before .before .flag-of .ensures) in
+    let c2 = c .before .before in
+    let c4 = c2 .before .before in
+    let a = c4 .args in
+    let f = subst (RowsSay (a .live) (a .rows .now) (λ d. flagFound 4 (partialOf d (a .i)))) (c .enum-told .given .1)
+    (c2 .flag-of .ensures) in
     record { is = λ s words cells v. ap flag (hashing-says (a .live) (a .rows .now) (a .i) _ f .is s words cells v) }
 
 returns-2 : tie.Need-returns-2
 unfolding replyPiece
 returns-2 c =
-    let a = c .before .before .before .before .before .args in
-    let f = subst (RowsSay (a .live) (a .rows .now) (λ d. flagFound 4 (partialOf d (a .i)))) (c .before .is .given .1) (c .before .before .before .flag-of .ensures) in
+    let c1 = c .before in
+    let c3 = c1 .before .before in
+    let c5 = c3 .before .before in
+    let a = c5 .args in
+    let f = subst (RowsSay (a .live) (a .rows .now) (λ d. flagFound 4 (partialOf d (a .i)))) (c1 .is .given .1)
+    (c3 .flag-of .ensures) in
     record { is = λ s words cells v. ap flag (hashing-says (a .live) (a .rows .now) (a .i) _ f .is s words cells v) }
 
 pub is-hashing-spec : {M : Type 1} → statement M

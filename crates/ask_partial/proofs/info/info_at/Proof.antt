@@ -22,9 +22,16 @@ requested-requires c κs = search needs
 
 returns : tie.Need-returns
 returns c =
-    let a = c .before .before .before .before .before .before .before .before .before .before .args in
-    info-says (a .rows .now) (a .counts .now) (a .k) _ _ (c .before .before .before .before .before .before .before .row .ensures) (c .before .before .before .before .before .before .u32-to-usize .ensures) (c .before .before .before .before .before .finished .ensures) refl (c .before .before .before .writing .ensures) refl
-    (c .before .requested .ensures) refl
+    let c1 = c .before in
+    let c3 = c1 .before .before in
+    let c5 = c3 .before .before in
+    let c6 = c5 .before in
+    let c7 = c6 .before in
+    let c10 = c7 .before .before .before in
+    let a = c10 .args in
+    info-says (a .rows .now) (a .counts .now) (a .k) _ _ (c7 .row .ensures) (c6 .u32-to-usize .ensures) (c5 .finished .ensures) refl
+    (c3 .writing .ensures) refl
+    (c1 .requested .ensures) refl
 
 pub info-at-spec : {M : Type 1} → statement M
 info-at-spec =

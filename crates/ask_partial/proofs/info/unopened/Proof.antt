@@ -14,27 +14,35 @@ flushed-requires c κs = search needs
 
 blocks-in-piece-requires : tie.Need-blocks-in-piece-requires
 blocks-in-piece-requires c κs =
-    let a = c .before .before .before .before .args in
-    let p = c .before .before .before .before .pre in
+    let c4 = c .before .before .before .before in
+    let a = c4 .args in
+    let p = c4 .pre in
     (p .0 .stands .bounds .spans .inWords, (beside-shape (a .s) (a .words .now) (a .cells .now) (p .0), p .1))
 
 u64-to-u16-requires : tie.Need-u64-to-u16-requires
 u64-to-u16-requires c κs =
-    let a = c .before .before .before .before .before .args in
-    omega (arith, blocks-few (a .s) (a .words .now) (a .cells .now) (c .before .before .before .before .before .pre .0) (a .i) _ (c .blocks-in-piece .ensures))
+    let c5 = c .before .before .before .before .before in
+    let a = c5 .args in
+    omega (arith, blocks-few (a .s) (a .words .now) (a .cells .now) (c5 .pre .0) (a .i) _ (c .blocks-in-piece .ensures))
 
 returns : tie.Need-returns
 unfolding infoNumbers
 returns c =
-    let a = c .before .before .before .before .before .before .args in
-    let e = subst (CellsSay (a .s) (a .cells .now) (λ d. pieceAt d (a .i) .flushed)) (c .before .before .if1 .taken) (c .before .before .before .flushed .ensures) in
-    flushed-info (a .s) (a .words .now) (a .cells .now) (a .i) _ _ e (c .before .blocks-in-piece .ensures) (c .u64-to-u16 .ensures)
+    let c1 = c .before in
+    let c2 = c1 .before in
+    let c3 = c2 .before in
+    let c6 = c3 .before .before .before in
+    let a = c6 .args in
+    let e = subst (CellsSay (a .s) (a .cells .now) (λ d. pieceAt d (a .i) .flushed)) (c2 .if1 .taken) (c3 .flushed .ensures) in
+    flushed-info (a .s) (a .words .now) (a .cells .now) (a .i) _ _ e (c1 .blocks-in-piece .ensures) (c .u64-to-u16 .ensures)
 
 returns-2 : tie.Need-returns-2
 unfolding infoNumbers
 returns-2 c =
-    let a = c .before .before .before .before .args in
-    let e = subst (CellsSay (a .s) (a .cells .now) (λ d. pieceAt d (a .i) .flushed)) (c .if1 .left) (c .before .flushed .ensures) in
+    let c1 = c .before in
+    let c4 = c1 .before .before .before in
+    let a = c4 .args in
+    let e = subst (CellsSay (a .s) (a .cells .now) (λ d. pieceAt d (a .i) .flushed)) (c .if1 .left) (c1 .flushed .ensures) in
     open-info (a .s) (a .words .now) (a .cells .now) (a .i) e
 
 pub unopened-spec : {M : Type 1} → statement M

@@ -24,8 +24,8 @@ blocks-at-requires : tie.Need-blocks-at-requires
 blocks-at-requires c κs =
     let c4 = c .before .before .before .before in
     let a = c4 .args in
-    rw (c .usize-to-u64 .ensures, c .before .head-word2 .ensures, c .before .before .head-word .ensures) (piece-there (a .s) (a .words .now) (a .i)
-    (c4 .pre .1 .0) (c4 .pre .1 .1))
+    rw (c .usize-to-u64 .ensures, c .before .head-word2 .ensures, c .before .before .head-word .ensures) (piece-there (a .s)
+    (a .words .now) (a .i) (c4 .pre .1 .0) (c4 .pre .1 .1))
 
 returns : tie.Need-returns
 unfolding replyPiece blocksInPiece

@@ -32,10 +32,11 @@ returns : tie.Need-returns
 unfolding replyPiece availability
 returns c =
     let p = c .before .before .peer-count .ensures in
+    let e = c .before .u16-to-u64 .ensures in
     let a = c .before .before .before .before .before .args in
     record {
       is = λ records q.
-          ap one (ap₂ _+_ (c .before .u16-to-u64 .ensures ∙ p .is records (a .words .now) q) (c .seeds .ensures .is records (a .cells .now)));
+          ap one (ap₂ _+_ (e ∙ p .is records (a .words .now) q) (c .seeds .ensures .is records (a .cells .now)));
     }
 
 pub get-availability-spec : {M : Type 1} → statement M

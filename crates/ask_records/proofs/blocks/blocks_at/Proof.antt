@@ -13,7 +13,8 @@ use Rattle.ask_records.proofs.blocks.blocks_at.Statement.{statement}
 use Rattle.ask_records.proofs.blocks.blocks_at.Tie as tie
 
 abbrev Inv-loop : tie.InvT-loop
-Inv-loop words cells s p many out₀ j₀ out j = (j ≤ many) × Lists 4 blockRead (λ k. blockInfo (blockHeld words cells (s .pieces) (s .blocks) p k)) j out₀ out
+Inv-loop words cells s p many out₀ j₀ out j =
+    (j ≤ many) × Lists 4 blockRead (λ k. blockInfo (blockHeld words cells (s .pieces) (s .blocks) p k)) j out₀ out
 
 abbrev μ-loop : tie.MeasureT-loop
 μ-loop words cells s p many out₀ j₀ out j = many - j
@@ -22,7 +23,9 @@ loop-holds : tie.Need-loop-holds Inv-loop μ-loop
 loop-holds c = (omega arith, lists-start _ _ _ _)
 
 get-block-requires : tie.Need-get-block-requires Inv-loop μ-loop
-get-block-requires c κs = (c .before .before .before .before .before .pre .0, (c .before .before .before .before .before .pre .1 .0 .0, omega (arith, c .before .before .before .before .before .pre .1 .0 .1)))
+get-block-requires c κs =
+    let c5 = c .before .before .before .before .before in
+    (c5 .pre .0, (c5 .pre .1 .0 .0, omega (arith, c5 .pre .1 .0 .1)))
 
 u16-to-u64-requires : tie.Need-u16-to-u64-requires Inv-loop μ-loop
 u16-to-u64-requires c κs = search needs
@@ -34,13 +37,18 @@ bit-of-requires : tie.Need-bit-of-requires Inv-loop μ-loop
 bit-of-requires c κs = search needs
 
 mul-put-words : tie.Need-mul-put-words Inv-loop μ-loop
-mul-put-words c = omega (arith, c .before .before .before .before .before .before .before .before .before .before .pre .1 .1)
+mul-put-words c =
+    let c10 = c .before .before .before .before .before .before .before .before .before .before in
+    omega (arith, c10 .pre .1 .1)
 
 slice-aggregate-put-words : tie.Need-slice-aggregate-put-words Inv-loop μ-loop
 slice-aggregate-put-words c = search needs
 
 put-words-requires : tie.Need-put-words-requires Inv-loop μ-loop
-put-words-requires c κs = omega (arith, c .before .before .before .before .before .before .before .before .before .before .before .pre .1 .1, c .before .before .before .before .before .before .before .loop .inv .1 .written .long)
+put-words-requires c κs =
+    let c7 = c .before .before .before .before .before .before .before in
+    let c11 = c7 .before .before .before .before in
+    omega (arith, c11 .pre .1 .1, c7 .loop .inv .1 .written .long)
 
 add-j : tie.Need-add-j Inv-loop μ-loop
 add-j c = search needs
@@ -50,9 +58,17 @@ loop-less c = search needs
 
 loop-again : tie.Need-loop-again Inv-loop μ-loop
 loop-again c =
-    (omega arith,
-    lists-next 4 blockRead _ _ _ _ _ _ (c .before .before .before .before .before .before .before .before .before .before .loop .inv .1) (c .before .before .put-words .ensures) refl (block-row _ _ (c .before .before .before .before .before .before .before .before .get-block .ensures .held) _ (c .before .before .before .before .before .bit-of .ensures)
-    _ _ (c .before .before .before .before .before .before .before .u16-to-u64 .ensures) (c .before .before .before .before .before .before .u16-to-u642 .ensures)))
+    let c2 = c .before .before in
+    let c5 = c2 .before .before .before in
+    let c6 = c5 .before in
+    let c7 = c6 .before in
+    let c8 = c7 .before in
+    let c10 = c8 .before .before in (
+      omega arith,
+      lists-next 4 blockRead _ _ _ _ _ _ (c10 .loop .inv .1) (c2 .put-words .ensures) refl (block-row _ _
+          (c8 .get-block .ensures .held) _ (c5 .bit-of .ensures)
+          _ _ (c7 .u16-to-u64 .ensures) (c6 .u16-to-u642 .ensures)),
+    )
 
 same-length : tie.Need-same-length Inv-loop μ-loop
 same-length c = c .before .loop .inv .1 .written .long

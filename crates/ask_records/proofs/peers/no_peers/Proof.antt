@@ -27,7 +27,10 @@ slice-aggregate-put-words : tie.Need-slice-aggregate-put-words Inv-loop μ-loop
 slice-aggregate-put-words c = search needs
 
 put-words-requires : tie.Need-put-words-requires Inv-loop μ-loop
-put-words-requires c κs = omega (arith, c .before .before .before .before .before .pre, c .before .before .before .loop .inv .1 .written .long)
+put-words-requires c κs =
+    let c3 = c .before .before .before in
+    let c5 = c3 .before .before in
+    omega (arith, c5 .pre, c3 .loop .inv .1 .written .long)
 
 add-j : tie.Need-add-j Inv-loop μ-loop
 add-j c = search needs
@@ -36,7 +39,10 @@ loop-less : tie.Need-loop-less Inv-loop μ-loop
 loop-less c = search needs
 
 loop-again : tie.Need-loop-again Inv-loop μ-loop
-loop-again c = (omega arith, lists-next 2 peerRead (λ k. none ∷ []) _ _ _ _ _ (c .before .before .before .before .before .before .loop .inv .1) (c .before .before .put-words .ensures) refl no-peer-row)
+loop-again c =
+    let c2 = c .before .before in
+    let c6 = c2 .before .before .before .before in
+    (omega arith, lists-next 2 peerRead (λ k. none ∷ []) _ _ _ _ _ (c6 .loop .inv .1) (c2 .put-words .ensures) refl no-peer-row)
 
 same-length : tie.Need-same-length Inv-loop μ-loop
 same-length c = c .before .loop .inv .1 .written .long

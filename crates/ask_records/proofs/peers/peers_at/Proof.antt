@@ -12,7 +12,8 @@ use Rattle.ask_records.proofs.peers.peers_at.Statement.{statement}
 use Rattle.ask_records.proofs.peers.peers_at.Tie as tie
 
 abbrev Inv-loop : tie.InvT-loop
-Inv-loop words cells s p many out₀ j₀ out j = (j ≤ many) × Lists 2 peerRead (λ k. blockHeld words cells (s .pieces) (s .blocks) p k .peer ∷ []) j out₀ out
+Inv-loop words cells s p many out₀ j₀ out j =
+    (j ≤ many) × Lists 2 peerRead (λ k. blockHeld words cells (s .pieces) (s .blocks) p k .peer ∷ []) j out₀ out
 
 abbrev μ-loop : tie.MeasureT-loop
 μ-loop words cells s p many out₀ j₀ out j = many - j
@@ -21,7 +22,9 @@ loop-holds : tie.Need-loop-holds Inv-loop μ-loop
 loop-holds c = (omega arith, lists-start _ _ _ _)
 
 get-block-requires : tie.Need-get-block-requires Inv-loop μ-loop
-get-block-requires c κs = (c .before .before .before .before .before .pre .0, (c .before .before .before .before .before .pre .1 .0 .0, omega (arith, c .before .before .before .before .before .pre .1 .0 .1)))
+get-block-requires c κs =
+    let c5 = c .before .before .before .before .before in
+    (c5 .pre .0, (c5 .pre .1 .0 .0, omega (arith, c5 .pre .1 .0 .1)))
 
 bit-of-requires : tie.Need-bit-of-requires Inv-loop μ-loop
 bit-of-requires c κs = search needs
@@ -33,7 +36,10 @@ slice-aggregate-put-words : tie.Need-slice-aggregate-put-words Inv-loop μ-loop
 slice-aggregate-put-words c = search needs
 
 put-words-requires : tie.Need-put-words-requires Inv-loop μ-loop
-put-words-requires c κs = omega (arith, c .before .before .before .before .before .before .before .before .before .pre .1 .1, c .before .before .before .before .before .loop .inv .1 .written .long)
+put-words-requires c κs =
+    let c5 = c .before .before .before .before .before in
+    let c9 = c5 .before .before .before .before in
+    omega (arith, c9 .pre .1 .1, c5 .loop .inv .1 .written .long)
 
 add-j : tie.Need-add-j Inv-loop μ-loop
 add-j c = search needs
@@ -43,8 +49,14 @@ loop-less c = search needs
 
 loop-again : tie.Need-loop-again Inv-loop μ-loop
 loop-again c =
-    (omega arith,
-    lists-next 2 peerRead _ _ _ _ _ _ (c .before .before .before .before .before .before .before .before .loop .inv .1) (c .before .before .put-words .ensures) refl (peer-row _ _ (c .before .before .before .before .before .before .get-block .ensures .held) _ (c .before .before .before .before .before .bit-of .ensures)))
+    let c2 = c .before .before in
+    let c5 = c2 .before .before .before in
+    let c6 = c5 .before in
+    let c8 = c6 .before .before in (
+      omega arith,
+      lists-next 2 peerRead _ _ _ _ _ _ (c8 .loop .inv .1) (c2 .put-words .ensures) refl (peer-row _ _ (c6 .get-block .ensures .held) _
+          (c5 .bit-of .ensures)),
+    )
 
 same-length : tie.Need-same-length Inv-loop μ-loop
 same-length c = c .before .loop .inv .1 .written .long

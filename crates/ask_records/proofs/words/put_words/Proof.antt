@@ -40,7 +40,10 @@ loop-less : tie.Need-loop-less Inv-loop μ-loop
 loop-less c = search needs
 
 loop-again : tie.Need-loop-again Inv-loop μ-loop
-loop-again c = (omega arith, put-next _ _ _ _ _ (c .before .before .loop .inv .1) (omega (arith, c .before .before .before .pre)))
+loop-again c =
+    let c2 = c .before .before in
+    let c3 = c2 .before in
+    (omega arith, put-next _ _ _ _ _ (c2 .loop .inv .1) (omega (arith, c3 .pre)))
 
 same-length : tie.Need-same-length Inv-loop μ-loop
 same-length c = c .before .loop .inv .1 .long
