@@ -24,7 +24,8 @@ use Rattle.memory_fields.specs.Reading.{CellsSay}
 use Rattle.memory_rows.specs.Lookup.{LiveRows, pickerIn, FoundIn}
 use Rattle.ask_partial.specs.declared.flags.FlagOf.{FlagOf}
 use Rattle.ask_partial.specs.declared.flags.FlagOf.the-variants.{Flag, Nothing}
-use Rattle.ask_partial.specs.Flags.{IsWeight, flagIn, flagFound, flagReply, RowsSay, RowsCellsSay}
+use Rattle.ask_picker.specs.Telling.{RowsSay}
+use Rattle.ask_partial.specs.Flags.{IsWeight, flagIn, flagFound, flagReply, RowsCellsSay}
 
 -- a weight can be divided by
 pub weight-some : (weight : ℕ) → IsWeight weight → 1 ≤ weight

@@ -1,4 +1,4 @@
--- The flags of a partial as an answer, and what an answer from the rows is of the picker. Assumes nothing.
+-- The flags of a partial as an answer, and what an answer from rows and cells is of the picker. Assumes nothing.
 use Prim.Native.Nat.{ℕ}
 use mathlib.Core.Path.{_≡_}
 use mathlib.Core.Logic.{_⊎_}
@@ -30,11 +30,7 @@ unfoldable pub flagReply : (r : FlagOf) → Reply
 flagReply (Flag truth) = flag truth
 flagReply Nothing = nothing
 
--- ---- what an answer is of the picker, whatever stands in the buffers that were not read
--- told from the live rows, beside any words and cells
-pub record RowsSay {A : Type 0} (live : ℕ) (rows : List ℕ) (field : Picker → A) (r : A) : Type 0 where
-  pub is : (s : Shape) (words cells : List ℕ) → LiveRows s live rows words cells → r ≡ field (pickerIn live rows words cells)
-
+-- ---- what an answer is of the picker
 -- told from rows and cells, beside any words
 pub record RowsCellsSay {A : Type 0} (s : Shape) (live : ℕ) (rows cells : List ℕ) (field : Picker → A) (r : A) : Type 0 where
   pub is : (words : List ℕ) → LiveRows s live rows words cells → r ≡ field (pickerIn live rows words cells)

@@ -12,7 +12,8 @@ ghost use Rattle.model.specs.change.Partials.{partialOf};
 ghost use Rattle.memory_records.specs.Records.{risingFrom};
 ghost use Rattle.memory_records.specs.Rows.{recordsIn};
 ghost use Rattle.memory_layout.specs.Bounds.{CellsSpan};
-ghost use Rattle.ask_partial.specs.Flags.{IsWeight, flagFound, flagReply, RowsSay, RowsCellsSay};
+ghost use Rattle.ask_picker.specs.Telling.{RowsSay};
+ghost use Rattle.ask_partial.specs.Flags.{IsWeight, flagFound, flagReply, RowsCellsSay};
 
 // Whether a flag is set, where a partial stands.
 pub enum FlagOf {

@@ -1,13 +1,11 @@
 -- What a well-formed picker gives to those who read it: bounds of rows, of numbers that are added up, and that there is a piece.
 -- Assumes nothing.
-use mathlib.Core.Path.{_≡_, sym, ap, _∙_}
+use mathlib.Core.Path.{_≡_}
 use mathlib.Core.Bool.{true}
 use mathlib.Core.List.{List}
 use Prim.Native.Nat.{ℕ, _+_, _≤_, _<_}
 use native.Mathlib.Omega.{arith}
-use lib.ListN.{getD}
-use Rattle.model.specs.State.{Picker, pieceAt, piecesIn, pieceSizeAt}
-use Rattle.model.specs.image.WellFormed.{wellFormed}
+use Rattle.model.specs.State.{pieceAt, pieceSizeAt}
 use Rattle.model.proofs.base.Bep3Laws.{pieceLength-le}
 use Rattle.model.proofs.sound.SoundLaws.{wellFormed-sound}
 use Rattle.model.proofs.sound.SoundBody.{piece-in}
@@ -19,7 +17,7 @@ use Rattle.memory_layout.specs.declared.shape.Shape.{Shape}
 use Rattle.memory_layout.specs.Decode.{headWord, piecesOn, decode}
 use Rattle.memory_layout.specs.Standing.{Stands}
 use Rattle.memory_layout.proofs.Meanings.{pieces-number}
-use Rattle.memory_rows.specs.Lookup.{LiveRows, pickerIn}
+use Rattle.memory_rows.specs.Lookup.{LiveRows}
 use Rattle.memory_rows.proofs.RisingLaws.{well-formed-rise}
 use Rattle.memory_queues.specs.Queues.{InQueues}
 use Rattle.memory_queues.proofs.StandLaws.{in-queues}

@@ -1,4 +1,5 @@
 -- `full_piece_size` meets its contract. Assumes nothing.
+-- Written by tools/asks.py, and not by hand.
 use mathlib.Core.Path.{ap}
 use native.Mathlib.Omega.{arith}
 use Rattle.model.specs.ask.Questions.{replyPicker, one}

@@ -1,6 +1,7 @@
 -- `have_piece` meets its contract. Assumes nothing.
 use Rattle.ask_partial.proofs.FlagLaws.{have-says, have-flushed}
-use Rattle.ask_partial.specs.Flags.{flagFound, RowsSay}
+use Rattle.ask_picker.specs.Telling.{RowsSay}
+use Rattle.ask_partial.specs.Flags.{flagFound}
 use Rattle.memory_fields.specs.Reading.{CellsSay}
 use Rattle.model.specs.State.{pieceAt}
 use Rattle.model.specs.ask.Questions.{replyPiece, flag}

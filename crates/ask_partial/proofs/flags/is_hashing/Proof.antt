@@ -1,6 +1,7 @@
 -- `is_hashing` meets its contract. Assumes nothing.
 use Rattle.ask_partial.proofs.FlagLaws.{hashing-says}
-use Rattle.ask_partial.specs.Flags.{flagFound, RowsSay}
+use Rattle.ask_picker.specs.Telling.{RowsSay}
+use Rattle.ask_partial.specs.Flags.{flagFound}
 use Rattle.ask_partial.specs.declared.flags.FlagOf.{FlagOf}
 use Rattle.model.specs.ask.Questions.{replyPiece, flag}
 use Rattle.model.specs.change.Partials.{partialOf}

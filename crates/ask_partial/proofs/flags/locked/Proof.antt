@@ -1,4 +1,5 @@
 -- `locked` meets its contract. Assumes nothing.
+-- Written by tools/asks.py, and not by hand.
 use Rattle.ask_partial.proofs.FlagLaws.{flag-asked}
 use Rattle.ask_partial.specs.Flags.{flagIn, flagReply}
 use Rattle.memory_rows.specs.Lookup.{pickerIn}

@@ -1,4 +1,5 @@
 -- `blocks_in_piece` meets its contract. Assumes nothing.
+-- Written by tools/asks.py, and not by hand.
 use mathlib.Core.Path.{ap, _∙_}
 use native.Mathlib.Omega.{arith}
 use borrow.Author.Needs.{needs}

@@ -1,4 +1,5 @@
 -- `piece_size` meets its contract. Assumes nothing.
+-- Written by tools/asks.py, and not by hand.
 use mathlib.Core.Path.{ap, _∙_}
 use native.Mathlib.Omega.{arith}
 use borrow.Author.Needs.{needs}

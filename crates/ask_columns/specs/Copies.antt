@@ -1,0 +1,35 @@
+-- The least copies of a piece and how many pieces have more, kept together. Assumes nothing.
+use Prim.Native.Nat.{ℕ, _+_}
+use mathlib.Core.Path.{_≡_}
+use mathlib.Core.Bool.{cond}
+use mathlib.Core.List.{List, [], _∷_}
+use lib.Dec.{ltb}
+use Rattle.model.specs.Lists.{bit, least, count}
+use Rattle.model.specs.ask.Questions.{Reply, plain, maxPeerCount}
+use Rattle.memory_layout.specs.Tables.{tabulate}
+use Rattle.memory_layout.specs.Decode.{pieceCell, yes?}
+use Rattle.ask_columns.specs.declared.copies.Least.{Least}
+use Rattle.ask_columns.specs.declared.copies.DistributedCopies.{DistributedCopies}
+
+-- the copies of piece i, from its cells
+unfoldable pub copiesHeld : (cells : List ℕ) (n i : ℕ) → ℕ
+copiesHeld cells n i = pieceCell cells n 0 i + bit (yes? (pieceCell cells n 3 i))
+
+-- the least of a number and those of a list
+unfoldable pub leastOf : (n : ℕ) (xs : List ℕ) → ℕ
+leastOf n [] = n
+leastOf n (x ∷ xs) = leastOf (least n x) xs
+
+-- one piece more, after `passed` others: all of those have more than a new least one
+pub record Lowered (before : Least) (passed held : ℕ) (r : Least) : Type 0 where
+  pub copies : r .copies ≡ least (before .copies) held
+  pub more : r .more ≡ cond (ltb held (before .copies)) passed (before .more + bit (ltb (before .copies) held))
+
+-- of the first i pieces of n
+pub record LeastIn (cells : List ℕ) (n i : ℕ) (r : Least) : Type 0 where
+  pub copies : r .copies ≡ leastOf maxPeerCount (tabulate i (copiesHeld cells n))
+  pub more : r .more ≡ count (ltb (r .copies)) (tabulate i (copiesHeld cells n))
+
+-- document 01's values
+unfoldable pub copiesReply : (r : DistributedCopies) → Reply
+copiesReply r = plain (r .integer ∷ r .fraction ∷ [])
