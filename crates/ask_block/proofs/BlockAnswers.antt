@@ -17,7 +17,7 @@ use Rattle.model.specs.ask.Questions.{is-downloaded, is-finished-block, get-dow
 use Rattle.memory_records.specs.declared.record.DownloadingPiece.{DownloadingPiece as Record}
 use Rattle.memory_records.specs.declared.search.Found.the-variants.{At, Nothing}
 use Rattle.memory_records.specs.Rows.{rowAt, recordsIn}
-use Rattle.memory_records.proofs.laws.RowLaws.{records-at}
+use Rattle.ask_picker.proofs.RecordRows.{record-row}
 use Rattle.memory_layout.specs.declared.shape.Shape.{Shape}
 use Rattle.memory_layout.specs.Decode.{headWord, recordAt, blocksOf}
 use Rattle.memory_layout.specs.Changes.{partialIn}
@@ -42,18 +42,7 @@ module _ (s : Shape) (live : ℕ) (rows words cells : List ℕ) (g : Asked s liv
       ap (λ (found : Option DownloadingPiece). blockIn found j) (f .is s words cells (asked-rows s live rows words cells g))
 
   module _ (k : ℕ) (f : FoundIn live rows i (At k)) where
-    record-row : recordAt (recordsIn live rows) k ≡ rowAt rows k
-    unfolding recordAt
-    record-row = records-at live rows k (f .row .0)
-
-    -- its place is there
-    pub place-there : (p : ℕ) → p ≡ rowAt rows k .«info_idx» → p < s .places
-    place-there p e =
-        let h = f .row .0 in
-        let m = g .many in
-        omega (arith, e, ap (λ (r : Record). r .«info_idx») record-row, g .stands .bounds .placed k (omega arith))
-
-    -- and so is the block
+    -- the block is there
     pub block-there : j < blocksOf words i → j < s .blocks
     block-there l = omega (arith, blocks-within s (recordsIn live rows) words cells (g .stands .bounds) i)
 
@@ -64,10 +53,10 @@ module _ (s : Shape) (live : ℕ) (rows words cells : List ℕ) (g : Asked s liv
     block-told l p x e b =
         let h = f .row .0 in
         let m = g .many in
-        let n : recordAt (recordsIn live rows) k .index ≡ i = ap (λ (r : Record). r .index) record-row ∙ f .row .1 in
+        let n : recordAt (recordsIn live rows) k .index ≡ i = ap (λ (r : Record). r .index) (record-row live rows k (f .row .0)) ∙ f .row .1 in
         let y = b .live (recordsIn live rows) k (g .stands .bounds) (record {
           low = omega arith;
-          place = ap (λ (r : Record). r .«info_idx») record-row ∙ sym e;
+          place = ap (λ (r : Record). r .«info_idx») (record-row live rows k (f .row .0)) ∙ sym e;
           block = rw n l;
         }) in (
           ap (λ (found : Option DownloadingPiece). blockIn found j) (f .is s words cells (asked-rows s live rows words cells g) .1)

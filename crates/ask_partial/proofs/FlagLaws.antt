@@ -15,7 +15,7 @@ use Rattle.model.specs.ask.Questions.{replyPiece, ofPartial, flag, nothing, hav
 use Rattle.memory_records.specs.declared.record.DownloadingPiece.{DownloadingPiece as Record}
 use Rattle.memory_records.specs.declared.search.Found.the-variants.{At, Nothing as Missing}
 use Rattle.memory_records.specs.Rows.{rowAt, recordsIn}
-use Rattle.memory_records.proofs.laws.RowLaws.{records-at}
+use Rattle.ask_picker.proofs.RecordRows.{record-row}
 use Rattle.memory_layout.specs.declared.shape.Shape.{Shape}
 use Rattle.memory_layout.specs.Decode.{recordAt}
 use Rattle.memory_layout.specs.Changes.{partialIn}
@@ -30,11 +30,6 @@ use Rattle.ask_partial.specs.Flags.{IsWeight, flagIn, flagFound, flagRep
 -- a weight can be divided by
 pub weight-some : (weight : ℕ) → IsWeight weight → 1 ≤ weight
 weight-some weight h = ⊎-elim (λ e. omega arith) (λ g. ⊎-elim (λ e. omega arith) (λ e. omega arith) g) h
-
--- the record of a live row
-pub record-row : (live : ℕ) (rows : List ℕ) (k : ℕ) → k < live → recordAt (recordsIn live rows) k ≡ rowAt rows k
-unfolding recordAt
-record-row live rows k h = records-at live rows k h
 
 -- ---- the flag in a row
 module _ (s : Shape) (live : ℕ) (rows words cells : List ℕ) (v : LiveRows s live rows words cells) (k : ℕ) (h : k < live) where

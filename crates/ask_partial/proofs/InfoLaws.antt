@@ -34,7 +34,7 @@ use Rattle.ask_picker.proofs.AskedLaws.{asked-rows}
 use Rattle.ask_piece.proofs.ReplyLaws.{one-is}
 use Rattle.ask_partial.specs.declared.info.PieceInfo.{PieceInfo}
 use Rattle.ask_partial.specs.Info.{infoNumbers, infoReply, InfoSays, AskedCounts}
-use Rattle.ask_partial.proofs.FlagLaws.{record-row}
+use Rattle.ask_picker.proofs.RecordRows.{record-row}
 
 -- ---- a partial
 bit-none : (flags : ℕ) → eqb (flags % 2) 1 ≡ bitOf flags 0

@@ -15,7 +15,7 @@ use Rattle.model.specs.ask.Questions.{blocks-for-piece}
 use Rattle.memory_records.specs.declared.record.DownloadingPiece.{DownloadingPiece as Record}
 use Rattle.memory_records.specs.declared.search.Found.the-variants.{At, Nothing}
 use Rattle.memory_records.specs.Rows.{rowAt, recordsIn}
-use Rattle.memory_records.proofs.laws.RowLaws.{records-at}
+use Rattle.ask_picker.proofs.RecordRows.{record-row}
 use Rattle.memory_layout.specs.declared.shape.Shape.{Shape}
 use Rattle.memory_layout.specs.Tables.{tabulate}
 use Rattle.memory_layout.specs.Decode.{headWord, recordAt, blocksOf, yes?, peerFrom, blockHeld, blocksHeld}
@@ -96,25 +96,14 @@ module _ (s : Shape) (live : ℕ) (rows words cells : List ℕ) (g : Asked s liv
         ∙ ap (peersIn here i) (sym (f .is s words cells (asked-rows s live rows words cells g))))
 
     module _ (k : ℕ) (f : FoundIn live rows i (At k)) (p : ℕ) (e : p ≡ rowAt rows k .«info_idx») where
-      record-row : recordAt (recordsIn live rows) k ≡ rowAt rows k
-      unfolding recordAt
-      record-row = records-at live rows k (f .row .0)
-
-      -- the place of its blocks is there
-      pub place-there : p < s .places
-      place-there =
-          let h = f .row .0 in
-          let m = g .many in
-          omega (arith, e, ap (λ (r : Record). r .«info_idx») record-row, g .stands .bounds .placed k (omega arith))
-
       blocks-there : partialIn here k .blocks ≡ tabulate many (blockHeld words cells (s .pieces) (s .blocks) p)
       unfolding blocksHeld
       blocks-there =
           let h = f .row .0 in
           let m = g .many in
           let rs = recordsIn live rows in
-          let n : recordAt rs k .index ≡ i = ap (λ (r : Record). r .index) record-row ∙ f .row .1 in
-          let q : recordAt rs k .«info_idx» ≡ p = ap (λ (r : Record). r .«info_idx») record-row ∙ sym e in
+          let n : recordAt rs k .index ≡ i = ap (λ (r : Record). r .index) (record-row live rows k (f .row .0)) ∙ f .row .1 in
+          let q : recordAt rs k .«info_idx» ≡ p = ap (λ (r : Record). r .«info_idx») (record-row live rows k (f .row .0)) ∙ sym e in
           blocks-are s rs words cells (g .stands .bounds) k (omega arith)
           ∙ ap₂ (λ (x y : ℕ). tabulate (blocksOf words x) (blockHeld words cells (s .pieces) (s .blocks) y)) n q
           ∙ ap (λ (x : ℕ). tabulate x (blockHeld words cells (s .pieces) (s .blocks) p)) (sym many-blocks)

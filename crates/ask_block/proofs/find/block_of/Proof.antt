@@ -1,6 +1,7 @@
 -- `block_of` meets its contract. Assumes nothing.
-use Rattle.ask_block.proofs.BlockAnswers.{block-missing, place-there, block-there, block-told}
+use Rattle.ask_block.proofs.BlockAnswers.{block-missing, block-there, block-told}
 use Rattle.ask_picker.proofs.AskedLaws.{asked-queues, asked-rise}
+use Rattle.ask_picker.proofs.RecordRows.{place-there}
 use Rattle.memory_records.specs.declared.record.DownloadingPiece.{DownloadingPiece as Record}
 use Rattle.memory_rows.specs.Lookup.{FoundIn}
 use mathlib.Core.Path.{subst, ap, _∙_}
@@ -60,7 +61,7 @@ get-block-requires c κs =
     let e = c .u32-to-usize .ensures ∙ ap (λ (r : Record). r .«info_idx») (c1 .row .ensures) in (
       g .stands .bounds .spans,
       (
-        place-there (a .s) (a .live) (a .rows .now) (a .words .now) (a .cells .now) g (a .i) (a .j) _ f _ e,
+        place-there (a .s) (a .live) (a .rows .now) (a .words .now) (a .cells .now) g (a .i) _ f _ e,
         block-there (a .s) (a .live)
             (a .rows .now) (a .words .now) (a .cells .now) g (a .i) (a .j) _ f (c9 .pre .1 .1),
       ),

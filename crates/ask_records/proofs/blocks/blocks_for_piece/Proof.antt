@@ -1,6 +1,7 @@
 -- `blocks_for_piece` meets its contract. Assumes nothing.
 use Rattle.ask_picker.proofs.AskedLaws.{asked-queues, asked-rise}
-use Rattle.ask_records.proofs.BlockRecords.{asked-shape, many-says, many-few, place-there, blocks-none, blocks-some, written-none}
+use Rattle.ask_picker.proofs.RecordRows.{place-there}
+use Rattle.ask_records.proofs.BlockRecords.{asked-shape, many-says, many-few, blocks-none, blocks-some, written-none}
 use Rattle.memory_records.specs.declared.record.DownloadingPiece.{DownloadingPiece as Record}
 use Rattle.memory_rows.specs.Lookup.{FoundIn}
 use mathlib.Core.Path.{subst, ap, _∙_}
@@ -81,7 +82,7 @@ blocks-at-requires c κs =
       g .stands .bounds .spans,
       (
         (
-          place-there (a .s) (a .live) (a .rows .now) (a .words .now) (a .cells .now) g (a .i) _ m _ f _ e,
+          place-there (a .s) (a .live) (a .rows .now) (a .words .now) (a .cells .now) g (a .i) _ f _ e,
           many-few (a .s) (a .live)
               (a .rows .now) (a .words .now) (a .cells .now) g (a .i) _ m,
         ),

@@ -1,6 +1,7 @@
 -- `get_downloaders` meets its contract. Assumes nothing.
 use Rattle.ask_picker.proofs.AskedLaws.{asked-queues, asked-rise}
-use Rattle.ask_records.proofs.BlockRecords.{asked-shape, many-says, many-few, place-there, downloaders-none, downloaders-some}
+use Rattle.ask_picker.proofs.RecordRows.{place-there}
+use Rattle.ask_records.proofs.BlockRecords.{asked-shape, many-says, many-few, downloaders-none, downloaders-some}
 use Rattle.memory_records.specs.declared.record.DownloadingPiece.{DownloadingPiece as Record}
 use Rattle.memory_rows.specs.Lookup.{FoundIn}
 use mathlib.Core.Path.{subst, ap, _∙_}
@@ -102,7 +103,7 @@ peers-at-requires c κs =
       g .stands .bounds .spans,
       (
         (
-          place-there (a .s) (a .live) (a .rows .now) (a .words .now) (a .cells .now) g (a .i) _ m _ f _ e,
+          place-there (a .s) (a .live) (a .rows .now) (a .words .now) (a .cells .now) g (a .i) _ f _ e,
           many-few (a .s) (a .live)
               (a .rows .now) (a .words .now) (a .cells .now) g (a .i) _ m,
         ),
