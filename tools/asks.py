@@ -203,7 +203,7 @@ use Rattle.ask_partial.specs.Flags.{{flagIn, flagReply}}
 use Rattle.memory_rows.specs.Lookup.{{pickerIn}}
 use Rattle.model.specs.ask.Questions.{{replyPiece}}
 use Rattle.model.specs.change.Partials.{{partialOf}}
-use mathlib.Core.Logic.{{inl, inr}}
+use mathlib.Core.Logic.{{{names}}}
 use mathlib.Core.Path.{{refl, ap, _∙_}}
 use Rattle.ask_partial.proofs.flags.{fn}.Statement.{{statement}}
 use Rattle.ask_partial.proofs.flags.{fn}.Tie as tie
@@ -258,7 +258,8 @@ def files():
             fn=fn, below=kebab(below), length=length, kebab=kebab(fn)
         )
     for fn, weight, case in FLAGS:
-        text = FLAG.format(fn=fn, weight=weight, case=case, kebab=kebab(fn))
+        names = ', '.join(n for n in ('inl', 'inr') if n in case)
+        text = FLAG.format(fn=fn, weight=weight, case=case, names=names, kebab=kebab(fn))
         made[ROOT / 'crates/ask_partial/proofs/flags' / fn / 'Proof.antt'] = text
     return made
 

@@ -7,10 +7,10 @@ use Prim.Native.Nat.{ℕ, _<_}
 use native.Mathlib.Omega.{arith}
 use lib.Dec.{eqb}
 use borrow.Author.Tests.{eq-eqb, ne-eqb}
-use Rattle.types.specs.declared.block.BlockState.the-variants.{None, Finished}
+use Rattle.types.specs.declared.block.BlockState.the-variants.{Finished}
 use Rattle.types.specs.Block.{blockStateNumber}
 use Rattle.model.specs.State.{Picker, Block, DownloadingPiece, pieceAt, sameBlockState}
-use Rattle.model.specs.change.Partials.{partialOf, blockAt}
+use Rattle.model.specs.change.Partials.{partialOf}
 use Rattle.model.specs.change.Changes.{received}
 use Rattle.model.specs.ask.Questions.{OfBlock, reply, replyBlock, ofBlock, blockIn, blockTest, downloaderOf, numbers, flag}
 use Rattle.model.specs.ask.Questions.{is-downloaded, is-finished-block, get-downloader}
@@ -19,8 +19,7 @@ use Rattle.memory_records.specs.declared.search.Found.the-variants.{At, Nothing
 use Rattle.memory_records.specs.Rows.{rowAt, recordsIn}
 use Rattle.ask_picker.proofs.RecordRows.{record-row}
 use Rattle.memory_layout.specs.declared.shape.Shape.{Shape}
-use Rattle.memory_layout.specs.Decode.{headWord, recordAt, blocksOf}
-use Rattle.memory_layout.specs.Changes.{partialIn}
+use Rattle.memory_layout.specs.Decode.{recordAt, blocksOf}
 use Rattle.memory_layout.proofs.BoundsLaws.{blocks-within}
 use Rattle.memory_blocks.specs.declared.info.BlockInfo.{BlockInfo}
 use Rattle.memory_blocks.specs.Blocks.{blockOf, BlockRead}
@@ -53,7 +52,8 @@ module _ (s : Shape) (live : ℕ) (rows words cells : List ℕ) (g : Asked s liv
     block-told l p x e b =
         let h = f .row .0 in
         let m = g .many in
-        let n : recordAt (recordsIn live rows) k .index ≡ i = ap (λ (r : Record). r .index) (record-row live rows k (f .row .0)) ∙ f .row .1 in
+        let n : recordAt (recordsIn live rows) k .index ≡ i =
+        ap (λ (r : Record). r .index) (record-row live rows k (f .row .0)) ∙ f .row .1 in
         let y = b .live (recordsIn live rows) k (g .stands .bounds) (record {
           low = omega arith;
           place = ap (λ (r : Record). r .«info_idx») (record-row live rows k (f .row .0)) ∙ sym e;

@@ -9,9 +9,9 @@ use native.Mathlib.Omega.{arith}
 use lib.Dec.{eqb}
 use lib.ListN.{getD}
 use Rattle.model.specs.Bep3.{bitOf}
-use Rattle.model.specs.State.{Picker, DownloadingPiece, pieceAt}
+use Rattle.model.specs.State.{DownloadingPiece, pieceAt}
 use Rattle.model.specs.change.Partials.{partialOf}
-use Rattle.model.specs.ask.Questions.{replyPiece, ofPartial, flag, nothing, havePiece, passedIn, hashingIn, have-piece}
+use Rattle.model.specs.ask.Questions.{ofPartial, flag, nothing, havePiece, passedIn, hashingIn}
 use Rattle.memory_records.specs.declared.record.DownloadingPiece.{DownloadingPiece as Record}
 use Rattle.memory_records.specs.declared.search.Found.the-variants.{At, Nothing as Missing}
 use Rattle.memory_records.specs.Rows.{rowAt, recordsIn}

@@ -1,16 +1,16 @@
 -- A partial as it is told, by its row and its counts. Assumes nothing.
-use mathlib.Core.Path.{_≡_, refl, sym, ap, subst, _∙_}
+use mathlib.Core.Path.{_≡_, refl, sym, ap, _∙_}
 use mathlib.Core.Bool.{Bool, true, false}
 use mathlib.Core.List.{List, [], _∷_}
-use mathlib.Core.Option.{Option, none, some}
+use mathlib.Core.Option.{none}
 use Prim.Native.Nat.{ℕ, _+_, _*_, _/_, _%_, _≤_, _<_}
 use native.Mathlib.Omega.{arith}
 use lib.Dec.{eqb, leb}
 use Rattle.types.specs.declared.block.BlockState.the-variants.{Requested, Writing, Finished}
 use Rattle.model.specs.Lists.{bit}
 use Rattle.model.specs.Bep3.{bitOf}
-use Rattle.model.specs.State.{Picker, DownloadingPiece, pieceAt, blocksInPiece}
-use Rattle.model.specs.change.Partials.{partialOf, blocksInState}
+use Rattle.model.specs.State.{Picker, pieceAt, blocksInPiece}
+use Rattle.model.specs.change.Partials.{blocksInState}
 use Rattle.model.specs.ask.Questions.{replyPiece, infoOf, info, finishedIn, plain, flag, one, blocks-in-piece, piece-info}
 use Rattle.model.specs.ask.Questions.{is-piece-finished}
 use Rattle.memory_records.specs.declared.record.DownloadingPiece.{DownloadingPiece as Record}
@@ -19,17 +19,14 @@ use Rattle.memory_records.specs.Rows.{rowAt, recordsIn}
 use Rattle.memory_layout.specs.declared.shape.Shape.{Shape}
 use Rattle.memory_layout.specs.Decode.{headWord, recordAt, decode}
 use Rattle.memory_layout.specs.Changes.{partialIn}
-use Rattle.memory_layout.specs.Bounds.{ShapeOf, InBounds}
+use Rattle.memory_layout.specs.Bounds.{ShapeOf}
 use Rattle.memory_layout.specs.Standing.{StandsBeside}
 use Rattle.memory_layout.proofs.Meanings.{partial-piece-is, passed-is, locked-is, hashing-is, blocks-of-is}
 use Rattle.memory_layout.proofs.BoundsLaws.{blocks-within}
 use Rattle.memory_fields.specs.Reading.{HeadSays, CellsSay}
-use Rattle.memory_rows.specs.Lookup.{LiveRows, pickerIn, FoundIn}
+use Rattle.memory_rows.specs.Lookup.{pickerIn, FoundIn}
 use Rattle.memory_rows.specs.Counted.{CountSays}
-use Rattle.memory_rows.proofs.RisingLaws.{live-number}
-use Rattle.check_partials.specs.Records.{CountsHeld}
 use Rattle.ask_picker.specs.Telling.{BothSay}
-use Rattle.ask_picker.specs.Asked.{Asked}
 use Rattle.ask_picker.proofs.AskedLaws.{asked-rows}
 use Rattle.ask_piece.proofs.ReplyLaws.{one-is}
 use Rattle.ask_partial.specs.declared.info.PieceInfo.{PieceInfo}

@@ -1,6 +1,6 @@
 -- The answers of a piece that are made of several numbers. Assumes nothing.
-use mathlib.Core.Path.{_≡_, refl, sym, ap, _∙_}
-use mathlib.Core.Bool.{Bool, not, cond}
+use mathlib.Core.Path.{_≡_, refl, ap, _∙_}
+use mathlib.Core.Bool.{not, cond}
 use mathlib.Core.List.{List, [], _∷_}
 use mathlib.Core.Option.{Option, none, some}
 use Prim.Native.Nat.{ℕ, suc, _+_, _-_, _/_, _≤_, _<_}
@@ -10,18 +10,17 @@ use borrow.Author.Tests.{lt-ltb}
 use Rattle.types.specs.Queue.{queueNumber}
 use Rattle.model.specs.Lists.{bit}
 use Rattle.model.specs.Bep3.{blockLength, numPieces}
-use Rattle.model.specs.State.{Picker, Piece, pieceAt, isOpen, sameQueue, maxPeers, blocksInPiece, payloadBlocksInPiece}
+use Rattle.model.specs.State.{pieceAt, isOpen, sameQueue, blocksInPiece, payloadBlocksInPiece}
 use Rattle.model.specs.list.Order.{rank, rankOf, bucket}
-use Rattle.model.specs.ask.Questions.{replyPiece, stats, availability, one, flag, numbers, blocks-in-piece, payload-blocks-in-piece}
-use Rattle.model.specs.ask.Questions.{get-availability, is-downloading, piece-stats}
+use Rattle.model.specs.ask.Questions.{replyPiece, stats, availability, one, numbers, blocks-in-piece, payload-blocks-in-piece}
+use Rattle.model.specs.ask.Questions.{get-availability, piece-stats}
 use Rattle.model.proofs.sound.SoundLaws.{wellFormed-sound}
 use Rattle.model.proofs.sound.SoundBody.{piece-in}
 use Rattle.geometry.proofs.PartLaws.{part-some}
-use Rattle.memory_records.specs.declared.record.DownloadingPiece.{DownloadingPiece as Record}
 use Rattle.memory_layout.specs.declared.shape.Shape.{Shape}
 use Rattle.memory_layout.specs.Decode.{headWord, piecesOn, decode}
-use Rattle.memory_layout.specs.Bounds.{ShapeOf, InBounds}
-use Rattle.memory_layout.specs.Standing.{Stands, StandsBeside}
+use Rattle.memory_layout.specs.Bounds.{ShapeOf}
+use Rattle.memory_layout.specs.Standing.{StandsBeside}
 use Rattle.memory_layout.proofs.Meanings.{pieces-number, peer-count-is, priority-is}
 use Rattle.memory_fields.specs.Reading.{HeadSays, CellsSay, WordsSay}
 use Rattle.memory_list.specs.Listings.{Ranges, IsRankAt}

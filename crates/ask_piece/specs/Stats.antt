@@ -1,5 +1,5 @@
 -- What a `PieceStats` tells. Assumes nothing.
-use mathlib.Core.Bool.{Bool, cond}
+use mathlib.Core.Bool.{cond}
 use mathlib.Core.List.{[], _∷_}
 use mathlib.Core.Option.{none, some}
 use Rattle.model.specs.Lists.{bit}

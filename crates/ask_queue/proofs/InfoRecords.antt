@@ -1,16 +1,14 @@
 -- The records of partials: of one, of a row of places, and of the four queues. Assumes nothing.
 use mathlib.Core.Path.{_≡_, refl, sym, ap, _∙_}
-use mathlib.Core.Bool.{Bool}
 use mathlib.Core.List.{List, [], _∷_, _++_, append-assoc}
 use Prim.Native.Nat.{ℕ, zero, suc, _+_, _*_, _≤_, _<_}
-use native.Mathlib.Decide.{decLt}
 use native.Mathlib.Decide.{ℕ-discrete}
 use native.Mathlib.Omega.{arith}
 use lib.ListN.{length, getD}
 use Rattle.types.specs.declared.queue.DownloadQueue.{DownloadQueue}
 use Rattle.types.specs.declared.queue.DownloadQueue.the-variants.{Downloading, Full, Finished, ZeroPrio, Open, DownloadingReverse}
 use Rattle.types.specs.declared.queue.DownloadQueue.the-variants.{FullReverse}
-use Rattle.model.specs.Lists.{bit, nth, len, filter, from, count, concatMap, each}
+use Rattle.model.specs.Lists.{bit, nth, len, from, count, concatMap}
 use Rattle.model.specs.Bep3.{sumTo}
 use Rattle.model.specs.State.{Picker, DownloadingPiece, sameQueue}
 use Rattle.model.specs.change.Partials.{inQueue}
@@ -21,10 +19,9 @@ use Rattle.memory_layout.specs.Tables.{tabulate}
 use Rattle.memory_layout.specs.Decode.{queueFrom}
 use Rattle.memory_layout.specs.Changes.{partialIn}
 use Rattle.memory_layout.proofs.TableLaws.{tabulate-ext, tabulate-each}
-use Rattle.memory_rows.specs.Lookup.{LiveRows, pickerIn}
+use Rattle.memory_rows.specs.Lookup.{pickerIn}
 use Rattle.memory_rows.proofs.RisingLaws.{live-number}
-use Rattle.check_partials.specs.Records.{CountsHeld}
-use Rattle.memory_queues.specs.Queues.{Queued, placesIn, placesBelow, queueIn, Filled}
+use Rattle.memory_queues.specs.Queues.{Queued, placesIn, placesBelow, queueIn}
 use Rattle.memory_queues.proofs.PlaceLaws.{places-queue, places-rising}
 use Rattle.memory_queues.proofs.EnterLaws.{size-is, size-few, place-is}
 use Rattle.ask_partial.specs.declared.info.PieceInfo.{PieceInfo}
@@ -32,7 +29,7 @@ use Rattle.ask_partial.specs.Info.{infoNumbers, InfoSays, AskedCounts}
 use Rattle.ask_picker.proofs.AskedLaws.{asked-rows, asked-queues}
 use Rattle.ask_records.specs.Records.{wordsAt, told, WordsPut, Written}
 use Rattle.ask_records.proofs.RecordLaws.{row-words, older-words, concat-ext}
-use Rattle.ask_queue.specs.Infos.{infosTold, InfoWords, InfosPut, PlacesLow}
+use Rattle.ask_queue.specs.Infos.{infosTold, InfosPut, PlacesLow}
 
 -- ---- one record
 pub info-row : (x : PieceInfo) (at : ℕ) (before after : List ℕ) (a b c d e f g : ℕ) → a ≡ x .index → b ≡ x .finished

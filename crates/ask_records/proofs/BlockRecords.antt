@@ -3,13 +3,11 @@ use mathlib.Core.Path.{_≡_, refl, sym, ap, ap₂, _∙_}
 use mathlib.Core.Bool.{Bool, true, false, cond}
 use mathlib.Core.List.{List, [], _∷_}
 use mathlib.Core.Option.{Option, none, some}
-use Prim.Native.Nat.{ℕ, _*_, _≤_, _<_}
+use Prim.Native.Nat.{ℕ, _≤_}
 use native.Mathlib.Omega.{arith}
-use lib.ListN.{length, replicate}
-use Rattle.types.specs.Block.{blockStateNumber}
+use lib.ListN.{replicate}
 use Rattle.model.specs.Lists.{bit, nth, each, concatMap}
-use Rattle.model.specs.State.{Picker, Block, DownloadingPiece, blocksInPiece}
-use Rattle.model.specs.change.Partials.{partialOf}
+use Rattle.model.specs.State.{Picker, Block, blocksInPiece}
 use Rattle.model.specs.ask.Questions.{replyPiece, listPiece, peersIn, blockInfo, ofPartial, numbers, one, blocks-in-piece, get-downloaders}
 use Rattle.model.specs.ask.Questions.{blocks-for-piece}
 use Rattle.memory_records.specs.declared.record.DownloadingPiece.{DownloadingPiece as Record}
@@ -18,7 +16,7 @@ use Rattle.memory_records.specs.Rows.{rowAt, recordsIn}
 use Rattle.ask_picker.proofs.RecordRows.{record-row}
 use Rattle.memory_layout.specs.declared.shape.Shape.{Shape}
 use Rattle.memory_layout.specs.Tables.{tabulate}
-use Rattle.memory_layout.specs.Decode.{headWord, recordAt, blocksOf, yes?, peerFrom, blockHeld, blocksHeld}
+use Rattle.memory_layout.specs.Decode.{recordAt, blocksOf, yes?, peerFrom, blockHeld, blocksHeld}
 use Rattle.memory_layout.specs.Changes.{partialIn}
 use Rattle.memory_layout.specs.Bounds.{ShapeOf}
 use Rattle.memory_layout.proofs.Meanings.{blocks-are, blocks-of-is}

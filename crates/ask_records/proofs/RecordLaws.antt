@@ -1,8 +1,8 @@
 -- Records written one after another: a row of words put in, the records so far, and what they tell. Assumes nothing.
-use mathlib.Core.Path.{_≡_, refl, sym, ap, _∙_}
+use mathlib.Core.Path.{_≡_, refl, ap, _∙_}
 use mathlib.Core.List.{List, [], _∷_, _++_}
-use mathlib.Core.Option.{Option, none, some}
-use Prim.Native.Nat.{ℕ, zero, suc, _+_, _*_, _≤_, _<_}
+use mathlib.Core.Option.{Option, none}
+use Prim.Native.Nat.{ℕ, zero, suc, _+_, _*_, _<_}
 use native.Mathlib.Decide.{ℕ-discrete}
 use native.Mathlib.Omega.{arith}
 use lib.ListN.{length, getD, set, replicate, length-set}
@@ -12,7 +12,7 @@ use Rattle.memory_layout.specs.Offsets.{cell}
 use Rattle.memory_layout.specs.Tables.{tabulate}
 use Rattle.memory_layout.proofs.TableLaws.{tabulate-ext}
 use Rattle.memory_layout.proofs.OffsetLaws.{cell-below}
-use Rattle.ask_records.specs.Records.{wordsAt, told, Written, WordsPut, Lists}
+use Rattle.ask_records.specs.Records.{wordsAt, told, WordsPut, Lists}
 
 -- ---- a row of words
 pub put-start : (at : ℕ) (row out : List ℕ) → WordsPut at 0 row out out

@@ -4,7 +4,6 @@ use Rattle.ask_queue.proofs.InfoRecords.{infos-start, infos-next, infos
 use Rattle.ask_queue.specs.Infos.{InfosPut}
 use Rattle.model.specs.Lists.{nth}
 use mathlib.Core.List.{[]}
-use mathlib.Core.Path.{_∙_}
 use native.Mathlib.Omega.{arith}
 use borrow.Author.Needs.{needs}
 use Rattle.ask_queue.proofs.put_queue.Statement.{statement}

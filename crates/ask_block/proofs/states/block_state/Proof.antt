@@ -5,7 +5,7 @@ use Rattle.ask_block.specs.Blocks.{numberReply}
 use Rattle.memory_rows.specs.Lookup.{pickerIn}
 use Rattle.model.specs.ask.Questions.{replyBlock, blockIn, ofBlockThere, one, block-state}
 use Rattle.model.specs.change.Partials.{partialOf}
-use mathlib.Core.Option.{none, some}
+use mathlib.Core.Option.{none}
 use mathlib.Core.Path.{subst, ap, _∙_}
 use borrow.Author.Needs.{needs}
 use Rattle.ask_block.proofs.states.block_state.Statement.{statement}

@@ -7,7 +7,7 @@ use Rattle.model.specs.State.{sameBlockState}
 use Rattle.model.specs.ask.Questions.{replyBlock, blockIn, blockTest, flag, is-requested}
 use Rattle.model.specs.change.Partials.{partialOf}
 use lib.Dec.{eqb}
-use mathlib.Core.Option.{none, some}
+use mathlib.Core.Option.{none}
 use mathlib.Core.Path.{subst, ap, _∙_}
 use borrow.Author.Needs.{needs}
 use Rattle.ask_block.proofs.states.is_requested.Statement.{statement}

@@ -5,7 +5,7 @@ use Rattle.ask_partial.specs.Flags.{flagIn, flagReply}
 use Rattle.memory_rows.specs.Lookup.{pickerIn}
 use Rattle.model.specs.ask.Questions.{replyPiece}
 use Rattle.model.specs.change.Partials.{partialOf}
-use mathlib.Core.Logic.{inl, inr}
+use mathlib.Core.Logic.{inr}
 use mathlib.Core.Path.{refl, ap, _∙_}
 use Rattle.ask_partial.proofs.flags.hashing.Statement.{statement}
 use Rattle.ask_partial.proofs.flags.hashing.Tie as tie

@@ -6,7 +6,7 @@ use Rattle.memory_fields.specs.Reading.{CellsSay}
 use Rattle.model.specs.State.{pieceAt}
 use Rattle.model.specs.ask.Questions.{replyPiece, flag}
 use Rattle.model.specs.change.Partials.{partialOf}
-use mathlib.Core.Logic.{inl, inr}
+use mathlib.Core.Logic.{inl}
 use mathlib.Core.Path.{refl, ap, subst}
 use borrow.Author.Needs.{needs}
 use Rattle.ask_partial.proofs.flags.have_piece.Statement.{statement}

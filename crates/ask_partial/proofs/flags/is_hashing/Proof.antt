@@ -2,10 +2,9 @@
 use Rattle.ask_partial.proofs.FlagLaws.{hashing-says}
 use Rattle.ask_picker.specs.Telling.{RowsSay}
 use Rattle.ask_partial.specs.Flags.{flagFound}
-use Rattle.ask_partial.specs.declared.flags.FlagOf.{FlagOf}
 use Rattle.model.specs.ask.Questions.{replyPiece, flag}
 use Rattle.model.specs.change.Partials.{partialOf}
-use mathlib.Core.Logic.{inl, inr}
+use mathlib.Core.Logic.{inr}
 use mathlib.Core.Path.{refl, ap, subst}
 use borrow.Author.Needs.{needs}
 use Rattle.ask_partial.proofs.flags.is_hashing.Statement.{statement}

@@ -3,7 +3,7 @@ use Prim.Native.Nat.{_+_}
 use Rattle.ask_partial.proofs.InfoLaws.{counts-shape, finished-none, finished-some}
 use Rattle.ask_picker.proofs.AskedLaws.{asked-queues, asked-rise}
 use Rattle.memory_rows.specs.Lookup.{FoundIn}
-use mathlib.Core.Path.{subst, ap₂, _∙_}
+use mathlib.Core.Path.{subst, ap₂}
 use native.Mathlib.Omega.{arith}
 use borrow.Author.Needs.{needs}
 use Rattle.ask_partial.proofs.info.is_piece_finished.Statement.{statement}

@@ -5,8 +5,7 @@ use Rattle.ask_records.proofs.RecordLaws.{lists-start, lists-next, list
 use Rattle.ask_records.specs.Records.{blockRead, Lists}
 use Rattle.memory_layout.specs.Decode.{blockHeld}
 use Rattle.model.specs.ask.Questions.{blockInfo}
-use mathlib.Core.List.{[], _∷_}
-use mathlib.Core.Path.{refl, _∙_}
+use mathlib.Core.Path.{refl}
 use native.Mathlib.Omega.{arith}
 use borrow.Author.Needs.{needs}
 use Rattle.ask_records.proofs.blocks.blocks_at.Statement.{statement}

@@ -3,7 +3,6 @@ use Prim.Native.Nat.{_-_, _≤_}
 use Rattle.ask_records.proofs.RecordLaws.{put-start, put-next, put-end}
 use Rattle.ask_records.specs.Records.{WordsPut}
 use lib.ListN.{length}
-use mathlib.Core.Path.{refl}
 use native.Mathlib.Omega.{arith}
 use borrow.Author.Needs.{needs}
 use Rattle.ask_records.proofs.words.put_words.Statement.{statement}
