@@ -111,6 +111,125 @@ pub {kebab}-spec : {{M : Type 1}} → statement M
 {kebab}-spec = tie.close (tie.spec counted-requires returns)
 """
 
+# a field of a piece: question, function below, what makes a reply of it, the buffer that is not read
+PIECE_FIELDS = [
+    ('pad_bytes_in_piece', 'pad_bytes', 'one', 'cells'),
+    ('peer_count', 'peer_count', 'one', 'words'),
+    ('piece_priority', 'priority', 'one', 'words'),
+    ('download_state', 'state', 'one', 'words'),
+    ('is_piece_flushed', 'flushed', 'flag', 'words'),
+]
+
+PIECE_FIELD = """-- `{fn}` meets its contract. Assumes nothing.
+-- Written by tools/asks.py, and not by hand.
+use mathlib.Core.Path.{{ap}}
+use borrow.Author.Needs.{{needs}}
+use Rattle.model.specs.ask.Questions.{{replyPiece, {wrap}}}
+use Rattle.ask_piece.proofs.fields.{fn}.Statement.{{statement}}
+use Rattle.ask_piece.proofs.fields.{fn}.Tie as tie
+
+{below}-requires : tie.Need-{below}-requires
+{below}-requires c κs = search needs
+
+returns : tie.Need-returns
+unfolding replyPiece
+returns c = record {{ is = λ records {other} q. ap {wrap} (c .{below} .ensures .is records {other} q) }}
+
+pub {kebab}-spec : {{M : Type 1}} → statement M
+{kebab}-spec = tie.close (tie.spec {below}-requires returns)
+"""
+
+# a length of a piece: question, function below, definition
+LENGTHS = [('piece_size', 'piece_length', 'pieceSizeAt'), ('blocks_in_piece', 'blocks_at', 'blocksInPiece')]
+
+LENGTH = """-- `{fn}` meets its contract. Assumes nothing.
+-- Written by tools/asks.py, and not by hand.
+use mathlib.Core.Path.{{ap, _∙_}}
+use native.Mathlib.Omega.{{arith}}
+use borrow.Author.Needs.{{needs}}
+use Rattle.model.specs.State.{{{length}}}
+use Rattle.model.specs.ask.Questions.{{replyPiece, one}}
+use Rattle.memory_layout.proofs.OffsetLaws.{{head-in}}
+use Rattle.ask_piece.proofs.PieceLaws.{{piece-there}}
+use Rattle.ask_piece.proofs.lengths.{fn}.Statement.{{statement}}
+use Rattle.ask_piece.proofs.lengths.{fn}.Tie as tie
+
+head-word-requires : tie.Need-head-word-requires
+head-word-requires c κs = (head-in (c .before .args .s) (c .before .args .words .now) (c .before .pre .0), omega arith)
+
+head-word-requires-2 : tie.Need-head-word-requires-2
+head-word-requires-2 c κs =
+    let c2 = c .before .before in
+    (head-in (c2 .args .s) (c2 .args .words .now) (c2 .pre .0), omega arith)
+
+usize-to-u64-requires : tie.Need-usize-to-u64-requires
+usize-to-u64-requires c κs = search needs
+
+{below}-requires : tie.Need-{below}-requires
+{below}-requires c κs =
+    let c4 = c .before .before .before .before in
+    let a = c4 .args in
+    rw (c .usize-to-u64 .ensures, c .before .head-word2 .ensures, c .before .before .head-word .ensures) (piece-there (a .s)
+    (a .words .now) (a .i) (c4 .pre .1 .0) (c4 .pre .1 .1))
+
+returns : tie.Need-returns
+unfolding replyPiece {length}
+returns c =
+    let c1 = c .before in
+    record {{
+      is = λ records cells.
+          ap one (c .{below} .ensures
+          ∙ rw (c1 .usize-to-u64 .ensures, c1 .before .head-word2 .ensures, c1 .before .before .head-word .ensures));
+    }}
+
+pub {kebab}-spec : {{M : Type 1}} → statement M
+{kebab}-spec =
+    tie.close
+    (tie.spec
+    head-word-requires
+    head-word-requires-2
+    usize-to-u64-requires
+    {below}-requires
+    returns)
+"""
+
+# a flag of a partial: question, weight, which of the weights it is
+FLAGS = [('passed_hash_check', 1, 'inl refl'), ('locked', 2, 'inr (inl refl)'), ('hashing', 4, 'inr (inr refl)')]
+
+FLAG = """-- `{fn}` meets its contract. Assumes nothing.
+-- Written by tools/asks.py, and not by hand.
+use Rattle.ask_partial.proofs.FlagLaws.{{flag-asked}}
+use Rattle.ask_partial.specs.Flags.{{flagIn, flagReply}}
+use Rattle.memory_rows.specs.Lookup.{{pickerIn}}
+use Rattle.model.specs.ask.Questions.{{replyPiece}}
+use Rattle.model.specs.change.Partials.{{partialOf}}
+use mathlib.Core.Logic.{{{names}}}
+use mathlib.Core.Path.{{refl, ap, _∙_}}
+use Rattle.ask_partial.proofs.flags.{fn}.Statement.{{statement}}
+use Rattle.ask_partial.proofs.flags.{fn}.Tie as tie
+
+flag-of-requires : tie.Need-flag-of-requires
+flag-of-requires c κs = (c .before .pre .0, (c .before .pre .1, {case}))
+
+returns : tie.Need-returns
+unfolding replyPiece flagIn
+returns c =
+    let c2 = c .before .before in
+    let a = c2 .args in
+    record {{
+      is = λ s words cells v.
+          ap flagReply (c .flag-of .ensures .is s words cells v)
+          ∙ flag-asked {weight} (partialOf (pickerIn (a .live) (a .rows .now) words cells) (a .i));
+    }}
+
+pub {kebab}-spec : {{M : Type 1}} → statement M
+{kebab}-spec =
+    tie.close
+    (tie.spec
+    flag-of-requires
+    returns)
+"""
+
 
 def kebab(name):
     """A name as proofs write it."""
@@ -131,6 +250,17 @@ def files():
         made[totals / fn / 'Proof.antt'] = NUMBER.format(fn=fn, field=field, more=more, kebab=kebab(fn), **between)
     for fn in COUNTS:
         made[totals / fn / 'Proof.antt'] = COUNT.format(fn=fn, kebab=kebab(fn))
+    for fn, below, wrap, other in PIECE_FIELDS:
+        text = PIECE_FIELD.format(fn=fn, below=kebab(below), wrap=wrap, other=other, kebab=kebab(fn))
+        made[ROOT / 'crates/ask_piece/proofs/fields' / fn / 'Proof.antt'] = text
+    for fn, below, length in LENGTHS:
+        made[ROOT / 'crates/ask_piece/proofs/lengths' / fn / 'Proof.antt'] = LENGTH.format(
+            fn=fn, below=kebab(below), length=length, kebab=kebab(fn)
+        )
+    for fn, weight, case in FLAGS:
+        names = ', '.join(n for n in ('inl', 'inr') if n in case)
+        text = FLAG.format(fn=fn, weight=weight, case=case, names=names, kebab=kebab(fn))
+        made[ROOT / 'crates/ask_partial/proofs/flags' / fn / 'Proof.antt'] = text
     return made
 
 
