@@ -1,3 +1,4 @@
 pub mod WorkLaws
 pub mod MendLaws
 pub mod FieldLaws
+pub mod FieldMends
