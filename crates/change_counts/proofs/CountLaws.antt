@@ -22,7 +22,7 @@ use Rattle.memory_layout.proofs.Meanings.{pieces-number, peer-count-is}
 use Rattle.memory_layout.proofs.StandingLaws.{changed-stands}
 use Rattle.memory_fields.specs.Reading.{CellsSay}
 use Rattle.memory_list.proofs.Moving.{PieceInRange, range-peers}
-use Rattle.change_steps.specs.Working.{Works, WorksBeside, Went, Goes}
+use Rattle.change_steps.specs.Working.{Works, Went, Goes}
 use Rattle.change_steps.specs.Whole.{ChangedBy}
 use Rattle.change_steps.proofs.FieldLaws.{works-range, works-piece}
 use Rattle.change_steps.proofs.WorkLaws.{went-nowhere, went-named, went-then}
@@ -73,11 +73,13 @@ module _ (s : Shape) (draws : Draws) (i : ℕ) (h : i < s .pieces) (words cells 
     pub peer-left : 0 < count → LeftBy s i words cells words cells (count - 1)
     unfolding brokenFor when drawing
     peer-left m = record {
-      went = λ records t.
-          let e = say .is records words (t .bounds) in
-          went-nowhere s records words cells 0 (brokenFor i) (stands-works s records words cells t)
-          (rw (ne-eqb (pieceAt (decode records words cells) i .peerCount) 0 (λ (z : pieceAt (decode records words cells) i .peerCount ≡ 0).
-          absurd (omega (arith, e, m, z)))));
+      begun = record {
+        went = λ records t.
+            let n = pieceAt (decode records words cells) i .peerCount in
+            let e : count ≡ n = say .is records words (t .bounds) in
+            went-nowhere s records words cells 0 (brokenFor i) (stands-works s records words cells t)
+            (rw (ne-eqb n 0 (λ (z : n ≡ 0). absurd (omega (arith, e, m, z)))));
+      };
       is = λ records t. ap (λ (n : ℕ). n - 1) (say .is records words (t .bounds));
     }
 
@@ -120,19 +122,16 @@ module _ (s : Shape) (draws : Draws) (i : ℕ) (h : i < s .pieces) (words cells 
     pub seed-left : (words′ cells′ : List ℕ) → 1 ≤ headWord words 2 → count ≤ 0 → ChangeMade s breakOneSeed words words′ cells cells′
         → LeftBy s i words cells words′ cells′ 0
     seed-left words′ cells′ a z m = record {
-      went = λ records t. broken-went words′ cells′ a z m records t;
+      begun = record { went = λ records t. broken-went words′ cells′ a z m records t };
       is = λ records t. one-left words′ cells′ a z m records t;
     }
 
   -- ---- and gone
   module _ (words₁ cells₁ : List ℕ) (left : ℕ) (l : LeftBy s i words cells words₁ cells₁ left) where
-    pub left-works : StandsBeside s words cells → WorksBeside s words₁ cells₁
-    left-works b = record { records = b .records; works = l .went (b .records) (b .stands) .works }
-
     pub left-low : StandsBeside s words cells → left ≤ maxPeers
     left-low b =
         let records = b .records in
-        let w = l .went records (b .stands) .works in
+        let w = l .begun .went records (b .stands) .works in
         omega (
           arith,
           l .is records (b .stands),
@@ -146,12 +145,12 @@ module _ (s : Shape) (draws : Draws) (i : ℕ) (h : i < s .pieces) (words cells 
     peer-went words′ cells′ next g = record {
       done = λ records t.
           let d = decode records words₁ cells₁ in
-          let a = l .went records t in
-          let b = went-named s records words₁ cells₁ 0 records words′ cells′ next (changeAndUpdate draws i (withPiece i (withPeerCount left)))
-          (changeAndUpdate draws i (withPiece i decPeerCount))
+          let lower = changeAndUpdate draws i (withPiece i decPeerCount) in
+          let a = l .begun .went records t in
+          let b = went-named s records words₁ cells₁ 0 records words′ cells′ next
+          (changeAndUpdate draws i (withPiece i (withPeerCount left))) lower
           (same-move draws i 0 (withPeerCount left) decPeerCount d (ap (λ (n : ℕ). withPeerCount n (pieceAt d i)) (l .is records t)))
           (g .went records (a .works)) in
           went-done s records words cells (decRefcount draws i) records words′ cells′ next
-          (went-then s records words cells 0 records words₁ cells₁ 0 (brokenFor i) (changeAndUpdate draws i (withPiece i decPeerCount)) a
-          records words′ cells′ next b);
+          (went-then s records words cells 0 records words₁ cells₁ 0 (brokenFor i) lower a records words′ cells′ next b);
     }

@@ -11,7 +11,7 @@ use Rattle.memory_records.specs.declared.record.DownloadingPiece.{DownloadingPi
 use Rattle.memory_layout.specs.declared.shape.Shape.{Shape}
 use Rattle.memory_layout.specs.Decode.{decode}
 use Rattle.memory_layout.specs.Standing.{Stands}
-use Rattle.change_steps.specs.Working.{Went}
+use Rattle.change_steps.specs.Whole.{Begins}
 
 -- a seed is broken where piece i has no peer beside seeds
 unfoldable pub brokenFor : (i : ℕ) (w : Drawing) → Drawing
@@ -19,5 +19,5 @@ brokenFor i w = when (eqb (pieceAt (w .picker) i .peerCount) 0) (noDraw breakOne
 
 -- that is done, and one less than the peers of the piece are `left`
 pub record LeftBy (s : Shape) (i : ℕ) (words cells words′ cells′ : List ℕ) (left : ℕ) : Type 0 where
-  pub went : (records : List Record) → Stands s records words cells → Went s (brokenFor i) records words cells 0 records words′ cells′ 0
+  pub begun : Begins s (brokenFor i) words cells words′ cells′ 0
   pub is : (records : List Record) → Stands s records words cells → left ≡ pieceAt (decode records words′ cells′) i .peerCount - 1

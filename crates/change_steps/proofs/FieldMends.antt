@@ -36,7 +36,8 @@ module _ (s : Shape) (i : ℕ) (g : Piece → Piece) (words cells cells′ : Lis
       )
 
   -- what it leaves
-  pub field-mended : (draws : Draws) (used : ℕ) (words′ : List ℕ) (next : ℕ) → ListBecame s (update draws old i) words words′ cells′ used next
+  pub field-mended : (draws : Draws) (used : ℕ) (words′ : List ℕ) (next : ℕ)
+      → ListBecame s (update draws old i) words words′ cells′ used next
       → Goes s (changeAndUpdate draws i (withPiece i g)) words cells used words′ cells′ next
   field-mended draws used words′ next l = record {
     went = λ records w.

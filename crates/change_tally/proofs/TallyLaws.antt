@@ -29,7 +29,9 @@ use Rattle.change_tally.specs.Tallied.{TalliesBeside, Tallied}
 
 -- ---- blocks by state
 one-state : (q : BlockState)
-    → bit (sameBlockState q None) + (bit (sameBlockState q Requested) + bit (sameBlockState q Writing) + bit (sameBlockState q Finished)) ≡ 1
+    → bit (sameBlockState q None)
+    + (bit (sameBlockState q Requested) + bit (sameBlockState q Writing) + bit (sameBlockState q Finished))
+    ≡ 1
 unfolding sameBlockState
 one-state None = refl
 one-state Requested = refl

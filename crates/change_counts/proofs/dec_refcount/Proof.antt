@@ -2,7 +2,8 @@
 use mathlib.Core.List.{[]}
 use native.Mathlib.Omega.{arith}
 use borrow.Author.Needs.{needs}
-use Rattle.change_counts.proofs.CountLaws.{left-works, left-low, peer-went}
+use Rattle.change_steps.proofs.MendLaws.{begun-works}
+use Rattle.change_counts.proofs.CountLaws.{left-low, peer-went}
 use Rattle.change_counts.proofs.dec_refcount.Statement.{statement}
 use Rattle.change_counts.proofs.dec_refcount.Tie as tie
 
@@ -14,8 +15,7 @@ set-peer-count-requires c κs =
     let l = c .before .before .before .before .before .before in
     let o = l .before .before .before .before .before .before in
     let a = o .args in
-    let w = left-works (a .s) [] (a .i) (o .pre .1 .0) (a .words .now) (a .cells .now) _ _ (l .leave-one .result) (l .leave-one .ensures)
-    (o .pre .0) in
+    let w = begun-works (a .s) _ (a .words .now) (a .cells .now) _ _ 0 (l .leave-one .ensures .begun) (o .pre .0) in
     let m = left-low (a .s) [] (a .i) (o .pre .1 .0) (a .words .now) (a .cells .now) _ _ (l .leave-one .result) (l .leave-one .ensures)
     (o .pre .0) in
     (w, ((o .pre .1 .0, m), omega arith))
