@@ -63,7 +63,8 @@ beside-works s words cells b = record { records = b .records; works = stands-wor
 pub goes-done : (s : Shape) (step : Drawing → Drawing) (words cells words′ cells′ : List ℕ) (next : ℕ)
     → Goes s step words cells 0 words′ cells′ next → ChangedBy s step words cells words′ cells′ next
 goes-done s step words cells words′ cells′ next g = record {
-  done = λ records t. went-done s records words cells step records words′ cells′ next (g .went records (stands-works s records words cells t));
+  done = λ records t.
+      went-done s records words cells step records words′ cells′ next (g .went records (stands-works s records words cells t));
 }
 
 -- the first steps of one: what stands behind them, and one step more
