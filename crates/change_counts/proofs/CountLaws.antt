@@ -1,23 +1,20 @@
 -- A peer more or less of a piece: what the stores leave is the definition's change. Assumes nothing.
-use mathlib.Core.Path.{_≡_, refl, sym, ap, _∙_}
-use mathlib.Core.Bool.{true, false}
-use mathlib.Core.Logic.{_≢_}
+use mathlib.Core.Path.{_≡_, ap, _∙_}
 use mathlib.Core.List.{List}
 use Prim.Native.Nat.{ℕ, suc, _+_, _-_, _≤_, _<_}
 use native.Mathlib.Omega.{arith}
-use lib.Dec.{eqb}
-use borrow.Author.Tests.{eq-eqb, ne-eqb}
+use borrow.Author.Tests.{ne-eqb}
 use Rattle.model.specs.Lists.{when}
 use Rattle.model.specs.State.{Piece, Picker, maxPeers, pieceAt, piecesIn, withPiece, withPeerCount, withSeeds, withListing, markDirty}
-use Rattle.model.specs.list.Order.{Draws, Drawing, drawing, noDraw, rank, update, changeAndUpdate}
-use Rattle.model.specs.change.Changes.{incPeerCount, decPeerCount, allPieces, incRefcount, breakOneSeed, decRefcount}
+use Rattle.model.specs.list.Order.{Draws, drawing, noDraw, changeAndUpdate}
+use Rattle.model.specs.change.Changes.{incPeerCount, decPeerCount, incRefcount, breakOneSeed, decRefcount}
 use Rattle.model.proofs.keep.KeepCounts.{breakOneSeed-keeps}
 use Rattle.model.proofs.sound.PieceLaws.{pieceAt-allPieces}
 use Rattle.model.proofs.sound.SoundLaws.{wellFormed-sound, sound-wellFormed}
 use Rattle.memory_records.specs.declared.record.DownloadingPiece.{DownloadingPiece as Record}
 use Rattle.memory_layout.specs.declared.shape.Shape.{Shape}
 use Rattle.memory_layout.specs.Decode.{decode, headWord, pieceCell}
-use Rattle.memory_layout.specs.Standing.{Stands, StandsBeside, Changed, ChangeMade}
+use Rattle.memory_layout.specs.Standing.{Stands, StandsBeside, ChangeMade}
 use Rattle.memory_layout.proofs.Meanings.{pieces-number, peer-count-is}
 use Rattle.memory_layout.proofs.StandingLaws.{changed-stands}
 use Rattle.memory_fields.specs.Reading.{CellsSay}

@@ -10,7 +10,7 @@ use lib.Dec.{eqb}
 use borrow.Author.Tests.{eq-eqb, ne-eqb}
 use Rattle.types.specs.Queue.{queueNumber}
 use Rattle.model.specs.Lists.{bit, unless}
-use Rattle.model.specs.State.{Piece, DownloadingPiece, Picker, isOpen, sameQueue, pieceAt}
+use Rattle.model.specs.State.{DownloadingPiece, isOpen, sameQueue, pieceAt}
 use Rattle.model.specs.list.Order.{Draws, Drawing, drawing}
 use Rattle.model.specs.change.Partials.{partialOf, updatePieceState}
 use Rattle.model.specs.change.Changes.{saying, filterChanges, cursorsOnFilter, prioritySet, setPiecePriority}
@@ -32,7 +32,7 @@ use Rattle.memory_fields.specs.Reading.{CellsSay}
 use Rattle.memory_rows.specs.Lookup.{LiveRows, pickerIn, FoundIn}
 use Rattle.memory_rows.proofs.RisingLaws.{well-formed-rise}
 use Rattle.change_steps.specs.Working.{Went}
-use Rattle.change_steps.specs.Whole.{Begins, Done}
+use Rattle.change_steps.specs.Whole.{Begins}
 use Rattle.change_steps.proofs.WorkLaws.{went-nowhere, went-named, went-then}
 use Rattle.change_steps.proofs.MendLaws.{stands-works, went-done}
 use Rattle.change_state.specs.declared.states.Tally.{Tally}

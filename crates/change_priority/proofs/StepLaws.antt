@@ -1,5 +1,5 @@
 -- The cursors, then the priority and its list: each step is the definition's. Assumes nothing.
-use mathlib.Core.Path.{_≡_, refl, sym, ap, _∙_}
+use mathlib.Core.Path.{_≡_, refl, ap}
 use mathlib.Core.Bool.{Bool, true, false, not, _&&_}
 use mathlib.Core.Logic.{_≢_}
 use mathlib.Core.List.{List}
@@ -9,7 +9,7 @@ use native.Mathlib.Omega.{arith}
 use lib.Dec.{eqb}
 use borrow.Author.Tests.{eq-eqb, ne-eqb}
 use Rattle.model.specs.Lists.{bit, when}
-use Rattle.model.specs.State.{DownloadingPiece, Picker, maxPriority, pieceAt, piecesIn, withPiece, withPieces, withPriority, withCursors}
+use Rattle.model.specs.State.{DownloadingPiece, Picker, maxPriority, pieceAt, withPiece, withPieces, withPriority, withCursors}
 use Rattle.model.specs.State.{withListing}
 use Rattle.model.specs.list.Order.{Draws, Drawing, drawing, noDraw, rank, changeAndUpdate}
 use Rattle.model.specs.change.Partials.{partialOf}

@@ -4,7 +4,6 @@ use mathlib.Core.Path.{_≡_}
 use mathlib.Core.Bool.{Bool, not, _&&_}
 use mathlib.Core.List.{List}
 use mathlib.Core.Option.{some}
-use lib.ListN.{length}
 use Rattle.model.specs.Lists.{when, unless}
 use Rattle.model.specs.State.{DownloadingPiece, isOpen, pieceAt, withPiece, withPriority}
 use Rattle.model.specs.list.Order.{Draws, Drawing, noDraw, changeAndUpdate}

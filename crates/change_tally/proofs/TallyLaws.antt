@@ -24,7 +24,6 @@ use Rattle.memory_layout.proofs.Meanings.{hashing-is, blocks-number}
 use Rattle.check_partials.specs.Records.{CountsHeld}
 use Rattle.memory_rows.specs.Counted.{CountSays}
 use Rattle.memory_rows.specs.Lookup.{LiveRows, pickerIn}
-use Rattle.change_state.specs.Numbers.{IsTally}
 use Rattle.change_tally.specs.Tallied.{TalliesBeside, Tallied}
 
 -- ---- blocks by state

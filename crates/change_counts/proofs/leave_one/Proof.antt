@@ -1,6 +1,5 @@
 -- `leave_one` meets its contract. Assumes nothing.
 use mathlib.Core.List.{[]}
-use native.Mathlib.Omega.{arith}
 use borrow.Author.Needs.{needs}
 use Rattle.change_counts.proofs.CountLaws.{peer-left, seed-there, seed-left}
 use Rattle.change_counts.proofs.leave_one.Statement.{statement}
