@@ -1,4 +1,8 @@
 pub mod WorkLaws
 pub mod MendLaws
 pub mod FieldLaws
+<<<<<<< HEAD
 pub mod BesideLaws
+=======
+pub mod FieldMends
+>>>>>>> counts
