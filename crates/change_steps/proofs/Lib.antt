@@ -1,8 +1,5 @@
 pub mod WorkLaws
 pub mod MendLaws
 pub mod FieldLaws
-<<<<<<< HEAD
 pub mod BesideLaws
-=======
 pub mod FieldMends
->>>>>>> counts
