@@ -38,7 +38,7 @@ module _ {A : Type 0} (test : A → Bool) (none : A) where
   count-set (x ∷ xs) (suc j) y h = omega (arith, count-set xs j y (le-of-suc-le-suc h))
 
 -- no more pass than there are
-count-most : {A : Type 0} → (test : A → Bool) (l : List A) → count test l ≤ len l
+pub count-most : {A : Type 0} → (test : A → Bool) (l : List A) → count test l ≤ len l
 unfolding count len
 count-most test [] = omega arith
 count-most test (x ∷ xs) = omega (arith, count-most test xs, bit-most (test x))

@@ -8,20 +8,19 @@ use Rattle.types.specs.declared.queue.DownloadQueue.{DownloadQueue}
 use Rattle.types.specs.Queue.{queueNumber}
 use Rattle.model.specs.Lists.{unless}
 use Rattle.model.specs.State.{Picker, Piece, DownloadingPiece, sameQueue, isOpen, pieceAt, withPiece, withState}
-use Rattle.model.specs.list.Order.{Draws, Drawing, drawing, rank, update}
+use Rattle.model.specs.list.Order.{Draws, Drawing, drawing, update}
 use Rattle.model.specs.change.Partials.{partialOf, newState, setState, moveState, updateStateOf, updatePieceState}
-use Rattle.model.proofs.sound.SoundFields.{alone-piece}
 use Rattle.memory_records.specs.declared.record.DownloadingPiece.{DownloadingPiece as Record}
 use Rattle.memory_layout.specs.declared.shape.Shape.{Shape}
 use Rattle.memory_layout.specs.Decode.{decode, queueFrom}
 use Rattle.memory_layout.specs.Stores.{CellsBecame}
 use Rattle.memory_layout.proofs.Numbers.{number-queue}
 use Rattle.memory_list.specs.Listings.{ListBounds, ListBefore, IsRankAt, ListBecame}
-use Rattle.memory_list.proofs.Moving.{range-state}
+use Rattle.memory_list.proofs.Moving.{PieceInRange, range-state}
 use Rattle.change_steps.specs.Working.{Works, WorksBeside, Goes, Went, Stored}
 use Rattle.change_steps.proofs.FieldLaws.{works-range, works-piece, field-stored}
 use Rattle.change_steps.proofs.WorkLaws.{went-nowhere, went-named}
-use Rattle.change_steps.proofs.MendLaws.{mend-bounds, mend-before, mended}
+use Rattle.change_steps.proofs.FieldMends.{field-asks, field-mended}
 use Rattle.memory_fields.specs.Reading.{CellsSay}
 use Rattle.change_state.specs.declared.states.Tally.{Tally}
 use Rattle.change_state.specs.Numbers.{IsTally, stateBy, StateUpdated}
@@ -30,39 +29,29 @@ use Rattle.change_state.proofs.StateLaws.{new-state-is}
 -- the state is stored
 module _ (s : Shape) (i : ℕ) (h : i < s .pieces) (q : DownloadQueue) (n : ℕ) (e : n ≡ queueNumber q) (words cells cells′ : List ℕ)
     (c : CellsBecame s (withPiece i (withState (queueFrom n))) cells cells′) where
+  named : CellsBecame s (withPiece i (withState q)) cells cells′
+  named = subst (λ (x : DownloadQueue). CellsBecame s (withPiece i (withState x)) cells cells′) (ap queueFrom e ∙ number-queue q) c
+
+  in-range : (records : List Record) → Works s records words cells → PieceInRange (withState q (pieceAt (decode records words cells) i))
+  in-range records w =
+      range-state q (pieceAt (decode records words cells) i)
+      (works-range s records words cells w i (works-piece s records words cells w i h))
+
   pub state-stored : (records : List Record) → Works s records words cells
       → Stored s (withPiece i (withState q)) records words cells records words cells′
-  state-stored records w =
-      let d = decode records words cells in
-      field-stored s records words cells w i (withState q) cells′
-      (subst (λ (x : DownloadQueue). CellsBecame s (withPiece i (withState x)) cells cells′) (ap queueFrom e ∙ number-queue q) c)
-      (range-state q (pieceAt d i) (works-range s records words cells w i (works-piece s records words cells w i h)))
+  state-stored records w = field-stored s records words cells w i (withState q) cells′ named (in-range records w)
 
   module _ (old : ℕ) (r : IsRankAt s words cells i old) where
-    old-is : (records : List Record) → Works s records words cells → old ≡ rank (decode records words cells) i
-    old-is records w = r .is (w .bounds .pieces) records
-
     -- what mending asks
     pub state-asks : WorksBeside s words cells → ListBounds s words cells′ × ListBefore s words cells′ old i
-    state-asks b =
-        let records = b .records in
-        let d = decode records words cells in
-        let t = state-stored records (b .works) in
-        let a = alone-piece i (withState q) d in (
-          mend-bounds s (withPiece i (withState q)) i records words cells records words cells′ (b .works) t a,
-          subst (λ (v : ℕ). ListBefore s words cells′ v i) (sym (old-is records (b .works)))
-              (mend-before s (withPiece i (withState q)) i records words cells records words cells′ (b .works) t a),
-        )
+    state-asks b = field-asks s i (withState q) words cells cells′ named in-range old r b
 
     -- what it leaves
     pub state-set : (draws : Draws) (used : ℕ) (words′ : List ℕ) (next : ℕ) → ListBecame s (update draws old i) words words′ cells′ used next
         → Goes s (setState draws i q) words cells used words′ cells′ next
     unfolding setState
-    state-set draws used words′ next l = record {
-      went = λ records w.
-          mended s (withPiece i (withState q)) i records words cells records words cells′ w (state-stored records w)
-          (alone-piece i (withState q) (decode records words cells)) draws old used (old-is records w) words′ next l;
-    }
+    state-set draws used words′ next l =
+        field-mended s i (withState q) words cells cells′ named in-range old r draws used words′ next l
 
 -- ---- left or moved
 module _ (s : Shape) (draws : Draws) (i : ℕ) (current q : DownloadQueue) (words cells : List ℕ) (used : ℕ) where

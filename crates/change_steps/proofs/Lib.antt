@@ -2,3 +2,4 @@ pub mod WorkLaws
 pub mod MendLaws
 pub mod FieldLaws
 pub mod BesideLaws
+pub mod FieldMends

@@ -18,7 +18,8 @@ use Rattle.memory_fields.specs.Storing.{DirtyMarked}
 use Rattle.memory_list.specs.Listings.{ListBounds, ListBefore, ListBecame}
 use Rattle.memory_list.proofs.Moving.{well-formed-range, ranges-held, ranks-right, list-before}
 use Rattle.change_steps.specs.Working.{Works, WorksBeside, Went, Goes, Stored}
-use Rattle.change_steps.specs.Whole.{Done, ChangedBy}
+use Rattle.change_steps.specs.Whole.{Done, ChangedBy, Begins}
+use Rattle.change_steps.proofs.WorkLaws.{went-then}
 
 -- ---- a picker before all steps, and behind them
 module _ (s : Shape) (records : List Record) (words cells : List ℕ) where
@@ -62,8 +63,23 @@ beside-works s words cells b = record { records = b .records; works = stands-wor
 pub goes-done : (s : Shape) (step : Drawing → Drawing) (words cells words′ cells′ : List ℕ) (next : ℕ)
     → Goes s step words cells 0 words′ cells′ next → ChangedBy s step words cells words′ cells′ next
 goes-done s step words cells words′ cells′ next g = record {
-  done = λ records t. went-done s records words cells step records words′ cells′ next (g .went records (stands-works s records words cells t));
+  done = λ records t.
+      went-done s records words cells step records words′ cells′ next (g .went records (stands-works s records words cells t));
 }
+
+-- the first steps of one: what stands behind them, and one step more
+module _ (s : Shape) (step : Drawing → Drawing) (words cells words′ cells′ : List ℕ) (next : ℕ)
+    (b : Begins s step words cells words′ cells′ next) where
+  pub begun-works : StandsBeside s words cells → WorksBeside s words′ cells′
+  begun-works t = record { records = t .records; works = b .went (t .records) (t .stands) .works }
+
+  pub begun-then : (other : Drawing → Drawing) (words″ cells″ : List ℕ) (last : ℕ) → Goes s other words′ cells′ next words″ cells″ last
+      → Begins s (λ w. other (step w)) words cells words″ cells″ last
+  begun-then other words″ cells″ last g = record {
+    went = λ records t.
+        let a = b .went records t in
+        went-then s records words cells 0 records words′ cells′ next step other a records words″ cells″ last (g .went records (a .works));
+  }
 
 -- ---- a change stored, and the list mended after it
 module _ (s : Shape) (f : Picker → Picker) (i : ℕ) (records : List Record) (words cells : List ℕ) (records′ : List Record)

@@ -7,6 +7,7 @@ use Rattle.memory_records.specs.declared.record.DownloadingPiece.{DownloadingPi
 use Rattle.memory_layout.specs.declared.shape.Shape.{Shape}
 use Rattle.memory_layout.specs.Decode.{decode}
 use Rattle.memory_layout.specs.Standing.{Stands, Changed}
+use Rattle.change_steps.specs.Working.{Went}
 
 -- the picker with these records is changed as `step` changes it from the first draw on, and so many draws are used
 pub record Done (s : Shape) (step : Drawing → Drawing) (records : List Record) (words cells : List ℕ) (records′ : List Record)
@@ -17,3 +18,7 @@ pub record Done (s : Shape) (step : Drawing → Drawing) (records : List Record)
 -- and that with whichever records make a picker stand, which stay
 pub record ChangedBy (s : Shape) (step : Drawing → Drawing) (words cells : List ℕ) (words′ cells′ : List ℕ) (used : ℕ) : Type 0 where
   pub done : (records : List Record) → Stands s records words cells → Done s step records words cells records words′ cells′ used
+
+-- the first steps of a whole change, with whichever records make a picker stand, which stay
+pub record Begins (s : Shape) (step : Drawing → Drawing) (words cells : List ℕ) (words′ cells′ : List ℕ) (next : ℕ) : Type 0 where
+  pub went : (records : List Record) → Stands s records words cells → Went s step records words cells 0 records words′ cells′ next

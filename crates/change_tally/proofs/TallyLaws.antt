@@ -24,12 +24,13 @@ use Rattle.memory_layout.proofs.Meanings.{hashing-is, blocks-number}
 use Rattle.check_partials.specs.Records.{CountsHeld}
 use Rattle.memory_rows.specs.Counted.{CountSays}
 use Rattle.memory_rows.specs.Lookup.{LiveRows, pickerIn}
-use Rattle.change_state.specs.Numbers.{IsTally}
 use Rattle.change_tally.specs.Tallied.{TalliesBeside, Tallied}
 
 -- ---- blocks by state
 one-state : (q : BlockState)
-    → bit (sameBlockState q None) + (bit (sameBlockState q Requested) + bit (sameBlockState q Writing) + bit (sameBlockState q Finished)) ≡ 1
+    → bit (sameBlockState q None)
+    + (bit (sameBlockState q Requested) + bit (sameBlockState q Writing) + bit (sameBlockState q Finished))
+    ≡ 1
 unfolding sameBlockState
 one-state None = refl
 one-state Requested = refl

@@ -1,0 +1,4 @@
+pub mod ErasingLaws
+pub mod FlushLaws
+pub mod RowEdits
+pub mod PassLaws

@@ -1,0 +1,26 @@
+-- A partial locked or passed: what a change of the flags leaves, with the one edit of the live rows made. Assumes nothing.
+use Prim.Native.Nat.{ℕ}
+use mathlib.Core.Path.{_≡_}
+use mathlib.Core.List.{List}
+use Rattle.model.specs.State.{Picker}
+use Rattle.memory_records.specs.declared.edits.Edit.{Edit}
+use Rattle.memory_records.specs.Rows.{recordsIn}
+use Rattle.memory_layout.specs.declared.shape.Shape.{Shape}
+use Rattle.memory_layout.specs.Decode.{headWord, decode}
+use Rattle.memory_layout.specs.Standing.{Stands, Changed, editRecords}
+
+-- a picker stands in words and cells with the live rows for its records
+pub record RowsStand (s : Shape) (live : ℕ) (rows words cells : List ℕ) : Type 0 where
+  pub stands : Stands s (recordsIn live rows) words cells
+  pub many : live ≡ headWord words 7
+
+-- the picker of the rows is changed so once the edit is made
+abbrev pub RowsChanged : (s : Shape) (change : Picker → Picker) (live : ℕ) (rows words cells : List ℕ) (edit : Edit) (words′ cells′ : List ℕ)
+    → Type 0
+RowsChanged s change live rows words cells edit words′ cells′ =
+    Changed s (change (decode (recordsIn live rows) words cells)) words cells (editRecords edit (recordsIn live rows)) words′ cells′
+
+-- and that beside any words and cells, which stay
+pub record EditAlone (change : Picker → Picker) (live : ℕ) (rows : List ℕ) (edit : Edit) : Type 0 where
+  pub changed : (s : Shape) (words cells : List ℕ) → RowsStand s live rows words cells
+      → RowsChanged s change live rows words cells edit words cells
