@@ -1,11 +1,11 @@
 -- A piece on disk: its partial goes, and no rank changes, since it has no bucket before or after. Assumes nothing.
 use mathlib.Core.Path.{_≡_, refl, sym, ap, _∙_, subst}
-use mathlib.Core.Bool.{Bool, true, false, cond, _&&_, or-true}
+use mathlib.Core.Bool.{_&&_, or-true}
 use mathlib.Core.List.{List}
 use Prim.Native.Nat.{ℕ, suc, _<_}
 use native.Mathlib.Decide.{ℕ-discrete}
 use lib.Dec.{eqb}
-use Rattle.model.specs.State.{Piece, Picker, withPiece, withPieces, withFlushed, withCursors, withPartials, pieceAt, piecesIn}
+use Rattle.model.specs.State.{Piece, Picker, withPiece, withPieces, withFlushed, withCursors, pieceAt, piecesIn}
 use Rattle.model.specs.list.Order.{noDraw, drawing, unlisted, bucket, rankOf, rank}
 use Rattle.model.specs.list.Listed.{ListingOk}
 use Rattle.model.specs.change.Partials.{dropPartial, eraseDownloadPiece}
@@ -23,9 +23,9 @@ use Rattle.memory_layout.proofs.BoundsLaws.{words-kept-again, cells-kept-again}
 use Rattle.memory_layout.proofs.StandingLaws.{ranks-named}
 use Rattle.memory_layout.proofs.stores.ListFrames.{ranks-kept, list-kept-again}
 use Rattle.memory_fields.specs.Storing.{StoredBeside}
-use Rattle.memory_list.specs.Listings.{Ranges, RanksRight}
+use Rattle.memory_list.specs.Listings.{Ranges}
 use Rattle.memory_list.proofs.Moving.{InRange, range-piece, range-flushed, ranges-held, ranks-right}
-use Rattle.change_flags.specs.Closing.{HasPartial, without, Erased, Flushed}
+use Rattle.change_flags.specs.Closing.{without, Erased, Flushed}
 use Rattle.change_flags.proofs.ErasingLaws.{erase-alone}
 
 -- ---- in the picker
@@ -130,7 +130,8 @@ module _ (s : Shape) (i : ℕ) (h : i < s .pieces) (words cells words₁ cells�
             ranges = ranges-held s after words₁ cells′ (b .bounds)
                 (subst InRange (sym (b .is)) (range-piece i withFlushed (decode after words₁ cells₁) g (range-flushed _ (g i m))));
             ranks = ranks-right s after words′ cells′
-                (ranks-named (s .pieces) words′ (rank d) (rank (decode after words′ cells′)) (λ k. ap (λ (y : Picker). rank y k) is ∙ ranks k)
+                (ranks-named (s .pieces) words′ (rank d) (rank (decode after words′ cells′))
+                (λ k. ap (λ (y : Picker). rank y k) is ∙ ranks k)
                 (ranks-kept s words words′ (rank d) list (w .bounds .list) (w .ranks records)));
             listed = subst ListingOk (sym is)
                 (ok-same d (pieceFlushed i d) (flushed-listing i d) (flushed-many i d) (λ k l. ranks k) (w .listed));
