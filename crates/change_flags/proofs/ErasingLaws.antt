@@ -1,15 +1,14 @@
 -- A partial closed and its piece Open: what is stored, and what becomes of the picker once the list is mended. Assumes nothing.
-use mathlib.Core.Path.{_≡_, refl, sym, ap, _∙_, subst}
+use mathlib.Core.Path.{_≡_, sym, ap, _∙_, subst}
 use mathlib.Core.List.{List}
 use Prim.Native.Nat.{ℕ, _<_}
 use Rattle.types.specs.declared.queue.DownloadQueue.{DownloadQueue}
 use Rattle.types.specs.declared.queue.DownloadQueue.the-variants.{Open}
 use Rattle.types.specs.Queue.{queueNumber}
-use Rattle.model.specs.State.{Picker, withPiece, withState, withPartials, piecesIn}
+use Rattle.model.specs.State.{withPiece, withState}
 use Rattle.model.specs.list.Order.{Draws, rank, update}
-use Rattle.model.specs.change.Partials.{dropPartial, eraseDownloadPiece, eraseAndUpdate}
-use Rattle.model.proofs.list.RankLaws.{rank-same}
-use Rattle.model.proofs.sound.SoundFields.{Alone, alone-piece}
+use Rattle.model.specs.change.Partials.{eraseDownloadPiece, eraseAndUpdate}
+use Rattle.model.proofs.keep.KeepClose.{eraseDownloadPiece-alone}
 use Rattle.memory_records.specs.declared.record.DownloadingPiece.{DownloadingPiece as Record}
 use Rattle.memory_layout.specs.declared.shape.Shape.{Shape}
 use Rattle.memory_layout.specs.Decode.{headWord, decode, queueFrom}
@@ -22,13 +21,6 @@ use Rattle.memory_list.specs.Listings.{ListBounds, ListBefore, IsRankAt, ListBe
 use Rattle.change_steps.proofs.MendLaws.{mend-bounds, mend-before, mended}
 use Rattle.change_state.proofs.MoveLaws.{state-stored}
 use Rattle.change_flags.specs.Closing.{HasPartial, PartialBeside, without, Erased, ErasedAndUpdated}
-
--- the list depends on nothing that this changes but piece i
-pub erase-alone : (i : ℕ) (d : Picker) → Alone i d (eraseDownloadPiece i d)
-unfolding eraseDownloadPiece dropPartial withPartials piecesIn
-erase-alone i d =
-    let a = alone-piece i (withState Open) (dropPartial i d) in
-    record { listing = a .listing; many = a .many; ranks = λ k n. a .ranks k n ∙ rank-same d (dropPartial i d) refl refl k }
 
 -- a partial is counted
 pub some-partial : (s : Shape) (i : ℕ) (words cells : List ℕ) → PartialBeside s i words cells → 0 < headWord words 7
@@ -74,7 +66,7 @@ module _ (s : Shape) (i : ℕ) (words cells words′ cells′ : List ℕ) (x : E
         let records = b .records in
         let p = b .has in
         let t = x .stored records p in
-        let a = erase-alone i (decode records words cells) in (
+        let a = eraseDownloadPiece-alone i (decode records words cells) in (
           mend-bounds s (eraseDownloadPiece i) i records words cells (without i words records) words′ cells′ (p .works) t a,
           subst (λ (v : ℕ). ListBefore s words′ cells′ v i) (sym (old-is records p))
               (mend-before s (eraseDownloadPiece i) i records words cells (without i words records) words′ cells′ (p .works) t a),
@@ -88,5 +80,5 @@ module _ (s : Shape) (i : ℕ) (words cells words′ cells′ : List ℕ) (x : E
     erased-mended draws used words″ next l = record {
       went = λ records p.
           mended s (eraseDownloadPiece i) i records words cells (without i words records) words′ cells′ (p .works) (x .stored records p)
-          (erase-alone i (decode records words cells)) draws old used (old-is records p) words″ next l;
+          (eraseDownloadPiece-alone i (decode records words cells)) draws old used (old-is records p) words″ next l;
     }

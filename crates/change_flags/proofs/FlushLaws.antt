@@ -1,32 +1,31 @@
 -- A piece on disk: its partial goes, and no rank changes, since it has no bucket before or after. Assumes nothing.
 use mathlib.Core.Path.{_≡_, refl, sym, ap, _∙_, subst}
-use mathlib.Core.Bool.{Bool, true, false, cond, _&&_, or-true}
+use mathlib.Core.Bool.{_&&_}
 use mathlib.Core.List.{List}
 use Prim.Native.Nat.{ℕ, suc, _<_}
 use native.Mathlib.Decide.{ℕ-discrete}
 use lib.Dec.{eqb}
-use Rattle.model.specs.State.{Piece, Picker, withPiece, withPieces, withFlushed, withCursors, withPartials, pieceAt, piecesIn}
-use Rattle.model.specs.list.Order.{noDraw, drawing, unlisted, bucket, rankOf, rank}
+use Rattle.model.specs.State.{Picker, withPiece, withPieces, withFlushed, withCursors, pieceAt, piecesIn}
+use Rattle.model.specs.list.Order.{noDraw, drawing, rank}
 use Rattle.model.specs.list.Listed.{ListingOk}
 use Rattle.model.specs.change.Partials.{dropPartial, eraseDownloadPiece}
 use Rattle.model.specs.change.Changes.{emptyRange, cursorFrom, reverseFrom, advanceCursors, pieceFlushed}
 use Rattle.model.proofs.base.Phases.{cond-arms}
+use Rattle.model.proofs.keep.KeepClose.{eraseDownloadPiece-alone, flushed-rank}
 use Rattle.model.proofs.list.ListingLaws.{ok-same}
 use Rattle.model.proofs.list.RankLaws.{rank-same, rank-other, rank-changed, piecesIn-withPiece}
 use Rattle.memory_records.specs.declared.record.DownloadingPiece.{DownloadingPiece as Record}
 use Rattle.memory_layout.specs.declared.shape.Shape.{Shape}
 use Rattle.memory_layout.specs.Decode.{decode}
-use Rattle.memory_layout.specs.Bounds.{InBounds}
 use Rattle.memory_layout.specs.Stores.{CellsBecame}
-use Rattle.memory_layout.proofs.Meanings.{pieces-number, peer-count-is, priority-is}
+use Rattle.memory_layout.proofs.Meanings.{pieces-number}
 use Rattle.memory_layout.proofs.BoundsLaws.{words-kept-again, cells-kept-again}
 use Rattle.memory_layout.proofs.StandingLaws.{ranks-named}
 use Rattle.memory_layout.proofs.stores.ListFrames.{ranks-kept, list-kept-again}
 use Rattle.memory_fields.specs.Storing.{StoredBeside}
-use Rattle.memory_list.specs.Listings.{Ranges, RanksRight}
 use Rattle.memory_list.proofs.Moving.{InRange, range-piece, range-flushed, ranges-held, ranks-right}
-use Rattle.change_flags.specs.Closing.{HasPartial, without, Erased, Flushed}
-use Rattle.change_flags.proofs.ErasingLaws.{erase-alone}
+use Rattle.change_steps.proofs.FieldLaws.{cells-range}
+use Rattle.change_flags.specs.Closing.{without, Erased, Flushed}
 
 -- ---- in the picker
 -- a picker with the same pieces, seeds, partials and list
@@ -53,18 +52,13 @@ advance-same i d =
     (λ g. with-cursors (d .cursor) (reverseFrom d i) d)
     (λ g. record { seeds = refl; pieces = refl; partials = refl; listing = refl })))
 
--- a flushed piece has no bucket
-flushed-rank : (n : ℕ) (p : Piece) → rankOf (bucket n (withFlushed p)) ≡ 0
-unfolding bucket unlisted rankOf withFlushed
-flushed-rank n p = rw (or-true (eqb (p .priority) 0))
-
 module _ (i : ℕ) (d : Picker) where
   u : Picker
   u = withPiece i withFlushed (eraseDownloadPiece i d)
 
   pub flushed-listing : pieceFlushed i d .listing ≡ d .listing
   unfolding pieceFlushed u withPiece withPieces
-  flushed-listing = advance-same i u .listing ∙ erase-alone i d .listing
+  flushed-listing = advance-same i u .listing ∙ eraseDownloadPiece-alone i d .listing
 
   pub flushed-partials : pieceFlushed i d .partials ≡ dropPartial i d .partials
   unfolding pieceFlushed u eraseDownloadPiece withPiece withPieces
@@ -78,30 +72,20 @@ module _ (i : ℕ) (d : Picker) where
   unfolding pieceFlushed u
   flushed-many =
       same-many u (advanceCursors i u) (advance-same i u .pieces) ∙ piecesIn-withPiece i withFlushed (eraseDownloadPiece i d)
-      ∙ erase-alone i d .many
+      ∙ eraseDownloadPiece-alone i d .many
 
   pub flushed-ranks : i < piecesIn d → rank d i ≡ 0 → (k : ℕ) → rank (pieceFlushed i d) k ≡ rank d k
-  unfolding pieceFlushed u
+  unfolding pieceFlushed u withFlushed
   flushed-ranks h z k =
-      let a = erase-alone i d in
+      let a = eraseDownloadPiece-alone i d in
       let e = eraseDownloadPiece i d in
       rank-same u (advanceCursors i u) (advance-same i u .seeds) (advance-same i u .pieces) k
       ∙ elim (ℕ-discrete k i) [
-        | yes q ↦ rw q (rank-changed i withFlushed e (rw (a .many) h) ∙ flushed-rank (e .seeds) (pieceAt e i) ∙ sym z)
+        | yes q ↦ rw q (rank-changed i withFlushed e (rw (a .many) h) ∙ flushed-rank (e .seeds) (withFlushed (pieceAt e i)) refl ∙ sym z)
         | no n ↦ rank-other i withFlushed e k n ∙ a .ranks k n
       ]
 
 -- ---- in the buffers
--- what is in range in the cells is so in the picker
-range-of : (s : Shape) (records : List Record) (words cells : List ℕ) → InBounds s records words cells → Ranges (s .pieces) cells
-    → InRange (decode records words cells)
-range-of s records words cells b r k h =
-    let m : k < s .pieces = rw (pieces-number s records words cells b) at h in
-    record {
-      peerCount = rw (peer-count-is s records words cells b k m) (r .peerCount k m);
-      priority = rw (priority-is s records words cells b k m) (r .priority k m);
-    }
-
 module _ (s : Shape) (i : ℕ) (h : i < s .pieces) (words cells words₁ cells₁ words′ cells′ : List ℕ)
     (x : Erased s i words cells words₁ cells₁) (c : CellsBecame s (withPiece i withFlushed) cells₁ cells′)
     (v : StoredBeside s (advanceCursors i) cells′ words₁ words′) where
@@ -116,7 +100,7 @@ module _ (s : Shape) (i : ℕ) (h : i < s .pieces) (words cells words₁ cells�
         let t = x .stored records p in
         let b = c .became after words₁ (t .bounds) in
         let a = v .became .became after (b .bounds) in
-        let g = range-of s after words₁ cells₁ (t .bounds) (t .ranges) in
+        let g = cells-range s after words₁ cells₁ (t .bounds) (t .ranges) in
         let m : i < piecesIn (decode after words₁ cells₁) = rw (pieces-number s after words₁ cells₁ (t .bounds)) h in
         let is : decode after words′ cells′ ≡ pieceFlushed i d =
         a .is ∙ ap (advanceCursors i) (b .is ∙ ap (withPiece i withFlushed) (t .is)) in
@@ -130,7 +114,8 @@ module _ (s : Shape) (i : ℕ) (h : i < s .pieces) (words cells words₁ cells�
             ranges = ranges-held s after words₁ cells′ (b .bounds)
                 (subst InRange (sym (b .is)) (range-piece i withFlushed (decode after words₁ cells₁) g (range-flushed _ (g i m))));
             ranks = ranks-right s after words′ cells′
-                (ranks-named (s .pieces) words′ (rank d) (rank (decode after words′ cells′)) (λ k. ap (λ (y : Picker). rank y k) is ∙ ranks k)
+                (ranks-named (s .pieces) words′ (rank d) (rank (decode after words′ cells′))
+                (λ k. ap (λ (y : Picker). rank y k) is ∙ ranks k)
                 (ranks-kept s words words′ (rank d) list (w .bounds .list) (w .ranks records)));
             listed = subst ListingOk (sym is)
                 (ok-same d (pieceFlushed i d) (flushed-listing i d) (flushed-many i d) (λ k l. ranks k) (w .listed));

@@ -5,7 +5,6 @@ use mathlib.Core.Option.{Option, some}
 use mathlib.Core.List.{List, [], _∷_}
 use Prim.Native.Nat.{ℕ, _≤_, _<_}
 use native.Mathlib.Decide.{ℕ-discrete}
-use native.Mathlib.Omega.{arith}
 use lib.Dec.{eqb, leb}
 use borrow.Author.Tests.{eq-eqb, ne-eqb, le-leb, lt-leb}
 use Rattle.types.specs.declared.queue.DownloadQueue.the-variants.{Open}
@@ -13,8 +12,8 @@ use Rattle.types.specs.declared.block.BlockState.the-variants.{Finished}
 use Rattle.model.specs.Lists.{filter, each, when, unless}
 use Rattle.model.specs.Bep3.{bitOf}
 use Rattle.model.specs.State.{DownloadingPiece, Picker, withPiece, withState, withFlushed, withPartials, withFlags, blocksInPiece}
-use Rattle.model.specs.list.Order.{Drawing, drawing, noDraw, rank}
-use Rattle.model.specs.change.Partials.{partialOf, blocksInState, replaceIn, replacePartial, dropPartial, eraseDownloadPiece}
+use Rattle.model.specs.list.Order.{drawing, noDraw}
+use Rattle.model.specs.change.Partials.{partialOf, replaceIn, replacePartial, dropPartial, eraseDownloadPiece}
 use Rattle.model.specs.change.Changes.{advanceCursors, pieceFlushed, allFinished, lockIn, lockPiece, passIn, piecePassed}
 use Rattle.model.proofs.keep.KeepClose.{finished-rank}
 use Rattle.model.proofs.sound.SoundLaws.{wellFormed-sound}
@@ -145,7 +144,8 @@ module _ (s : Shape) (live : ℕ) (rows words cells : List ℕ) (g : RowsStand s
       flush-is : many ≤ fin → pieceFlushed i d ≡ piecePassed i d
       unfolding when withFlags
       flush-is o =
-          sym (passed-is i d p there (locked-is ∙ l) true (finished-is ∙ le-leb many fin o) ∙ flushed-again i (withFlags true false p) d piece-is)
+          sym (passed-is i d p there (locked-is ∙ l) true (finished-is ∙ le-leb many fin o)
+          ∙ flushed-again i (withFlags true false p) d piece-is)
 
       pub pass-flushed : many ≤ fin → (words′ cells′ : List ℕ) → Flushed s i words cells words′ cells′
           → RowsChanged s (piecePassed i) live rows words cells (Remove (q .index)) words′ cells′

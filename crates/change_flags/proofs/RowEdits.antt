@@ -1,5 +1,5 @@
 -- The one edit of the live rows that goes with a change: none, other flags of a partial, or a partial closed. Assumes nothing.
-use mathlib.Core.Path.{_≡_, refl, sym, ap, _∙_, subst}
+use mathlib.Core.Path.{_≡_, sym, ap, _∙_, subst}
 use mathlib.Core.Bool.{Bool, true, not}
 use mathlib.Core.Option.{some}
 use mathlib.Core.List.{List}
@@ -9,8 +9,7 @@ use lib.Dec.{eqb}
 use lib.ListN.{length, take}
 use lib.Seq.{take-all}
 use Rattle.model.specs.Lists.{each, filter, len}
-use Rattle.model.specs.State.{DownloadingPiece, Picker, withPartials, withFlags}
-use Rattle.model.specs.list.Order.{rank}
+use Rattle.model.specs.State.{Picker, withPartials, withFlags}
 use Rattle.model.specs.change.Partials.{partialOf, replacePartial, dropPartial}
 use Rattle.model.proofs.sound.PieceLaws.{size-each}
 use Rattle.model.proofs.sound.SoundLaws.{wellFormed-sound}
@@ -23,7 +22,6 @@ use Rattle.memory_records.specs.Rows.{rowAt, recordsIn}
 use Rattle.memory_records.proofs.laws.RowLaws.{length-records, records-at}
 use Rattle.memory_layout.specs.declared.shape.Shape.{Shape}
 use Rattle.memory_layout.specs.Decode.{headWord, recordAt, piecesOn, blocksOn, partialHeld, decode}
-use Rattle.memory_layout.specs.Bounds.{InBounds}
 use Rattle.memory_layout.specs.Standing.{Changed, editRecords}
 use Rattle.memory_layout.specs.Changes.{partialIn}
 use Rattle.memory_layout.proofs.BoundsLaws.{words-kept-none, cells-kept-none}
@@ -96,6 +94,10 @@ module _ (s : Shape) (live : ℕ) (rows words cells : List ℕ) (g : RowsStand s
   module _ (i k : ℕ) (f : FoundIn live rows i (At k)) where
     pub low : k < headWord words 7
     low = omega (arith, f .row .0, g .many)
+
+    -- it has a row
+    pub row-there : k < 512
+    row-there = omega (arith, f .row .0, rows-few)
 
     pub found-is : partialOf d i ≡ some (partialIn d k)
     found-is = f .is s words cells rows-live .1

@@ -15,8 +15,8 @@ pub record RowsStand (s : Shape) (live : ℕ) (rows words cells : List ℕ) : Ty
   pub many : live ≡ headWord words 7
 
 -- the picker of the rows is changed so once the edit is made
-abbrev pub RowsChanged : (s : Shape) (change : Picker → Picker) (live : ℕ) (rows words cells : List ℕ) (edit : Edit) (words′ cells′ : List ℕ)
-    → Type 0
+abbrev pub RowsChanged : (s : Shape) (change : Picker → Picker) (live : ℕ) (rows words cells : List ℕ) (edit : Edit)
+    (words′ cells′ : List ℕ) → Type 0
 RowsChanged s change live rows words cells edit words′ cells′ =
     Changed s (change (decode (recordsIn live rows) words cells)) words cells (editRecords edit (recordsIn live rows)) words′ cells′
 

@@ -6,22 +6,29 @@ use Rattle.model.specs.State.{Piece, pieceAt, piecesIn, withPiece}
 use Rattle.memory_records.specs.declared.record.DownloadingPiece.{DownloadingPiece as Record}
 use Rattle.memory_layout.specs.declared.shape.Shape.{Shape}
 use Rattle.memory_layout.specs.Decode.{decode}
+use Rattle.memory_layout.specs.Bounds.{InBounds}
 use Rattle.memory_layout.specs.Stores.{CellsBecame}
 use Rattle.memory_layout.proofs.Meanings.{pieces-number, peer-count-is, priority-is}
 use Rattle.memory_layout.proofs.BoundsLaws.{words-kept-none}
 use Rattle.memory_layout.proofs.stores.ListFrames.{list-kept-none}
+use Rattle.memory_list.specs.Listings.{Ranges}
 use Rattle.memory_list.proofs.Moving.{PieceInRange, InRange, range-piece, ranges-held}
 use Rattle.change_steps.specs.Working.{Works, Stored}
+
+-- what is in range in the cells is so in the picker
+pub cells-range : (s : Shape) (records : List Record) (words cells : List ℕ) → InBounds s records words cells → Ranges (s .pieces) cells
+    → InRange (decode records words cells)
+cells-range s records words cells b r k h =
+    let m : k < s .pieces = rw (pieces-number s records words cells b) at h in
+    record {
+      peerCount = rw (peer-count-is s records words cells b k m) (r .peerCount k m);
+      priority = rw (priority-is s records words cells b k m) (r .priority k m);
+    }
 
 module _ (s : Shape) (records : List Record) (words cells : List ℕ) (w : Works s records words cells) where
   -- the pieces of the picker are in range
   pub works-range : InRange (decode records words cells)
-  works-range k h =
-      let m : k < s .pieces = rw (pieces-number s records words cells (w .bounds)) at h in
-      record {
-        peerCount = rw (peer-count-is s records words cells (w .bounds) k m) (w .ranges .peerCount k m);
-        priority = rw (priority-is s records words cells (w .bounds) k m) (w .ranges .priority k m);
-      }
+  works-range = cells-range s records words cells (w .bounds) (w .ranges)
 
   -- a piece that there is
   pub works-piece : (i : ℕ) → i < s .pieces → i < piecesIn (decode records words cells)

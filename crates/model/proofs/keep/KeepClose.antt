@@ -65,7 +65,7 @@ eraseDownloadPiece-body i s h b = record {
       | no n ↦ at-piece t k (at-partials s k (b .all k) es (findDlPiece-drop-other i k (s .partials) n)) i (withState Open) n
     ]
 
-eraseDownloadPiece-alone : (i : ℕ) (s : Picker) → Alone i s (eraseDownloadPiece i s)
+pub eraseDownloadPiece-alone : (i : ℕ) (s : Picker) → Alone i s (eraseDownloadPiece i s)
 unfolding eraseDownloadPiece dropPartial withPartials withPiece withPieces piecesIn
 eraseDownloadPiece-alone i s = record {
   listing = refl;
@@ -81,7 +81,7 @@ erase-keeps ds i w h v =
 
 -- ---- a piece on disk
 -- a had piece has no bucket
-flushed-rank : (n : ℕ) (p : Piece) → p .flushed ≡ true → rankOf (bucket n p) ≡ 0
+pub flushed-rank : (n : ℕ) (p : Piece) → p .flushed ≡ true → rankOf (bucket n p) ≡ 0
 unfolding bucket unlisted rankOf
 flushed-rank n p e = rw (e, or-true (eqb (p .priority) 0)) refl
 

@@ -1,5 +1,5 @@
 -- `lock_piece` meets its contract. Assumes nothing.
-use mathlib.Core.Path.{subst, _∙_, sym}
+use mathlib.Core.Path.{subst}
 use native.Mathlib.Omega.{arith}
 use borrow.Author.Needs.{needs}
 use Rattle.memory_rows.specs.Lookup.{FoundIn}
@@ -20,7 +20,8 @@ returns : tie.Need-returns
 returns c =
     let f = c .before .before in
     let a = f .before .before .args in
-    lock-nothing (a .live) (a .rows .now) (a .i) (subst (FoundIn (a .live) (a .rows .now) (a .i)) (c .enum-told .given .1) (f .find .ensures .1))
+    lock-nothing (a .live) (a .rows .now) (a .i)
+    (subst (FoundIn (a .live) (a .rows .now) (a .i)) (c .enum-told .given .1) (f .find .ensures .1))
 
 row-requires : tie.Need-row-requires
 row-requires c κs =

@@ -1,11 +1,10 @@
 -- `piece_passed` meets its contract. Assumes nothing.
-use mathlib.Core.Path.{sym, subst, ap, _∙_}
-use native.Mathlib.Omega.{arith}
+use mathlib.Core.Path.{subst}
 use borrow.Author.Needs.{needs}
 use Rattle.memory_layout.proofs.StandingLaws.{stands-shape}
 use Rattle.memory_records.specs.Rows.{recordsIn}
 use Rattle.memory_rows.specs.Lookup.{FoundIn}
-use Rattle.change_flags.proofs.RowEdits.{rows-few, rows-rising, has-partial}
+use Rattle.change_flags.proofs.RowEdits.{rows-few, rows-rising, row-there, has-partial}
 use Rattle.change_flags.proofs.PassLaws.{pass-nothing, pass-locked, pass-flagged, pass-flushed}
 use Rattle.change_flags.proofs.flags.piece_passed.Statement.{statement}
 use Rattle.change_flags.proofs.flags.piece_passed.Tie as tie
@@ -34,23 +33,25 @@ returns c =
 
 row-requires : tie.Need-row-requires
 row-requires c κs =
-    let f = c .before .before .before in
+    let k = c .before in
+    let f = k .before .before in
     let o = f .before .before .before .before .before in
     let a = o .args in
-    let x = subst (FoundIn (a .live) (a .rows .now) (a .i)) (c .before .k .given .1) (f .find .ensures .1) in
-    (omega (arith, x .row .0, rows-few (a .s) (a .live) (a .rows .now) (a .words .now) (a .cells .now) (o .pre .0)), o .pre .1 .0 .0)
+    let x = subst (FoundIn (a .live) (a .rows .now) (a .i)) (k .k .given .1) (f .find .ensures .1) in
+    (row-there (a .s) (a .live) (a .rows .now) (a .words .now) (a .cells .now) (o .pre .0) (a .i) _ x, o .pre .1 .0 .0)
 
 is-locked-requires : tie.Need-is-locked-requires
 is-locked-requires c κs = search needs
 
 returns-2 : tie.Need-returns-2
 returns-2 c =
-    let f = c .before .before .before .before .before .before in
+    let l = c .before in
+    let r = l .before in
+    let k = r .before .before in
+    let f = k .before .before in
     let o = f .before .before .before .before .before in
     let a = o .args in
-    let x = subst (FoundIn (a .live) (a .rows .now) (a .i)) (c .before .before .before .before .k .given .1) (f .find .ensures .1) in
-    let r = c .before .before in
-    let l = c .before in
+    let x = subst (FoundIn (a .live) (a .rows .now) (a .i)) (k .k .given .1) (f .find .ensures .1) in
     pass-locked (a .s) (a .live) (a .rows .now) (a .words .now) (a .cells .now) (o .pre .0) (a .i) _ x (r .row .result) (r .row .ensures)
     (l .is-locked .result) (l .is-locked .ensures) (c .if1 .taken)
 
@@ -63,21 +64,23 @@ blocks-in-piece-requires c κs =
 
 finished-requires : tie.Need-finished-requires
 finished-requires c κs =
-    let f = c .before .before .before .before .before .before .before .before in
+    let k = c .before .before .before .before .before .before in
+    let f = k .before .before in
     let o = f .before .before .before .before .before in
     let a = o .args in
-    let x = subst (FoundIn (a .live) (a .rows .now) (a .i)) (c .before .before .before .before .before .before .k .given .1) (f .find .ensures .1) in
-    (omega (arith, x .row .0, rows-few (a .s) (a .live) (a .rows .now) (a .words .now) (a .cells .now) (o .pre .0)), o .pre .1 .0 .1)
+    let x = subst (FoundIn (a .live) (a .rows .now) (a .i)) (k .k .given .1) (f .find .ensures .1) in
+    (row-there (a .s) (a .live) (a .rows .now) (a .words .now) (a .cells .now) (o .pre .0) (a .i) _ x, o .pre .1 .0 .1)
 
 u16-to-usize-requires : tie.Need-u16-to-usize-requires
 u16-to-usize-requires c κs = search needs
 
 piece-flushed-requires : tie.Need-piece-flushed-requires
 piece-flushed-requires c κs =
-    let f = c .before .before .before .before .before .before .before .before .before .before .before .before .before in
+    let k = c .before .before .before .before .before .before .before .before .before .before .before in
+    let f = k .before .before in
     let o = f .before .before .before .before .before in
     let a = o .args in
-    let x = subst (FoundIn (a .live) (a .rows .now) (a .i)) (c .before .before .before .before .before .before .before .before .before .before .before .k .given .1) (f .find .ensures .1) in (
+    let x = subst (FoundIn (a .live) (a .rows .now) (a .i)) (k .k .given .1) (f .find .ensures .1) in (
       record {
         records = recordsIn (a .live) (a .rows .now);
         has = has-partial (a .s) (a .live) (a .rows .now) (a .words .now) (a .cells .now) (o .pre .0) (a .i) _ x;
@@ -93,10 +96,6 @@ same-length-2 c = search needs
 
 returns-3 : tie.Need-returns-3
 returns-3 c =
-    let f = c .before .before .before .before .before .before .before .before .before .before .before .before .before .before .before .before .before .before in
-    let o = f .before .before .before .before .before in
-    let a = o .args in
-    let x = subst (FoundIn (a .live) (a .rows .now) (a .i)) (c .before .before .before .before .before .before .before .before .before .before .before .before .before .before .before .before .k .given .1) (f .find .ensures .1) in
     let u = c .before .before .before .before in
     let t = u .before .before .before in
     let y = t .before in
@@ -104,10 +103,15 @@ returns-3 c =
     let m = n .before in
     let l = m .before .before .before in
     let r = l .before in
+    let k = r .before .before in
+    let f = k .before .before in
+    let o = f .before .before .before .before .before in
+    let a = o .args in
+    let x = subst (FoundIn (a .live) (a .rows .now) (a .i)) (k .k .given .1) (f .find .ensures .1) in
     pass-flushed (a .s) (a .live) (a .rows .now) (a .words .now) (a .cells .now) (o .pre .0) (a .i) _ x (r .row .result) (r .row .ensures)
-    (l .is-locked .result) (l .is-locked .ensures) (m .before .before .if1 .left) (m .blocks-in-piece .result) (m .blocks-in-piece .ensures)
-    _ (o .pre .1 .1 .0) (n .finished .result) (n .finished .ensures) (y .u16-to-usize .result) (y .u16-to-usize .ensures)
-    (t .if2 .taken) _ _ (u .piece-flushed .ensures)
+    (l .is-locked .result) (l .is-locked .ensures) (m .before .before .if1 .left) (m .blocks-in-piece .result)
+    (m .blocks-in-piece .ensures) _ (o .pre .1 .1 .0) (n .finished .result) (n .finished .ensures) (y .u16-to-usize .result)
+    (y .u16-to-usize .ensures) (t .if2 .taken) _ _ (u .piece-flushed .ensures)
 
 with-flags-requires : tie.Need-with-flags-requires
 with-flags-requires c κs = search needs
@@ -117,19 +121,20 @@ same-length-3 c = search needs
 
 returns-4 : tie.Need-returns-4
 returns-4 c =
-    let f = c .before .before .before .before .before .before .before .before .before .before .before .before in
-    let o = f .before .before .before .before .before in
-    let a = o .args in
-    let x = subst (FoundIn (a .live) (a .rows .now) (a .i)) (c .before .before .before .before .before .before .before .before .before .before .k .given .1) (f .find .ensures .1) in
     let y = c .before .before in
     let n = y .before in
     let m = n .before in
     let l = m .before .before .before in
     let r = l .before in
+    let k = r .before .before in
+    let f = k .before .before in
+    let o = f .before .before .before .before .before in
+    let a = o .args in
+    let x = subst (FoundIn (a .live) (a .rows .now) (a .i)) (k .k .given .1) (f .find .ensures .1) in
     pass-flagged (a .s) (a .live) (a .rows .now) (a .words .now) (a .cells .now) (o .pre .0) (a .i) _ x (r .row .result) (r .row .ensures)
-    (l .is-locked .result) (l .is-locked .ensures) (m .before .before .if1 .left) (m .blocks-in-piece .result) (m .blocks-in-piece .ensures)
-    _ (o .pre .1 .1 .0) (n .finished .result) (n .finished .ensures) (y .u16-to-usize .result) (y .u16-to-usize .ensures)
-    (c .before .if2 .left) (c .with-flags .result) (c .with-flags .ensures)
+    (l .is-locked .result) (l .is-locked .ensures) (m .before .before .if1 .left) (m .blocks-in-piece .result)
+    (m .blocks-in-piece .ensures) _ (o .pre .1 .1 .0) (n .finished .result) (n .finished .ensures) (y .u16-to-usize .result)
+    (y .u16-to-usize .ensures) (c .before .if2 .left) (c .with-flags .result) (c .with-flags .ensures)
 
 pub piece-passed-spec : {M : Type 1} → statement M
 piece-passed-spec =
