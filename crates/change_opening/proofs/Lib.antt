@@ -1,0 +1,4 @@
+pub mod FreshTallies
+pub mod StepLaws
+pub mod AddLaws
+pub mod OpenLaws
