@@ -9,8 +9,9 @@ use Rattle.types.specs.declared.queue.DownloadQueue.{DownloadQueue}
 use Rattle.model.specs.Lists.{when}
 use Rattle.model.specs.State.{DownloadingPiece, sameQueue, isOpen, pieceAt, withPiece, withPieces, withState, withListing, withRecentExtents}
 use Rattle.model.specs.list.Order.{Draws, Drawing, drawing, noDraw}
-use Rattle.model.specs.change.Partials.{partialOf, newState, setState, moveState, updateStateOf, updatePieceState}
-use Rattle.model.specs.change.Changes.{recordDownloadingPiece}
+use Rattle.model.specs.change.Partials.{partialOf, newState, setState, moveState, updateStateOf, updatePieceState, addPartial}
+use Rattle.model.specs.change.Partials.{addDownloadPiece}
+use Rattle.model.specs.change.Changes.{recordDownloadingPiece, opened}
 use Rattle.model.proofs.base.Phases.{when-arms, unless-arms}
 use Rattle.model.proofs.list.ListingLaws.{moved-used}
 use Rattle.model.proofs.sound.SoundFields.{moved-blind}
@@ -52,3 +53,17 @@ record-same i affinity w =
       partials = record-blind (λ t. t .partials ≡ w .picker .partials) (λ es t e. e) i (w .picker) refl;
     })
     (λ e. still 0 w)
+
+-- opening a piece draws twice at most
+pub opened-draws : (draws : Draws) (i : ℕ) (q : DownloadQueue) (affinity : Bool) (w : Drawing)
+    → opened draws i q affinity w .used ≤ w .used + 2
+unfolding opened addDownloadPiece noDraw drawing
+opened-draws draws i q affinity w =
+    let v = setState draws i q w in
+    let u = when affinity (noDraw (recordDownloadingPiece i)) v in
+    omega (
+      arith,
+      state-same draws i q w .draws,
+      record-same i affinity v .draws,
+      update-same draws i (noDraw (addPartial i) u) .draws,
+    )

@@ -3,8 +3,11 @@
 // These are steps of a change: they rely on a picker on its way through one, without a partial of the piece and with room for it.
 mod adding;
 mod extents;
+mod marks;
 mod openings;
 
 pub use adding::Opening;
 pub use adding::add_download_piece;
+pub use marks::Marked;
+pub use marks::mark_opening;
 pub use openings::open_piece;
