@@ -1,13 +1,12 @@
 -- A partial added, then the piece's state made that of its blocks. Assumes nothing.
 use mathlib.Core.Path.{_≡_, refl, sym, ap, subst, _∙_}
-use mathlib.Core.Bool.{true}
-use mathlib.Core.Option.{none, some, Option·some-injective}
+use mathlib.Core.Option.{some, Option·some-injective}
 use mathlib.Core.List.{List}
-use Prim.Native.Nat.{ℕ, _+_, _-_, _*_, _≤_, _<_}
+use Prim.Native.Nat.{ℕ, _+_, _≤_}
 use native.Mathlib.Omega.{arith}
 use Rattle.model.specs.Lists.{len, nth}
 use Rattle.model.specs.pick.Pick.{noPartial}
-use Rattle.model.specs.State.{DownloadingPiece, Picker, blocksInPiece, payloadBlocksInPiece, withPartials}
+use Rattle.model.specs.State.{DownloadingPiece, Picker, payloadBlocksInPiece, withPartials}
 use Rattle.model.specs.list.Order.{Draws, Drawing, drawing, noDraw}
 use Rattle.model.specs.change.Partials.{findDlPiece, partialOf, freshPartial, addPartial, updatePieceState, addDownloadPiece}
 use Rattle.model.specs.image.Sound.{partialsFrom}
@@ -17,7 +16,7 @@ use Rattle.memory_records.specs.declared.edits.Edit.the-variants.{Insert}
 use Rattle.memory_records.specs.Records.{edited}
 use Rattle.memory_records.specs.Rows.{recordsIn}
 use Rattle.memory_layout.specs.declared.shape.Shape.{Shape}
-use Rattle.memory_layout.specs.Decode.{headWord, blocksOf, recordAt, decode}
+use Rattle.memory_layout.specs.Decode.{headWord, blocksOf, decode}
 use Rattle.memory_layout.specs.Changes.{partialIn}
 use Rattle.memory_layout.specs.Bounds.{InBounds}
 use Rattle.memory_layout.proofs.Meanings.{blocks-of-is, partials-number}
@@ -86,8 +85,8 @@ module _ (s : Shape) (step : Drawing → Drawing) (records : List Record) (words
   }
 
   -- the piece has still its partial
-  pub held-still : (i p : ℕ) (t : Tally) → Works s records words cells → Held s i p t records words cells
-      → Held s i p t records words′ cells′
+  pub held-still : (i p : ℕ) (t : Tally) → Works s records words cells → Held i p t records words cells
+      → Held i p t records words′ cells′
   unfolding partialIn
   held-still i p t k h = record {
     k = h .k;
@@ -117,13 +116,14 @@ module _ (s : Shape) (i live : ℕ) (rows words cells words′ cells′ : List �
         (became .is) (same-list i (decode records words cells)) (became .bounds) (became .plain (v .works .plain)) (o .list) (o .wordsKept)
         (o .cellsKept)
 
-    found : partialOf (decode (edited (headWord words 7) (Insert x) records) words′ cells′) i ≡ some (freshPartial (decode records words cells) i)
+    found : partialOf (decode (edited (headWord words 7) (Insert x) records) words′ cells′) i
+        ≡ some (freshPartial (decode records words cells) i)
     found = ap (λ (z : Picker). partialOf z i) (became .is) ∙ partialOf-add-same (decode records words cells) i (v .vacant)
 
     fresh : IsTally t (freshPartial (decode records words cells) i)
     fresh = f .is (decode records words cells) i (em ∙ blocks-of-is records words cells i) (says .is records cells (v .works .bounds))
 
-    put-held : Held s i (x .«info_idx») t (edited (headWord words 7) (Insert x) records) words′ cells′
+    put-held : Held i (x .«info_idx») t (edited (headWord words 7) (Insert x) records) words′ cells′
     put-held =
         let d′ : Picker = decode (edited (headWord words 7) (Insert x) records) words′ cells′ in
         let up = opened-rising s i records words cells words′ cells′ (v .rising) x became (v .vacant) in
@@ -135,8 +135,8 @@ module _ (s : Shape) (i live : ℕ) (rows words cells words′ cells′ : List �
           low = st .1 .low;
           index = st .1 .index;
           place = st .1 .place ∙ sym (o .place);
-          tally = subst (IsTally t) (Option·some-injective (freshPartial (decode records words cells) i) (partialIn d′ (st .0)) (sym found ∙ here))
-              fresh;
+          tally = subst (IsTally t)
+              (Option·some-injective (freshPartial (decode records words cells) i) (partialIn d′ (st .0)) (sym found ∙ here)) fresh;
         }
 
   pub add-beside : VacantBeside s i live rows words cells → WorksBeside s words′ cells′
@@ -155,7 +155,8 @@ module _ (s : Shape) (i live : ℕ) (rows words cells words′ cells′ : List �
           u .went (edited (headWord words 7) (Insert x) records) (put-went records v used .works)
           (freshPartial (decode records words cells) i) (found records v) (fresh records v)
 
-      all-went : Went s (addDownloadPiece draws i) records words cells used (edited (headWord words 7) (Insert x) records) words″ cells″ next
+      all-went : Went s (addDownloadPiece draws i) records words cells used (edited (headWord words 7) (Insert x) records) words″
+          cells″ next
       unfolding addDownloadPiece
       all-went =
           went-named s records words cells used (edited (headWord words 7) (Insert x) records) words″ cells″ next
@@ -163,11 +164,11 @@ module _ (s : Shape) (i live : ℕ) (rows words cells words′ cells′ : List �
           (went-then s records words cells used (edited (headWord words 7) (Insert x) records) words′ cells′ used (noDraw (addPartial i))
           (updatePieceState draws i) (put-went records v used) (edited (headWord words 7) (Insert x) records) words″ cells″ next updated)
 
-      all-held : Held s i (x .«info_idx») t (edited (headWord words 7) (Insert x) records) words″ cells″
+      all-held : Held i (x .«info_idx») t (edited (headWord words 7) (Insert x) records) words″ cells″
       all-held =
           held-still s (updatePieceState draws i) (edited (headWord words 7) (Insert x) records) words′ cells′ used words″ cells″ next 1
-          updated (update-same draws i (drawing used (decode (edited (headWord words 7) (Insert x) records) words′ cells′))) i (x .«info_idx») t
-          (put-went records v used .works) (put-held records v)
+          updated (update-same draws i (drawing used (decode (edited (headWord words 7) (Insert x) records) words′ cells′))) i
+          (x .«info_idx») t (put-went records v used .works) (put-held records v)
 
     pub add-done : Added s (addDownloadPiece draws i) i live rows words cells used words″ cells″ r
     add-done = record {

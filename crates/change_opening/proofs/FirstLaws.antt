@@ -8,9 +8,9 @@ use Prim.Native.Nat.{ℕ, _≤_, _<_}
 use native.Mathlib.Omega.{arith}
 use lib.Dec.{eqb, ltb}
 use borrow.Author.Tests.{eq-eqb, ne-eqb}
-use Rattle.types.specs.declared.block.BlockState.the-variants.{Requested, Finished}
+use Rattle.types.specs.declared.block.BlockState.the-variants.{Requested}
 use Rattle.types.specs.Block.{blockStateNumber}
-use Rattle.model.specs.Lists.{bit, count, len}
+use Rattle.model.specs.Lists.{bit, len}
 use Rattle.model.specs.State.{Block, DownloadingPiece, sameBlockState}
 use Rattle.model.specs.list.Order.{Draws, Drawing, drawing}
 use Rattle.model.specs.change.Partials.{partialOf, blockAt, blocksInState, progress}
@@ -18,7 +18,7 @@ use Rattle.model.specs.change.Changes.{Change, saying, setBlock, markFirst}
 use Rattle.model.proofs.base.Counts.{count-le}
 use Rattle.memory_records.specs.declared.record.DownloadingPiece.{DownloadingPiece as Record}
 use Rattle.memory_layout.specs.declared.shape.Shape.{Shape}
-use Rattle.memory_layout.specs.Decode.{recordAt, blocksOf, decode}
+use Rattle.memory_layout.specs.Decode.{blocksOf, decode}
 use Rattle.memory_layout.specs.Changes.{partialIn}
 use Rattle.memory_layout.proofs.Numbers.{state-number}
 use Rattle.memory_layout.proofs.Meanings.{blocks-number}
@@ -26,11 +26,10 @@ use Rattle.memory_layout.proofs.BoundsLaws.{blocks-within}
 use Rattle.memory_blocks.specs.declared.info.BlockInfo.{BlockInfo}
 use Rattle.memory_blocks.specs.Blocks.{blockOf, BlockIs, BlockRead}
 use Rattle.memory_partials.proofs.MarkLaws.{standing-found}
-use Rattle.change_steps.specs.Working.{Works, Went}
+use Rattle.change_steps.specs.Working.{Works}
 use Rattle.change_steps.proofs.WorkLaws.{went-nowhere, went-named}
 use Rattle.change_state.specs.declared.states.Tally.{Tally}
-use Rattle.change_state.specs.Numbers.{IsTally}
-use Rattle.change_blocks.specs.Replacing.{withBlockAt, Retallied, PartialAt, PartialBeside, BlockSet}
+use Rattle.change_blocks.specs.Replacing.{Retallied, PartialAt, PartialBeside, BlockSet}
 use Rattle.change_blocks.proofs.TallyLaws.{busy-counts, requested-counts}
 use Rattle.change_opening.specs.declared.adding.Opening.{Opening}
 use Rattle.change_opening.specs.declared.marks.Marked.{Marked}
@@ -56,8 +55,9 @@ unfolding progress
 busy-most d = omega arith
 
 -- ---- the block at the partial's place
-module _ (s : Shape) (i : ℕ) (o : Opening) (j p : ℕ) (ep : p ≡ o .partial .«info_idx») (words cells : List ℕ) (block : j < blocksOf words i) where
-  module _ (records : List Record) (w : Works s records words cells) (h : Held s i (o .partial .«info_idx») (o .tally) records words cells)
+module _ (s : Shape) (i : ℕ) (o : Opening) (j p : ℕ) (ep : p ≡ o .partial .«info_idx») (words cells : List ℕ)
+    (block : j < blocksOf words i) where
+  module _ (records : List Record) (w : Works s records words cells) (h : Held i (o .partial .«info_idx») (o .tally) records words cells)
     where
       held-at : PartialAt s records words cells i p j (h .k)
       held-at = record {
@@ -124,13 +124,14 @@ module _ (s : Shape) (i : ℕ) (o : Opening) (j p : ℕ) (ep : p ≡ o .partial 
       }
         where
           is : (records : List Record) (w : Works s records words cells)
-              (h : Held s i (o .partial .«info_idx») (o .tally) records words cells)
+              (h : Held i (o .partial .«info_idx») (o .tally) records words cells)
               → markFirst draws i (partialOf (decode records words cells) i) j (blockOf x) (drawing (o .used) (decode records words cells))
               ≡ saying false (drawing (o .used) (decode records words cells))
           is records w h =
               let v = drawing (o .used) (decode records words cells) in
               ap (λ (f : Option DownloadingPiece). markFirst draws i f j (blockOf x) v) (held-found records w h)
-              ∙ first-pad draws i (partialIn (decode records words cells) (h .k)) j (blockOf x) v (sym (block-is records w h y b .state) ∙ e)
+              ∙ first-pad draws i (partialIn (decode records words cells) (h .k)) j (blockOf x) v
+              (sym (block-is records w h y b .state) ∙ e)
 
       -- it is replaced
       pub first-set : y .state ≢ 3 → x .state ≤ 3 → (t : Tally) → Retallied (o .tally) (y .state) (x .state) t
@@ -151,7 +152,7 @@ module _ (s : Shape) (i : ℕ) (o : Opening) (j p : ℕ) (ep : p ≡ o .partial 
       }
         where
           is : (records : List Record) (w : Works s records words cells)
-              (h : Held s i (o .partial .«info_idx») (o .tally) records words cells)
+              (h : Held i (o .partial .«info_idx») (o .tally) records words cells)
               → markFirst draws i (partialOf (decode records words cells) i) j (blockOf x) (drawing (o .used) (decode records words cells))
               ≡ saying true (setBlock draws i (partialIn (decode records words cells) (h .k)) j (blockOf x) (drawing (o .used)
               (decode records words cells)))

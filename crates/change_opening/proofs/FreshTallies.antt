@@ -7,8 +7,10 @@ use lib.Dec.{ltb}
 use borrow.Author.Tests.{ltb-true, ltb-false}
 use Rattle.types.specs.declared.block.BlockState.the-variants.{None, Requested, Finished}
 use Rattle.model.specs.Lists.{bit, count, each, from, len}
-use Rattle.model.specs.State.{Picker, sameBlockState, blocksInPiece, payloadBlocksInPiece}
+use Rattle.model.specs.State.{sameBlockState, blocksInPiece, payloadBlocksInPiece}
 use Rattle.model.specs.change.Partials.{freshBlock, freshPartial, blocksInState, progress}
+use Rattle.model.proofs.base.Counts.{length-from}
+use Rattle.model.proofs.sound.PieceLaws.{size-each}
 use Rattle.change_state.specs.declared.states.Tally.{Tally}
 use Rattle.change_opening.specs.Adding.{FreshTallied}
 
@@ -29,11 +31,10 @@ fresh-requested payload j = go (ltb j payload)
     go true = refl
     go false = refl
 
--- so many from k on
-many-fresh : (payload k n : ℕ) → len (each (freshBlock payload) (from k n)) ≡ n
-unfolding each from len
-many-fresh payload k zero = refl
-many-fresh payload k (suc n) = ap suc (many-fresh payload (suc k) n)
+-- as many as the piece has
+many-fresh : (payload n : ℕ) → len (each (freshBlock payload) (from 0 n)) ≡ n
+unfolding len
+many-fresh payload n = size-each (freshBlock payload) (from 0 n) ∙ length-from 0 n
 
 -- as many as are below the payload are free
 free-fresh : (payload k n : ℕ) → payload ≤ k + n
@@ -63,8 +64,8 @@ fresh-tallied many payload t h eb ey er eh = record {
       let l = payloadBlocksInPiece d i in
       let n = blocksInPiece d i in
       record {
-        blocks = eb ∙ em ∙ sym (many-fresh l 0 n);
-        busy = omega (arith, ey, em, ep, h, many-fresh l 0 n, free-fresh l 0 n (omega (arith, h, em, ep)));
+        blocks = eb ∙ em ∙ sym (many-fresh l n);
+        busy = omega (arith, ey, em, ep, h, many-fresh l n, free-fresh l 0 n (omega (arith, h, em, ep)));
         requested = er ∙ sym (requested-fresh l 0 n);
         hashing = eh;
       };

@@ -1,7 +1,6 @@
 -- A piece opened, then its first block marked. Assumes nothing.
-use mathlib.Core.Path.{_≡_, refl, sym, ap, subst, _∙_}
+use mathlib.Core.Path.{refl, sym, ap, _∙_}
 use mathlib.Core.Bool.{Bool}
-use mathlib.Core.Option.{some}
 use mathlib.Core.List.{List}
 use Prim.Native.Nat.{ℕ, _+_, _≤_, _<_}
 use native.Mathlib.Omega.{arith}
@@ -9,7 +8,6 @@ use Rattle.types.specs.declared.queue.DownloadQueue.{DownloadQueue}
 use Rattle.model.specs.list.Order.{Draws, Drawing, drawing}
 use Rattle.model.specs.change.Partials.{partialOf}
 use Rattle.model.specs.change.Changes.{opened, markFirst, markOpening}
-use Rattle.memory_records.specs.declared.record.DownloadingPiece.{DownloadingPiece as Record}
 use Rattle.memory_records.specs.declared.edits.Edit.the-variants.{Insert}
 use Rattle.memory_records.specs.Records.{edited}
 use Rattle.memory_layout.specs.declared.shape.Shape.{Shape}
@@ -17,11 +15,10 @@ use Rattle.memory_layout.specs.Decode.{blocksOf, decode}
 use Rattle.memory_layout.proofs.Parts.{blocks-of-same}
 use Rattle.memory_blocks.specs.declared.info.BlockInfo.{BlockInfo}
 use Rattle.memory_blocks.specs.Blocks.{blockOf}
-use Rattle.change_steps.specs.Working.{Went}
 use Rattle.change_steps.proofs.WorkLaws.{went-then, went-named}
 use Rattle.change_opening.specs.declared.adding.Opening.{Opening}
 use Rattle.change_opening.specs.declared.marks.Marked.{Marked}
-use Rattle.change_opening.specs.Adding.{Vacant, VacantBeside, Added}
+use Rattle.change_opening.specs.Adding.{VacantBeside, Added}
 use Rattle.change_opening.specs.Marking.{HeldBeside, FirstMarked, OpeningMarked}
 use Rattle.change_opening.proofs.StepLaws.{opened-draws}
 

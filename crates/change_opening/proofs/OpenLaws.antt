@@ -6,7 +6,7 @@ use Prim.Native.Nat.{ℕ, _+_, _≤_}
 use Rattle.types.specs.declared.queue.DownloadQueue.{DownloadQueue}
 use Rattle.model.specs.Lists.{when}
 use Rattle.model.specs.State.{Picker, withRecentExtents}
-use Rattle.model.specs.list.Order.{Draws, Drawing, drawing, noDraw}
+use Rattle.model.specs.list.Order.{Draws, drawing, noDraw}
 use Rattle.model.specs.change.Partials.{setState, addDownloadPiece}
 use Rattle.model.specs.change.Changes.{recordDownloadingPiece, opened}
 use Rattle.model.proofs.base.Bep3Laws.{blocksPerPiece-pos}
@@ -23,7 +23,7 @@ use Rattle.change_steps.specs.Working.{WorksBeside, Went, Goes}
 use Rattle.change_steps.proofs.WorkLaws.{went-nowhere, went-then, went-named}
 use Rattle.change_steps.proofs.BesideLaws.{SameList, beside-went}
 use Rattle.change_opening.specs.declared.adding.Opening.{Opening}
-use Rattle.change_opening.specs.Adding.{Vacant, VacantBeside, Held, Added, Undrawn}
+use Rattle.change_opening.specs.Adding.{Vacant, VacantBeside, Added, Undrawn}
 use Rattle.change_opening.proofs.StepLaws.{state-same, record-same}
 use Rattle.change_opening.proofs.AddLaws.{step-draws, vacant-still}
 
@@ -108,8 +108,8 @@ module _ (s : Shape) (draws : Draws) (i : ℕ) (q : DownloadQueue) (affinity : B
           went-named s records words cells used (edited live (Insert (r .partial)) records) words₃ cells₃ (r .used)
           (λ w. addDownloadPiece draws i (f (setState draws i q w))) (opened draws i q affinity) refl
           (went-then s records words cells used records words₂ cells₁ next (λ w. f (setState draws i q w)) (addDownloadPiece draws i)
-          (went-then s records words cells used records words₁ cells₁ next (setState draws i q) f (g .went records (v .works)) records words₂
-          cells₁ next (extent-went records v)) (edited live (Insert (r .partial)) records) words₃ cells₃ (r .used)
+          (went-then s records words cells used records words₁ cells₁ next (setState draws i q) f (g .went records (v .works)) records
+          words₂ cells₁ next (extent-went records v)) (edited live (Insert (r .partial)) records) words₃ cells₃ (r .used)
           (a .went records (extent-vacant records v)));
       held = λ records v. a .held records (extent-vacant records v);
     }

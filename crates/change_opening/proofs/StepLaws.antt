@@ -2,12 +2,12 @@
 use mathlib.Core.Path.{_≡_, refl}
 use mathlib.Core.Bool.{Bool, _||_}
 use mathlib.Core.Option.{Option, none, some}
-use mathlib.Core.List.{List}
 use Prim.Native.Nat.{ℕ, _+_, _≤_}
 use native.Mathlib.Omega.{arith}
 use Rattle.types.specs.declared.queue.DownloadQueue.{DownloadQueue}
 use Rattle.model.specs.Lists.{when}
-use Rattle.model.specs.State.{DownloadingPiece, sameQueue, isOpen, pieceAt, withPiece, withPieces, withState, withListing, withRecentExtents}
+use Rattle.model.specs.State.{DownloadingPiece, sameQueue, isOpen, pieceAt, withPiece, withPieces, withState, withListing}
+use Rattle.model.specs.State.{withRecentExtents}
 use Rattle.model.specs.list.Order.{Draws, Drawing, drawing, noDraw}
 use Rattle.model.specs.change.Partials.{partialOf, newState, setState, moveState, updateStateOf, updatePieceState, addPartial}
 use Rattle.model.specs.change.Partials.{addDownloadPiece}

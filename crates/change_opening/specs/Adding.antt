@@ -42,7 +42,7 @@ pub record VacantBeside (s : Shape) (i live : ℕ) (rows words cells : List ℕ)
 
 -- ---- after
 -- record k is live, of piece i at place p, its partial has these numbers, and the partials rise by piece
-pub record Held (s : Shape) (i p : ℕ) (t : Tally) (records : List Record) (words cells : List ℕ) : Type 0 where
+pub record Held (i p : ℕ) (t : Tally) (records : List Record) (words cells : List ℕ) : Type 0 where
   pub k : ℕ
   pub rising : partialsFrom 0 (decode records words cells .partials) ≡ true
   pub low : k < headWord words 7
@@ -56,7 +56,7 @@ pub record Added (s : Shape) (step : Drawing → Drawing) (i live : ℕ) (rows w
   pub went : (records : List Record) → Vacant s i live rows records words cells
       → Went s step records words cells used (edited live (Insert (r .partial)) records) words′ cells′ (r .used)
   pub held : (records : List Record) → Vacant s i live rows records words cells
-      → Held s i (r .partial .«info_idx») (r .tally) (edited live (Insert (r .partial)) records) words′ cells′
+      → Held i (r .partial .«info_idx») (r .tally) (edited live (Insert (r .partial)) records) words′ cells′
 
 -- a step that draws nothing, with whichever records stand beside, which stay
 pub record Undrawn (s : Shape) (step : Drawing → Drawing) (words cells words′ cells′ : List ℕ) : Type 0 where

@@ -5,7 +5,7 @@ use mathlib.Core.Bool.{Bool}
 use mathlib.Core.Option.{some}
 use mathlib.Core.List.{List}
 use Rattle.types.specs.declared.queue.DownloadQueue.{DownloadQueue}
-use Rattle.model.specs.list.Order.{Draws, Drawing, drawing}
+use Rattle.model.specs.list.Order.{Draws, drawing}
 use Rattle.model.specs.change.Partials.{partialOf}
 use Rattle.model.specs.change.Changes.{markFirst, markOpening}
 use Rattle.memory_records.specs.declared.record.DownloadingPiece.{DownloadingPiece as Record}
@@ -25,17 +25,17 @@ use Rattle.change_opening.specs.Adding.{Vacant, Held}
 pub record HeldBeside (s : Shape) (i p : ℕ) (t : Tally) (j : ℕ) (words cells : List ℕ) : Type 0 where
   pub records : List Record
   pub works : Works s records words cells
-  pub held : Held s i p t records words cells
+  pub held : Held i p t records words cells
   pub block : j < blocksOf words i
 
 -- the definition's `markFirst` in the partial of piece i, with whichever records stand beside, which stay
 pub record FirstMarked (s : Shape) (draws : Draws) (i : ℕ) (o : Opening) (j : ℕ) (x : BlockInfo) (words cells words′ cells′ : List ℕ)
     (r : Marked) : Type 0 where
   pub partial : r .partial ≡ o .partial
-  pub answer : (records : List Record) → Works s records words cells → Held s i (o .partial .«info_idx») (o .tally) records words cells
+  pub answer : (records : List Record) → Works s records words cells → Held i (o .partial .«info_idx») (o .tally) records words cells
       → markFirst draws i (partialOf (decode records words cells) i) j (blockOf x) (drawing (o .used) (decode records words cells)) .answer
       ≡ some (r .answer)
-  pub went : (records : List Record) → Works s records words cells → Held s i (o .partial .«info_idx») (o .tally) records words cells
+  pub went : (records : List Record) → Works s records words cells → Held i (o .partial .«info_idx») (o .tally) records words cells
       → Went s (λ w. markFirst draws i (partialOf (w .picker) i) j (blockOf x) w .after) records words cells (o .used) records words′ cells′
       (r .used)
 

@@ -22,8 +22,8 @@ fresh-tally-requires : tie.Need-fresh-tally-requires
 fresh-tally-requires c κs =
     let o = c .before .before .before .before .before .before .before .before in
     let a = o .args in
-    fresh-fits (a .s) (a .i) (a .live) (a .rows .now) (a .words .now) (a .cells .now) (o .pre .0) _ _ (c .before .before .blocks-in-piece .ensures)
-    (c .payload-blocks .ensures)
+    fresh-fits (a .s) (a .i) (a .live) (a .rows .now) (a .words .now) (a .cells .now) (o .pre .0) _ _
+    (c .before .before .blocks-in-piece .ensures) (c .payload-blocks .ensures)
 
 add-partial-requires : tie.Need-add-partial-requires
 add-partial-requires c κs =
@@ -40,8 +40,9 @@ update-piece-state-requires c κs =
     let t = u .before .before .before in
     let o = t .before .before .before .before .before .before .before .before .before in
     let a = o .args in (
-      add-beside (a .s) (a .i) (a .live) (a .rows .now) (a .words .now) (a .cells .now) _ _ (u .add-partial .result) (u .add-partial .ensures)
-          _ _ (t .before .before .before .blocks-in-piece .ensures) (t .before .payload-blocks .ensures) _ (t .fresh-tally .ensures) (o .pre .0),
+      add-beside (a .s) (a .i) (a .live) (a .rows .now) (a .words .now) (a .cells .now) _ _ (u .add-partial .result)
+          (u .add-partial .ensures) _ _ (t .before .before .before .blocks-in-piece .ensures) (t .before .payload-blocks .ensures) _
+          (t .fresh-tally .ensures) (o .pre .0),
       o .pre .1 .1,
     )
 
@@ -57,9 +58,9 @@ returns c =
     let u = v .before .before .before .before .before .before .before in
     let t = u .before .before .before in
     let a = t .before .before .before .before .before .before .before .before .before .args in
-    add-done (a .s) (a .i) (a .live) (a .rows .now) (a .words .now) (a .cells .now) _ _ (u .add-partial .result) (u .add-partial .ensures) _ _
-    (t .before .before .before .blocks-in-piece .ensures) (t .before .payload-blocks .ensures) _ (t .fresh-tally .ensures) _ (a .used) _ _ (v .update-piece-state .result)
-    (v .update-piece-state .ensures) _ refl refl refl
+    add-done (a .s) (a .i) (a .live) (a .rows .now) (a .words .now) (a .cells .now) _ _ (u .add-partial .result)
+    (u .add-partial .ensures) _ _ (t .before .before .before .blocks-in-piece .ensures) (t .before .payload-blocks .ensures) _
+    (t .fresh-tally .ensures) _ (a .used) _ _ (v .update-piece-state .result) (v .update-piece-state .ensures) _ refl refl refl
 
 pub add-download-piece-spec : {M : Type 1} → statement M
 add-download-piece-spec =

@@ -24,7 +24,8 @@ returns-2 c =
     let u = c .before .before in
     let o = u .before .before .before .before .before in
     let a = o .args in
-    extent-asked (a .s) (a .i) (a .words .now) (a .cells .now) (a .affinity) (not-false _ (u .before .before .if1 .left)) _ (u .record-downloading-piece .ensures)
+    extent-asked (a .s) (a .i) (a .words .now) (a .cells .now) (a .affinity) (not-false _ (u .before .before .if1 .left)) _
+    (u .record-downloading-piece .ensures)
 
 pub record-if-asked-spec : {M : Type 1} → statement M
 record-if-asked-spec =

@@ -16,7 +16,8 @@ get-block-requires c κs =
     let a = o .args in (
       o .pre .0 .works .bounds .spans,
       put-places (a .s) (a .i) _ (a .j) (a .words .now) (a .cells .now)
-          (first-beside (a .s) (a .i) (a .o) (a .j) _ (n .u32-to-usize .ensures) (a .words .now) (a .cells .now) (o .pre .0 .block) (o .pre .0)),
+          (first-beside (a .s) (a .i) (a .o) (a .j) _ (n .u32-to-usize .ensures) (a .words .now) (a .cells .now) (o .pre .0 .block)
+          (o .pre .0)),
     )
 
 same-length : tie.Need-same-length
@@ -47,8 +48,11 @@ set-block-requires : tie.Need-set-block-requires
 set-block-requires c κs =
     let n = c .before .before .before .before .before .before .before .before in
     let o = n .before .before .before .before .before .before in
-    let a = o .args in
-    (first-beside (a .s) (a .i) (a .o) (a .j) _ (n .u32-to-usize .ensures) (a .words .now) (a .cells .now) (o .pre .0 .block) (o .pre .0), o .pre .1)
+    let a = o .args in (
+      first-beside (a .s) (a .i) (a .o) (a .j) _ (n .u32-to-usize .ensures) (a .words .now) (a .cells .now) (o .pre .0 .block)
+          (o .pre .0),
+      o .pre .1,
+    )
 
 same-length-3 : tie.Need-same-length-3
 same-length-3 c = search needs

@@ -45,8 +45,9 @@ returns c =
     let e = v .before .before .before .before .before in
     let g = e .before .before .before .before .before .before .before in
     let a = g .before .before .before .before .before .before .before .args in
-    open-done (a .s) _ (a .i) (a .q) (a .affinity) (a .live) (a .rows .now) (a .words .now) (a .cells .now) (a .used) _ _ (g .set-state .result)
-    (g .set-state .ensures) _ (e .record-if-asked .ensures) _ _ (v .add-download-piece .result) (v .add-download-piece .ensures)
+    open-done (a .s) _ (a .i) (a .q) (a .affinity) (a .live) (a .rows .now) (a .words .now) (a .cells .now) (a .used) _ _
+    (g .set-state .result) (g .set-state .ensures) _ (e .record-if-asked .ensures) _ _ (v .add-download-piece .result)
+    (v .add-download-piece .ensures)
 
 pub open-piece-spec : {M : Type 1} → statement M
 open-piece-spec =
