@@ -32,7 +32,7 @@ use Rattle.change_state.specs.Numbers.{IsTally}
 use Rattle.change_blocks.specs.Replacing.{Retallied, PartialAt, PartialBeside as BlocksBeside, BlockSet}
 use Rattle.change_blocks.proofs.TallyLaws.{count-most, busy-counts, requested-counts}
 use Rattle.change_flags.specs.Closing.{HasPartial, PartialBeside, ErasedAndUpdated}
-use Rattle.change_returns.specs.Giving.{BlockAt, BlockBeside, BlockFreed}
+use Rattle.change_returns.specs.Giving.{BlockAt, BlockBeside, closing, BlockFreed}
 
 -- state 0 is that of a free block
 state-free : (x : BlockInfo) → x .state ≡ 0 → 0 ≡ blockStateNumber (blockOf x .state)
@@ -99,6 +99,7 @@ module _ (s : Shape) (words cells : List ℕ) (i p j old : ℕ) (t : Tally) wher
         → BlockFreed s draws i p j old x t words cells used words′ cells′ (Remove n) next
     unfolding freeBlock
     freed-closed n e o g = record {
+      edits = ap Remove e ∙ ap (closing i) o;
       went = λ records k b.
           let d = decode records words cells in
           subst (λ (m : ℕ). Went s (freeBlock draws i (partialIn d k) j (blockOf x)) records words cells used
@@ -113,6 +114,7 @@ module _ (s : Shape) (words cells : List ℕ) (i p j old : ℕ) (t : Tally) wher
         → BlockFreed s draws i p j old x t words cells used words′ cells′ Keep next
     unfolding freeBlock
     freed-kept after r z o g = record {
+      edits = ap (closing i) o;
       went = λ records k b.
           let d = decode records words cells in
           went-named s records words cells used records words′ cells′ next (setBlock draws i (partialIn d k) j (blockOf x))

@@ -1,13 +1,16 @@
 -- A block of a standing partial made free. Assumes nothing.
 use Prim.Native.Nat.{ℕ}
 use mathlib.Core.Path.{_≡_}
+use mathlib.Core.Bool.{Bool, cond, not, _&&_}
 use mathlib.Core.List.{List}
+use lib.Dec.{eqb}
 use Rattle.types.specs.Block.{blockStateNumber}
 use Rattle.model.specs.list.Order.{Draws}
 use Rattle.model.specs.change.Partials.{blockAt}
 use Rattle.model.specs.change.Changes.{freeBlock}
 use Rattle.memory_records.specs.declared.record.DownloadingPiece.{DownloadingPiece as Record}
 use Rattle.memory_records.specs.declared.edits.Edit.{Edit}
+use Rattle.memory_records.specs.declared.edits.Edit.the-variants.{Keep, Remove}
 use Rattle.memory_records.specs.Records.{edited}
 use Rattle.memory_layout.specs.declared.shape.Shape.{Shape}
 use Rattle.memory_layout.specs.Decode.{headWord, decode}
@@ -31,9 +34,14 @@ pub record BlockBeside (s : Shape) (words cells : List ℕ) (i p j old : ℕ) (t
   pub k : ℕ
   pub there : BlockAt s records words cells i p j old t k
 
+-- the edit of the records by whether piece i's partial is closed
+abbrev pub closing : (i : ℕ) (closed : Bool) → Edit
+closing i closed = cond closed (Remove i) Keep
+
 -- the definition's `freeBlock`, with whichever records stand beside, once their one edit is made
 pub record BlockFreed (s : Shape) (draws : Draws) (i p j old : ℕ) (x : BlockInfo) (t : Tally) (words cells : List ℕ) (used : ℕ)
     (words′ cells′ : List ℕ) (edit : Edit) (next : ℕ) : Type 0 where
+  pub edits : edit ≡ closing i (eqb (t .busy) 1 && not (t .hashing))
   pub went : (records : List Record) (k : ℕ) → BlockAt s records words cells i p j old t k
       → Went s (freeBlock draws i (partialIn (decode records words cells) k) j (blockOf x)) records words cells used
       (edited (headWord words 7) edit records) words′ cells′ next

@@ -1,0 +1,3 @@
+pub mod PeerLaws
+pub mod GivingLaws
+pub mod WholeLaws

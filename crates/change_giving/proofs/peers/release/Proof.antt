@@ -1,0 +1,22 @@
+-- `release` meets its contract. Assumes nothing.
+use mathlib.Core.Path.{refl}
+use native.Mathlib.Omega.{arith}
+use borrow.Author.Needs.{needs}
+use Rattle.change_giving.proofs.PeerLaws.{release-is}
+use Rattle.change_giving.proofs.peers.release.Statement.{statement}
+use Rattle.change_giving.proofs.peers.release.Tie as tie
+
+same-peer-requires : tie.Need-same-peer-requires
+same-peer-requires c κs = search needs
+
+sub-t5 : tie.Need-sub-t5
+sub-t5 c = omega (arith, c .before .before .pre)
+
+returns : tie.Need-returns
+returns c =
+    let l = c .before .before in
+    let a = c .before .before .before .args in
+    (refl, release-is (a .b) (a .has-peer) (a .peer) (l .same-peer .result) (l .same-peer .ensures))
+
+pub release-spec : {M : Type 1} → statement M
+release-spec = tie.close (tie.spec same-peer-requires sub-t5 returns)

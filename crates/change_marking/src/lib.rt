@@ -1,0 +1,7 @@
+// Marks of a block whose piece has a partial: requested once more, received, on disk. Steps of a change: the whole marks find the partial
+// and its numbers, or open one.
+mod answers;
+mod requests;
+
+pub use answers::Marked;
+pub use requests::request_block;
