@@ -3,7 +3,7 @@ use mathlib.Core.Path.{_≡_, refl, sym, ap, _∙_, subst}
 use mathlib.Core.Logic.{_≢_}
 use mathlib.Core.Bool.{Bool, true, false, not, _&&_, true≢false}
 use mathlib.Core.List.{List}
-use mathlib.Core.Option.{Option, none, some}
+use mathlib.Core.Option.{Option, some}
 use Prim.Native.Nat.{ℕ, _≤_, _<_}
 use native.Mathlib.Omega.{arith}
 use lib.Dec.{eqb, ltb}
@@ -14,7 +14,7 @@ use Rattle.types.specs.Block.{blockStateNumber}
 use Rattle.model.specs.Lists.{nth}
 use Rattle.model.specs.State.{Block, DownloadingPiece, sameBlockState, withPeer}
 use Rattle.model.specs.list.Order.{Draws, Drawing, drawing, noDraw}
-use Rattle.model.specs.change.Partials.{blockAt, progress, replaceBlock, eraseAndUpdate}
+use Rattle.model.specs.change.Partials.{blockAt, replaceBlock}
 use Rattle.model.specs.change.Changes.{freed, canceled, released, freeBlock, abortIn, cancelIn}
 use Rattle.memory_records.specs.declared.record.DownloadingPiece.{DownloadingPiece as Record}
 use Rattle.memory_records.specs.declared.edits.Edit.{Edit}
@@ -22,13 +22,13 @@ use Rattle.memory_records.specs.declared.edits.Edit.the-variants.{Keep}
 use Rattle.memory_records.specs.Records.{edited}
 use Rattle.memory_layout.specs.declared.shape.Shape.{Shape}
 use Rattle.memory_layout.specs.Decode.{headWord, blocksOf, decode, stateFrom}
+use Rattle.memory_layout.specs.Bounds.{Spans}
 use Rattle.memory_layout.specs.Changes.{partialIn}
 use Rattle.memory_blocks.specs.declared.info.BlockInfo.{BlockInfo}
 use Rattle.memory_blocks.specs.Blocks.{blockOf, BlockIs, BlockRead, BlockStored}
 use Rattle.change_steps.proofs.WorkLaws.{went-nowhere, went-named}
 use Rattle.change_state.specs.declared.states.Tally.{Tally}
-use Rattle.change_blocks.specs.Replacing.{PartialBeside}
-use Rattle.change_blocks.proofs.SetLaws.{put-went}
+use Rattle.change_blocks.proofs.SetLaws.{put-places, put-went}
 use Rattle.change_returns.specs.Giving.{BlockBeside, BlockFreed}
 use Rattle.change_giving.specs.Returning.{namedPeer, TallyAt, TallyBeside, Gave}
 
@@ -82,8 +82,12 @@ module _ (draws : Draws) (i : ℕ) (q : DownloadingPiece) (j : ℕ) (peer : Opti
       (ap (λ (b : Block). noDraw (replaceBlock q j b) w) (sym (f ∙ ap (withPeer peer) (h .is))))
 
 module _ (s : Shape) (words cells : List ℕ) (i p j : ℕ) (t : Tally) where
-  pub partial-beside : TallyBeside s words cells i p j t → PartialBeside s words cells i p j
-  partial-beside b = record { records = b .records; k = b .k; stands = b .there .stands }
+  -- what reading or storing the block asks
+  pub block-places : TallyBeside s words cells i p j t → Spans s words cells × ((p < s .places) × (j < s .blocks))
+  block-places b = (
+    b .there .stands .works .bounds .spans,
+    put-places s i p j words cells (record { records = b .records; k = b .k; stands = b .there .stands }),
+  )
 
   -- the numbers read are those of the partial's block
   block-here : (x : BlockInfo) → BlockRead s words cells p j x → (records : List Record) (k : ℕ) → TallyAt s records words cells i p j t k
@@ -125,7 +129,8 @@ module _ (s : Shape) (words cells : List ℕ) (i p j : ℕ) (t : Tally) where
       closed = false;
       edits = refl;
       went = λ records k a.
-          went-nowhere s records words cells 0 (change (some (partialIn (decode records words cells) k))) (a .stands .works) (e records k a);
+          went-nowhere s records words cells 0 (change (some (partialIn (decode records words cells) k))) (a .stands .works)
+          (e records k a);
       erased = λ f. absurd (true≢false (sym f));
     }
 
@@ -162,7 +167,7 @@ module _ (s : Shape) (words cells : List ℕ) (i p j : ℕ) (t : Tally) where
           e records k a ∙ rw (← a .tally .busy, ← a .tally .hashing, f) refl;
     }
 
-  -- ---- a requester less
+  -- ---- the two changes of a block, whose numbers are x
   module _ (draws : Draws) (has : Bool) (peer : ℕ) (x : BlockInfo) (r : BlockRead s words cells p j x) where
     abbrev abort : (found : Option DownloadingPiece) (w : Drawing) → Drawing
     abort found w = abortIn draws i found j (namedPeer has peer) w
@@ -170,6 +175,7 @@ module _ (s : Shape) (words cells : List ℕ) (i p j : ℕ) (t : Tally) where
     abbrev cancel : (found : Option DownloadingPiece) (w : Drawing) → Drawing
     cancel found w = cancelIn draws i found j (namedPeer has peer) w
 
+    -- a requester less
     pub release-nothing : x .state ≢ 1 → Gave s draws abort i p j t words cells words cells Keep 0
     release-nothing n =
         gave-nothing draws abort (λ records k a. abort-other draws i _ j (namedPeer has peer) _ x (block-here x r records k a) n)
@@ -191,7 +197,7 @@ module _ (s : Shape) (words cells : List ℕ) (i p j : ℕ) (t : Tally) where
         gave-freed draws abort 1 x r e y words′ cells′ edit next b
         (λ records k a. abort-last draws i _ j (namedPeer has peer) _ x (block-here x r records k a) e m y refl)
 
-    -- ---- a write that failed
+    -- a write that failed
     pub cancel-nothing : x .state ≡ 3 → Gave s draws cancel i p j t words cells words cells Keep 0
     cancel-nothing e =
         gave-nothing draws cancel (λ records k a. cancel-finished draws i _ j (namedPeer has peer) _ x (block-here x r records k a) e)

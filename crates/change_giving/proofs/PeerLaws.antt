@@ -1,12 +1,12 @@
 -- Peers told apart by flag and number, and the block with a requester less. Assumes nothing.
-use mathlib.Core.Path.{_≡_, refl, sym, ap, ap₂, _∙_}
+use mathlib.Core.Path.{_≡_, refl, ap, _∙_}
 use mathlib.Core.Bool.{Bool, true, false, cond, not, _&&_, _||_}
 use mathlib.Core.Option.{Option, none, some}
 use Prim.Native.Nat.{ℕ, _-_}
 use lib.Dec.{eqb}
 use Rattle.types.specs.declared.block.BlockState.the-variants.{Requested}
 use Rattle.model.specs.Lists.{nth}
-use Rattle.model.specs.State.{Block, samePeer}
+use Rattle.model.specs.State.{samePeer}
 use Rattle.model.specs.change.Changes.{released}
 use Rattle.memory_layout.specs.Decode.{stateFrom}
 use Rattle.memory_blocks.specs.declared.info.BlockInfo.{BlockInfo}

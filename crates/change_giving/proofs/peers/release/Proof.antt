@@ -19,4 +19,9 @@ returns c =
     (refl, release-is (a .b) (a .has-peer) (a .peer) (l .same-peer .result) (l .same-peer .ensures))
 
 pub release-spec : {M : Type 1} → statement M
-release-spec = tie.close (tie.spec same-peer-requires sub-t5 returns)
+release-spec =
+    tie.close
+    (tie.spec
+    same-peer-requires
+    sub-t5
+    returns)

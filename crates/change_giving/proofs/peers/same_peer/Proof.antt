@@ -7,4 +7,7 @@ returns : tie.Need-returns
 returns c = let a = c .args in same-is (a .has-peer) (a .peer) (a .has-other) (a .other)
 
 pub same-peer-spec : {M : Type 1} → statement M
-same-peer-spec = tie.close (tie.spec returns)
+same-peer-spec =
+    tie.close
+    (tie.spec
+    returns)
