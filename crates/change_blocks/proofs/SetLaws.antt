@@ -51,7 +51,8 @@ unfolding replaceBlock withBlockAt withBlocks
 found-again d q j x i e =
     partialOf-put-same d i (withBlocks (setNth j (blockOf x) (q .blocks)) q) q (unfold partialOf in findDlPiece-piece i (d .partials) q e) e
 
-module _ (s : Shape) (i p j : ℕ) (x : BlockInfo) (words cells words′ cells′ : List ℕ) (b : BlockStored s words cells words′ cells′ p j x) where
+module _ (s : Shape) (i p j : ℕ) (x : BlockInfo) (words cells words′ cells′ : List ℕ)
+    (b : BlockStored s words cells words′ cells′ p j x) where
   -- the block stored
   pub put-went : (records : List Record) (k : ℕ) → PartialAt s records words cells i p j k → (used : ℕ)
       → Went s (noDraw (λ d. replaceBlock (partialIn d k) j (blockOf x) d)) records words cells used records words′ cells′ used
@@ -59,8 +60,8 @@ module _ (s : Shape) (i p j : ℕ) (x : BlockInfo) (words cells words′ cells�
       let t : Standing records words i p k = record { low = a .low; index = a .index; place = a .place } in
       let m = block-replaced s records words cells i p k t (a .works .bounds) (a .rising) words′ cells′ j x b in
       beside-went s (λ d. replaceBlock (partialIn d k) j (blockOf x) d) records words cells records words′ cells′ used (a .works) (m .is)
-      (same-list (partialIn (decode records words cells) k) j x (decode records words cells)) (m .bounds) (m .plain (a .works .plain)) (b .list)
-      (b .put .wordsKept) (b .put .cellsKept)
+      (same-list (partialIn (decode records words cells) k) j x (decode records words cells)) (m .bounds) (m .plain (a .works .plain))
+      (b .list) (b .put .wordsKept) (b .put .cellsKept)
 
   pub put-beside : PartialBeside s words cells i p j → WorksBeside s words′ cells′
   put-beside a = record { records = a .records; works = put-went (a .records) (a .k) (a .stands) 0 .works }

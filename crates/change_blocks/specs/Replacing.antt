@@ -51,4 +51,5 @@ pub record BlockSet (s : Shape) (draws : Draws) (i p j : ℕ) (x : BlockInfo) (t
     (words′ cells′ : List ℕ) (next : ℕ) : Type 0 where
   pub went : (records : List Record) (k : ℕ) → PartialAt s records words cells i p j k
       → IsTally t (withBlockAt j (blockOf x) (partialIn (decode records words cells) k))
-      → Went s (setBlock draws i (partialIn (decode records words cells) k) j (blockOf x)) records words cells used records words′ cells′ next
+      → Went s (setBlock draws i (partialIn (decode records words cells) k) j (blockOf x)) records words cells used
+      records words′ cells′ next

@@ -48,7 +48,8 @@ beside-went s f records words cells records′ words′ cells′ used w e same b
         plain = plain;
         ranges = ranges-held s records′ words′ cells′ bounds (range-same d d′ p (works-range s records words cells w));
         ranks = ranks-right s records′ words′ cells′
-            (ranks-named (s .pieces) words′ (rank d) (rank d′) r (ranks-kept s words words′ (rank d) list (w .bounds .list) (w .ranks records)));
+            (ranks-named (s .pieces) words′ (rank d) (rank d′) r
+            (ranks-kept s words words′ (rank d) list (w .bounds .list) (w .ranks records)));
         listed = ok-same d d′ (ap (λ (x : Picker). x .listing) e ∙ same .listing) (many d d′ p) (λ k l. r k) (w .listed);
       };
       wordsKept = wk;

@@ -21,7 +21,8 @@ module _ (s : Shape) (records : List Record) (words cells : List ℕ) (used : �
     -- the step under another name
     pub went-named : (step other : Drawing → Drawing)
         → step (drawing used (decode records words cells)) ≡ other (drawing used (decode records words cells))
-        → Went s step records words cells used records′ words′ cells′ next → Went s other records words cells used records′ words′ cells′ next
+        → Went s step records words cells used records′ words′ cells′ next
+        → Went s other records words cells used records′ words′ cells′ next
     went-named step other e w =
         record { is = w .is ∙ e; works = w .works; wordsKept = w .wordsKept; cellsKept = w .cellsKept }
 

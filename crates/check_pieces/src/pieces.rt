@@ -29,7 +29,9 @@ fn rows_pass(
 ) -> bool
     requires { ⌜ Level (now counts) (now states) (now priorities) (now flushed) ⌝ }
     requires { ⌜ (seeds ≤ 1000) × (length (now counts) ≤ length (now ranks)) ⌝ }
-    ensures { λ r. ⌜ Passed (rowIn seeds (now (counts .entry)) (now (states .entry)) (now (priorities .entry)) (now (flushed .entry))) (rankIn seeds (now (counts .entry)) (now (states .entry)) (now (priorities .entry)) (now (flushed .entry))) (length (now (counts .entry))) r (now (ranks .exit)) ⌝ }
+    ensures { λ r. ⌜ Passed (rowIn seeds (now (counts .entry)) (now (states .entry)) (now (priorities .entry)) (now (flushed .entry)))
+        (rankIn seeds (now (counts .entry)) (now (states .entry)) (now (priorities .entry)) (now (flushed .entry)))
+        (length (now (counts .entry))) r (now (ranks .exit)) ⌝ }
 {
     let n = counts.len();
     let mut sum = Joined {

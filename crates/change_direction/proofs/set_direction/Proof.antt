@@ -35,7 +35,9 @@ gains-bucket-requires : tie.Need-gains-bucket-requires
 gains-bucket-requires c κs = search needs
 
 mark-dirty-requires : tie.Need-mark-dirty-requires
-mark-dirty-requires c κs = c .before .before .before .before .before .before .before .before .before .before .before .before .before .before .before .before .before .pre .0 .works .bounds .spans .inWords
+mark-dirty-requires c κs =
+    let c17 = c .before .before .before .before .before .before .before .before .before .before .before .before .before .before .before .before .before in
+    c17 .pre .0 .works .bounds .spans .inWords
 
 same-length : tie.Need-same-length
 same-length c = search needs
@@ -58,13 +60,12 @@ returns c =
 
 update-requires : tie.Need-update-requires
 update-requires c κs =
-    let o = c .before .before .before .before .before .before .before .before .before .before .before .before .before .before .before .before .before .before in
-    let a = o .args in
-    let n = c .before .before .before .before .before .before .before .before .before .before .before in
-    let t = c .before .before .before .before .before .before .before .before .before in
-    let k = state-asks (a .s) (a .i) (o .pre .1 .0) (a .q) (n .queue-number .result) (n .queue-number .ensures .0) (a .words .now)
-    (a .cells .now) _ (t .set-state .ensures) (n .before .rank-at .result) (n .before .rank-at .ensures) (o .pre .0) in
-    (k .0, (o .pre .1 .0, (k .1, o .pre .1 .1)))
+    let c9 = c .before .before .before .before .before .before .before .before .before in
+    let c11 = c9 .before .before in
+    let c18 = c11 .before .before .before .before .before .before .before in
+    let o = c18 in let a = o .args in let n = c11 in let t = c9 in let k = state-asks (a .s) (a .i) (o .pre .1 .0) (a .q)
+    (n .queue-number .result) (n .queue-number .ensures .0) (a .words .now) (a .cells .now) _ (t .set-state .ensures)
+    (n .before .rank-at .result) (n .before .rank-at .ensures) (o .pre .0) in (k .0, (o .pre .1 .0, (k .1, o .pre .1 .1)))
 
 same-length-3 : tie.Need-same-length-3
 same-length-3 c = search needs

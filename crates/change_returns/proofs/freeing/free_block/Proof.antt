@@ -11,9 +11,11 @@ is-last-requires c κs = search needs
 
 erase-and-update-requires : tie.Need-erase-and-update-requires
 erase-and-update-requires c κs =
-    let o = c .before .before .before .before .before .before .before in
-    let a = o .args in
-    (partial-beside (a .s) (a .words .now) (a .cells .now) (a .i) (a .p) (a .j) (a .old) (a .t) (o .pre .0), (o .pre .1 .0, o .pre .1 .1 .1))
+    let c7 = c .before .before .before .before .before .before .before in
+    let o = c7 in let a = o .args in (
+      partial-beside (a .s) (a .words .now) (a .cells .now) (a .i) (a .p) (a .j) (a .old) (a .t) (o .pre .0),
+      (o .pre .1 .0, o .pre .1 .1 .1),
+    )
 
 usize-to-u32-requires : tie.Need-usize-to-u32-requires
 usize-to-u32-requires c κs =

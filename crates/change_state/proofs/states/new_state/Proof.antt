@@ -19,9 +19,9 @@ in-direction-requires c κs = search needs
 
 returns-3 : tie.Need-returns-3
 returns-3 c =
-    let e = c .before .before .before .before in
-    some-free (e .before .before .args .t) (e .before .before .args .priority) _ (e .before .if1 .left) (sym (e .is-idle .ensures) ∙ c .before .before .before .if2 .left)
-    (c .before .if3 .taken) _ (c .in-direction .ensures)
+    let c4 = c .before .before .before .before in
+    let e = c4 in some-free (e .before .before .args .t) (e .before .before .args .priority) _ (e .before .if1 .left)
+    (sym (e .is-idle .ensures) ∙ c .before .before .before .if2 .left) (c .before .if3 .taken) _ (c .in-direction .ensures)
 
 in-direction-requires-2 : tie.Need-in-direction-requires-2
 in-direction-requires-2 c κs = search needs

@@ -32,8 +32,15 @@ lengths-ok-requires c κs = search needs
 
 returns : tie.Need-returns
 returns c =
-    head-bad _ (c .before .before .before .before .before .before .before .before .before .before .pre .1) _ (c .before .before .before .before .before .before .before .before .shape-of .ensures) _ _ _ _ _ _ (c .before .before .before .before .before .before .before .usize-to-u64 .ensures) (c .before .before .before .before .before .before .usize-to-u642 .ensures) (c .before .before .before .before .before .head-word .ensures) (c .before .before .before .before .head-word2 .ensures) (c .before .before .before .head-word3 .ensures) (c .before .before .head-word4 .ensures)
-    (sym (c .before .lengths-ok .ensures) ∙ not-true _ (c .if1 .taken))
+    let c4 = c .before .before .before .before in
+    let c5 = c4 .before in
+    let c6 = c5 .before in
+    let c7 = c6 .before in
+    let c8 = c7 .before in
+    let c10 = c8 .before .before in
+    head-bad _ (c10 .pre .1) _ (c8 .shape-of .ensures) _ _ _ _ _ _ (c7 .usize-to-u64 .ensures) (c6 .usize-to-u642 .ensures)
+    (c5 .head-word .ensures) (c4 .head-word2 .ensures) (c .before .before .before .head-word3 .ensures)
+    (c .before .before .head-word4 .ensures) (sym (c .before .lengths-ok .ensures) ∙ not-true _ (c .if1 .taken))
 
 head-word-requires-5 : tie.Need-head-word-requires-5
 head-word-requires-5 c κs = search needs

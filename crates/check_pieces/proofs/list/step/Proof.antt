@@ -28,7 +28,9 @@ u16-to-u64-requires c κs = search needs
 
 returns-3 : tie.Need-returns-3
 unfolding listedPiece listedRank
-returns-3 c = other-rank _ _ _ _ (omega arith) _ (c .before .before .before .before .before .u64-to-usize .ensures) (omega arith) _ (c .before .u16-to-u64 .ensures) (c .if3 .taken)
+returns-3 c =
+    let c5 = c .before .before .before .before .before in
+    other-rank _ _ _ _ (omega arith) _ (c5 .u64-to-usize .ensures) (omega arith) _ (c .before .u16-to-u64 .ensures) (c .if3 .taken)
 
 mul-ranks : tie.Need-mul-ranks
 mul-ranks c = search needs
@@ -41,7 +43,11 @@ same-length c = search needs
 
 returns-4 : tie.Need-returns-4
 unfolding listedPiece listedRank
-returns-4 c = stepped _ _ _ _ (omega arith) _ (c .before .before .before .before .before .u64-to-usize .ensures) (omega arith) _ (c .before .u16-to-u64 .ensures) (c .before .before .before .before .before .before .before .pre .1) (omega arith)
+returns-4 c =
+    let c5 = c .before .before .before .before .before in
+    let c7 = c5 .before .before in
+    stepped _ _ _ _ (omega arith) _ (c5 .u64-to-usize .ensures) (omega arith) _ (c .before .u16-to-u64 .ensures) (c7 .pre .1)
+    (omega arith)
 
 pub step-spec : {M : Type 1} → statement M
 step-spec =

@@ -67,9 +67,9 @@ loop-less c = search needs
 loop-again : tie.Need-loop-again Inv-loop μ-loop
 unfolding rowIn rankIn
 loop-again c =
-    row-passed _ _ _ _ _ (joinedOk (c .before .before .before .before .before .before .before .loop .sum)) (c .before .before .before .before .before .before .before .loop .i)
-    (c .before .before .before .before .before .before .before .loop .inv) (omega arith) (joinedOk (c .before .join .result)) (c .rank-in .result)
-    (c .before .join .ensures) (λ t. c .rank-in .ensures (ok-ranked _ _ _ _ _ t))
+    let c7 = c .before .before .before .before .before .before .before in
+    row-passed _ _ _ _ _ (joinedOk (c7 .loop .sum)) (c7 .loop .i) (c7 .loop .inv) (omega arith) (joinedOk (c .before .join .result))
+    (c .rank-in .result) (c .before .join .ensures) (λ t. c .rank-in .ensures (ok-ranked _ _ _ _ _ t))
 
 joined-ok-requires : tie.Need-joined-ok-requires Inv-loop μ-loop
 joined-ok-requires c κs = search needs

@@ -9,8 +9,9 @@ wrong-in-requires c κs = search needs
 
 returns : tie.Need-returns
 returns c =
-    let a = c .before .before .before .before .args in
-    join-row (a .sum) (a .seeds) (a .count) (a .state) (a .priority) (a .flushed) (c .before .before .before .wrong-in .result) (c .before .before .before .wrong-in .ensures)
+    let c4 = c .before .before .before .before in
+    let a = c4 .args in join-row (a .sum) (a .seeds) (a .count) (a .state) (a .priority) (a .flushed)
+    (c .before .before .before .wrong-in .result) (c .before .before .before .wrong-in .ensures)
 
 pub join-spec : {M : Type 1} → statement M
 join-spec = tie.close (tie.spec wrong-in-requires returns)
