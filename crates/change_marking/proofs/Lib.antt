@@ -1,3 +1,4 @@
 pub mod BlockLaws
 pub mod TurnedLaws
 pub mod RequestLaws
+pub mod ReceiptLaws
