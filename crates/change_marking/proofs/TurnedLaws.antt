@@ -67,6 +67,19 @@ module _ (draws : Draws) (i : ℕ) where
         when-arms (λ v. v .picker .partials ≡ w .picker .partials) (back && (not (isReverse q) && eqb (blocksInState Requested d) 0))
         (setDirection draws i (makeReverse q)) w (λ e. turn-partials (makeReverse q) w) (λ e. refl)
 
+  -- the state made that of the blocks
+  pub update-partials : (w : Drawing) → updatePieceState draws i w .picker .partials ≡ w .picker .partials
+  unfolding updatePieceState updateStateOf moveState
+  update-partials w = go (partialOf (w .picker) i)
+    where
+      go : (o : Option DownloadingPiece) → updateStateOf draws i o w .picker .partials ≡ w .picker .partials
+      go none = refl
+      go (some e) =
+          let p = pieceAt (w .picker) i in
+          let q = newState e (p .priority) (p .state) in
+          unless-arms (λ u. u .picker .partials ≡ w .picker .partials) (sameQueue q (p .state) || isOpen q) (setState draws i q) w
+          (λ h. set-partials q w) (λ h. refl)
+
   -- a block replaced
   pub block-few : (d : DownloadingPiece) (j : ℕ) (b : Block) (w : Drawing) → setBlock draws i d j b w .used ≤ w .used + 1
   unfolding setBlock noDraw drawing updatePieceState updateStateOf moveState

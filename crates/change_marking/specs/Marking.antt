@@ -7,7 +7,7 @@ use mathlib.Core.Option.{Option, none, some}
 use Rattle.model.specs.State.{DownloadingPiece}
 use Rattle.model.specs.list.Order.{Draws, Drawing, drawing}
 use Rattle.model.specs.change.Partials.{blockAt}
-use Rattle.model.specs.change.Changes.{Change, reverseAsked, markDownloadingIn}
+use Rattle.model.specs.change.Changes.{Change, reverseAsked, markDownloadingIn, markWritingIn}
 use Rattle.memory_records.specs.declared.record.DownloadingPiece.{DownloadingPiece as Record}
 use Rattle.memory_layout.specs.declared.shape.Shape.{Shape}
 use Rattle.memory_layout.specs.Decode.{decode}
@@ -53,3 +53,8 @@ pub record Requested (s : Shape) (draws : Draws) (i p j : ℕ) (back has : Bool)
     (words′ cells′ : List ℕ) (r : Marked) : Type 0 where
   pub marks : (options : ℕ) → back ≡ reverseAsked options
       → Marks s (λ d. markDownloadingIn draws i (some d) j (peerOf has peer) options) i p j t words cells used words′ cells′ r
+
+-- the definition's `markWritingIn` of one
+pub record Written (s : Shape) (draws : Draws) (i p j : ℕ) (has : Bool) (peer : ℕ) (t : Tally) (words cells : List ℕ) (used : ℕ)
+    (words′ cells′ : List ℕ) (r : Marked) : Type 0 where
+  pub marks : Marks s (λ d. markWritingIn draws i (some d) j (peerOf has peer)) i p j t words cells used words′ cells′ r
