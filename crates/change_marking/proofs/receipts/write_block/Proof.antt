@@ -44,11 +44,11 @@ returns c =
 
 retally-requires : tie.Need-retally-requires
 retally-requires c κs =
-    let g = c .before .before in
-    let o = c .before .before .before .before .before .before .before .before in
-    let a = o .args in
-    retally-asks (a .s) (a .words .now) (a .cells .now) (a .i) (a .p) (a .j) (g .get-block .result .state) (a .t)
-    (state-there (a .s) (a .words .now) (a .cells .now) (a .i) (a .p) (a .j) (a .t) (g .get-block .result) (g .get-block .ensures) (o .pre .0))
+    let c8 = c .before .before .before .before .before .before .before .before in
+    let g = c .before .before in let o = c8 in let a = o .args in retally-asks (a .s) (a .words .now) (a .cells .now) (a .i) (a .p) (a .j)
+    (g .get-block .result .state) (a .t)
+    (state-there (a .s) (a .words .now) (a .cells .now) (a .i) (a .p) (a .j) (a .t) (g .get-block .result) (g .get-block .ensures)
+    (o .pre .0))
 
 set-block-requires : tie.Need-set-block-requires
 set-block-requires c κs =
@@ -69,14 +69,14 @@ same-length-4 c = search needs
 
 returns-2 : tie.Need-returns-2
 returns-2 c =
-    let u = c .before .before .before .before in
-    let y = c .before .before .before .before .before .before .before in
-    let f = c .before .before .before .before .before .before .before .before in
-    let g = c .before .before .before .before .before .before .before .before .before .before in
-    let o = c .before .before .before .before .before .before .before .before .before .before .before .before .before .before .before .before in
-    let a = o .args in
-    write-made (a .s) _ (a .i) (a .p) (a .j) (a .t) (a .words .now) (a .cells .now) (a .used) (g .get-block .result) (g .get-block .ensures)
-    (f .if1 .left) (y .retally .result) (y .retally .ensures) _ refl refl _ _ (u .set-block .result) (u .set-block .ensures)
+    let c4 = c .before .before .before .before in
+    let c7 = c4 .before .before .before in
+    let c8 = c7 .before in
+    let c10 = c8 .before .before in
+    let c16 = c10 .before .before .before .before .before .before in
+    let u = c4 in let y = c7 in let f = c8 in let g = c10 in let o = c16 in let a = o .args in write-made (a .s) _ (a .i) (a .p) (a .j)
+    (a .t) (a .words .now) (a .cells .now) (a .used) (g .get-block .result) (g .get-block .ensures) (f .if1 .left) (y .retally .result)
+    (y .retally .ensures) _ refl refl _ _ (u .set-block .result) (u .set-block .ensures)
 
 pub write-block-spec : {M : Type 1} → statement M
 write-block-spec =
