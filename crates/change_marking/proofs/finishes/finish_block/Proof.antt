@@ -45,10 +45,11 @@ finished-info-requires c κs = search needs
 set-block-requires : tie.Need-set-block-requires
 set-block-requires c κs =
     let c12 = c .before .before .before .before .before .before .before .before .before .before .before .before in
-    let o = c12 in let a = o .args in
-    ( stands-there (a .s) (a .words .now) (a .cells .now) (a .i) (a .p) (a .j) (a .t)
-    (finish-beside (a .s) (a .words .now) (a .cells .now) (a .i) (a .p) (a .j) (a .t) (a .flags) (a .finished) (o .pre .0)),
-    ( o .pre .1 .0, (omega (arith, c .before .before .finished-info .ensures .state), o .pre .1 .1), ), )
+    let o = c12 in let a = o .args in (
+      stands-there (a .s) (a .words .now) (a .cells .now) (a .i) (a .p) (a .j) (a .t)
+          (finish-beside (a .s) (a .words .now) (a .cells .now) (a .i) (a .p) (a .j) (a .t) (a .flags) (a .finished) (o .pre .0)),
+      (o .pre .1 .0, (omega (arith, c .before .before .finished-info .ensures .state), o .pre .1 .1)),
+    )
 
 add-is-done : tie.Need-add-is-done
 add-is-done c =
@@ -67,11 +68,13 @@ piece-flushed-requires c κs =
     let c13 = c12 .before in
     let c15 = c13 .before .before in
     let c21 = c15 .before .before .before .before .before .before in
-    let u = c8 in let x = c11 in let y = c12 in let f = c13 in let g = c15 in let o = c21 in let a = o .args in
-    ( flush-asks (a .s) _ (a .i) (a .p) (a .j) (a .t) (a .flags) (a .finished) (a .words .now) (a .cells .now) (a .used)
-    (g .get-block .result) (g .get-block .ensures) (a .has-peer) (a .peer) (f .if1 .left) (y .retally .result) (y .retally .ensures)
-    (x .finished-info .result) (x .finished-info .ensures) _ _ (u .set-block .result) (u .set-block .ensures)
-    (peer-fits (a .has-peer) (a .peer) (o .fits .peer .fits)) (o .pre .0), o .pre .1 .0, )
+    let u = c8 in let x = c11 in let y = c12 in let f = c13 in let g = c15 in let o = c21 in let a = o .args in (
+      flush-asks (a .s) _ (a .i) (a .p) (a .j) (a .t) (a .flags) (a .finished) (a .words .now) (a .cells .now) (a .used)
+          (g .get-block .result) (g .get-block .ensures) (a .has-peer) (a .peer) (f .if1 .left) (y .retally .result) (y .retally .ensures)
+          (x .finished-info .result) (x .finished-info .ensures) _ _ (u .set-block .result) (u .set-block .ensures)
+          (peer-fits (a .has-peer) (a .peer) (o .fits .peer .fits)) (o .pre .0),
+      o .pre .1 .0,
+    )
 
 usize-to-u32-requires : tie.Need-usize-to-u32-requires
 usize-to-u32-requires c κs =
