@@ -13,6 +13,7 @@ ghost use Rattle.ask_picker.specs.Telling.{BothSay};
 ghost use Rattle.ask_columns.specs.Copies.{copiesHeld, Lowered, LeastIn, copiesReply};
 
 // The copies of the piece that has fewest, and thousandths of the pieces that have more.
+#[repr(C)]
 pub struct DistributedCopies {
     pub integer: u64,
     pub fraction: u64,
