@@ -17,20 +17,21 @@ pub struct Query<'a> {
     pub i: usize,
     pub j: usize,
     pub k: usize,
-    /// Lent for an answer of several records.
+    /// Lent for an answer of several records, and for a number for each piece.
     pub out: &'a mut [u64],
+    pub column: &'a mut [u16],
 }
 
 /// An answer as it is linked.
 pub trait Answer {
     fn reply(self, query: &Query) -> Reply;
-    /// The words that it has in the lent list.
+    /// The places that it has in the lent list.
     fn written(&self, _query: &Query) -> usize {
         0
     }
 }
 
-/// A reply, and how many words it has in the lent list.
+/// A reply, and how many places it has in the lent list.
 pub struct Replied {
     pub reply: Reply,
     pub written: usize,
@@ -186,7 +187,7 @@ impl Answer for PieceInfo {
 /// A number for each piece.
 impl Answer for () {
     fn reply(self, query: &Query) -> Reply {
-        words(&query.out[..query.g.pieces])
+        Reply::Numbers(query.column[..query.g.pieces].iter().map(|number| i128::from(*number)).collect())
     }
     fn written(&self, query: &Query) -> usize {
         query.g.pieces
@@ -256,6 +257,10 @@ macro_rules! exports {
     (@ $q:ident $export:ident $answer:ty; [out $($rest:tt)*] [$($d:tt)*] [$($v:tt)*]) => {
         exports!(@ $q $export $answer; [$($rest)*] [$($d)* out: *mut u64, o: usize,] [$($v)* $q.out.as_mut_ptr(), $q.out.len(),]);
     };
+    (@ $q:ident $export:ident $answer:ty; [column $($rest:tt)*] [$($d:tt)*] [$($v:tt)*]) => {
+        exports!(@ $q $export $answer; [$($rest)*] [$($d)* column: *mut u16, o: usize,]
+            [$($v)* $q.column.as_mut_ptr(), $q.column.len(),]);
+    };
     (@ $q:ident $export:ident $answer:ty; [$at:ident $($rest:tt)*] [$($d:tt)*] [$($v:tt)*]) => {
         exports!(@ $q $export $answer; [$($rest)*] [$($d)* $at: usize,] [$($v)* $q.$at,]);
     };
@@ -304,8 +309,8 @@ exports! {
     aq_num_want_left(words cells rows g) -> u64;
     aq_get_download_queue_sizes(words cells rows g) -> QueueSizes;
     aq_distributed_copies(words cells g) -> DistributedCopies;
-    aq_get_availability_vec(words cells g out) -> ();
-    aq_piece_priorities(words cells g out) -> ();
+    aq_get_availability_vec(words cells g column) -> ();
+    aq_piece_priorities(words cells g column) -> ();
     aq_get_download_queue(words cells rows counts g out) -> Infos;
 
     aq_pad_bytes_in_piece(words g i) -> u64;

@@ -34,6 +34,7 @@ pub struct Questions {
     stale: u64,
     /// Lent for answers: at each place a number that no answer has there.
     out: Vec<u64>,
+    column: Vec<u16>,
     rng: Rng,
     spoilt: Spoilt,
 }
@@ -41,7 +42,8 @@ pub struct Questions {
 impl Questions {
     pub fn new(seed: u64, spoilt: Spoilt) -> Questions {
         let all = QUESTIONS.iter().map(|question| (question, linked(question.name), 0)).collect();
-        Questions { all, nothing: 0, stale: 0, out: (0..8192).map(untold).collect(), rng: Rng::new(seed), spoilt }
+        let (out, column) = ((0..4096).map(untold).collect(), (0..4200).map(untold_cell).collect());
+        Questions { all, nothing: 0, stale: 0, out, column, rng: Rng::new(seed), spoilt }
     }
 
     /// Asks every question after a change: those of a piece or block of the one that was changed and of others.
@@ -87,7 +89,7 @@ impl Questions {
             return Ok(());
         }
         for place in [listed, listed + 1, listed + self.rng.place(5000)] {
-            let found = (self.all[k].1)(&mut query(lent, (place, 0), &mut [])).reply;
+            let found = (self.all[k].1)(&mut query(lent, (place, 0), &mut [], &mut [])).reply;
             if found != Reply::Nothing {
                 return Err(format!("place {place} behind a list of {listed} is answered {found:?}"));
             }
@@ -99,24 +101,25 @@ impl Questions {
     fn one(&mut self, k: usize, rust: &PiecePicker, lent: &Lent, at: (usize, usize)) -> Result<(), String> {
         let (question, ask, asked) = &mut self.all[k];
         *asked += 1;
-        let room = question.room.as_ref().map_or(0, |room| words_for(room, lent) + self.rng.place(4));
+        let more = self.rng.place(4);
+        let [words, cells] = question.room.as_ref().map_or([0, 0], |room| room_for(room, lent, more));
         let due = reply(rust, question, at.0 as i64, at.1 as i64);
-        let Replied { reply: mut found, written } = ask(&mut query(lent, at, &mut self.out[..room]));
+        let (out, column) = (&mut self.out[..words], &mut self.column[..cells]);
+        let Replied { reply: mut found, written } = ask(&mut query(lent, at, out, column));
         match self.spoilt {
             Spoilt::Nothing => {}
             Spoilt::Reply => found = Reply::Nothing,
-            Spoilt::Behind => self.out[..room].last_mut().into_iter().for_each(|word| *word ^= 1),
+            Spoilt::Behind => column.last_mut().into_iter().for_each(|cell| *cell ^= 1),
         }
         let name = question.name;
         if found != due {
             return Err(format!("{name} of {at:?} is answered {found:?} where {due:?} is due"));
         }
-        if (written..room).any(|place| self.out[place] != untold(place as u64)) {
-            return Err(format!("{name} of {at:?} moved what lies behind its answer of {written} words"));
+        if (written..words).any(|place| out[place] != untold(place)) || (written..cells).any(|place| column[place] != untold_cell(place)) {
+            return Err(format!("{name} of {at:?} moved what lies behind the {written} places of its answer"));
         }
-        for (place, word) in self.out[..written].iter_mut().enumerate() {
-            *word = untold(place as u64);
-        }
+        out.iter_mut().take(written).enumerate().for_each(|(place, word)| *word = untold(place));
+        column.iter_mut().take(written).enumerate().for_each(|(place, cell)| *cell = untold_cell(place));
         self.nothing += u64::from(due == Reply::Nothing);
         self.stale += u64::from(due == Reply::Stale);
         Ok(())
@@ -141,24 +144,28 @@ fn at_least(what: &str, many: u64, least: u64) -> Result<(), String> {
 }
 
 /// A number that is told of no piece, block or partial.
-fn untold(place: u64) -> u64 {
-    (1 << 63) + (place << 32) + 77
+fn untold(place: usize) -> u64 {
+    (1 << 63) + ((place as u64) << 32) + 77
 }
 
-/// The words that an answer may need.
-fn words_for(room: &Room, lent: &Lent) -> usize {
+fn untold_cell(place: usize) -> u16 {
+    60_000 + (place % 5000) as u16
+}
+
+/// Words and cells lent for an answer: as many as it may need, and some more.
+fn room_for(room: &Room, lent: &Lent, more: usize) -> [usize; 2] {
     let g = lent.geometry();
     match room {
-        Room::Pieces => g.pieces,
-        Room::Partials => 7 * g.places,
-        Room::BlocksPerPiece => 4 * g.blocks,
+        Room::Pieces => [0, g.pieces + more],
+        Room::Partials => [7 * g.places + more, 0],
+        Room::BlocksPerPiece => [4 * g.blocks + more, 0],
     }
 }
 
-fn query<'a>(lent: &'a Lent, at: (usize, usize), out: &'a mut [u64]) -> Query<'a> {
-    let (rows, counts) = (&lent.rows, &lent.counts);
+fn query<'a>(lent: &'a Lent, at: (usize, usize), out: &'a mut [u64], column: &'a mut [u16]) -> Query<'a> {
+    let Lent { words, cells, rows, counts, .. } = lent;
     let (live, g) = (lent.live(), lent.geometry());
-    Query { words: &lent.words, cells: &lent.cells, rows, live, counts, g, i: at.0, j: at.1, k: at.0, out }
+    Query { words, cells, rows, live, counts, g, i: at.0, j: at.1, k: at.0, out, column }
 }
 
 /// The piece and block that a change names.

@@ -14,7 +14,7 @@ pub extern "C" fn aq_get_availability_vec(
     words: &[u64],
     cells: &[u16],
     g: Geometry,
-    out: &mut [u64],
+    out: &mut [u16],
 )
     requires { ⌜ StandsBeside (shaped g) (now words) (now cells) ⌝ }
     requires { ⌜ g .pieces ≤ length (now out) ⌝ }
@@ -30,7 +30,7 @@ pub extern "C" fn aq_get_availability_vec(
 }
 
 #[no_mangle]
-pub extern "C" fn aq_piece_priorities(words: &[u64], cells: &[u16], g: Geometry, out: &mut [u64])
+pub extern "C" fn aq_piece_priorities(words: &[u64], cells: &[u16], g: Geometry, out: &mut [u16])
     requires { ⌜ StandsBeside (shaped g) (now words) (now cells) ⌝ }
     requires { ⌜ g .pieces ≤ length (now out) ⌝ }
     ensures { λ _. ⌜ Told (shaped g) (now (words .entry)) (now (cells .entry)) (λ d. listPicker d piece-priorities)
