@@ -121,18 +121,15 @@ fn main() {
     let mut rng = Rng::new(SEED);
     let (draws, mut seen) = (Draws::new(&mut rng), Seen::new());
     for (kind, lists, many) in PLAN {
-        let start = std::time::Instant::now();
         for list in 0..lists {
             if let Err(what) = a_list(&mut rng, kind, many, &draws, spoilt, &mut seen) {
                 eprintln!("beside: list {list}, {what}");
                 exit(1);
             }
         }
-        eprintln!("{:?}", start.elapsed());
     }
-    for (name, many) in &seen {
-        println!("{many:8} {name}");
-    }
+    let told: Vec<String> = seen.iter().map(|(name, many)| format!("{many} {name}")).collect();
+    println!("the Rust and the linked code agree: {}", told.join(", "));
     for (name, least) in LEAST {
         let many = seen.get(name).copied().unwrap_or(0);
         if many < least {
