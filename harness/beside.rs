@@ -32,8 +32,14 @@ use std::process::exit;
 const SEED: u64 = 11;
 
 /// Lists of each kind, and the calls of a list.
-const PLAN: [(Kind, usize, usize); 5] =
-    [(Kind::Small, 1800, 100), (Kind::Wide, 250, 100), (Kind::Crowded, 20, 100), (Kind::Huge, 24, 100), (Kind::Full, 3, 40)];
+const PLAN: [(Kind, usize, usize); 6] = [
+    (Kind::Small, 1400, 100),
+    (Kind::Many, 600, 100),
+    (Kind::Wide, 200, 100),
+    (Kind::Crowded, 20, 100),
+    (Kind::Huge, 30, 100),
+    (Kind::Full, 4, 40),
+];
 
 /// The least number of each, by the names of `note`.
 const LEAST: [(&str, u64); 0] = [];

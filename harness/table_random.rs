@@ -1,15 +1,19 @@
 //! The `random` that the Rust draws from where it is timed: the next word of a table, as the proved code has it. The names beside it are
 //! those that the oracle's modules know.
 
+#[allow(dead_code)]
+#[path = "../oracle/src/common/random.rs"]
+mod words;
+
 use std::cell::Cell;
-use std::rc::Rc;
+pub use words::{Made, Words};
 
 pub const COUNT: usize = 4352;
-pub static WORDS: [u32; COUNT] = words();
+pub static WORDS: [u32; COUNT] = table();
 
 thread_local!(static NEXT: Cell<usize> = const { Cell::new(0) });
 
-const fn words() -> [u32; COUNT] {
+const fn table() -> [u32; COUNT] {
     let mut out = [0; COUNT];
     let mut i = 0;
     while i < COUNT {
@@ -34,16 +38,4 @@ pub fn used() -> u64 {
 /// The table from its first word on, whatever is lent.
 pub fn lend(_: &Words) {
     NEXT.set(0);
-}
-
-#[derive(Clone)]
-pub struct Words {
-    pub count: u64,
-    pub made: Made,
-}
-
-#[derive(Clone)]
-pub enum Made {
-    Listed(Rc<[u32]>),
-    Seeded(u64),
 }
