@@ -42,7 +42,7 @@ impl Calls {
     }
 
     pub fn change(&self, rng: &mut Rng, lent: &Lent) -> Change {
-        let kind = rng.below(59); // 90 with marks
+        let kind = rng.below(90);
         let at = self.piece(rng, lent);
         let (piece, block, peer) = (at as i64, self.block(rng, lent, at) as i64, rng.of(&PEERS));
         match kind {
