@@ -35,8 +35,14 @@ use std::process::exit;
 const SEED: u64 = 11;
 
 /// Lists of each kind, and the calls of a list.
-const PLAN: [(Kind, usize, usize); 5] =
-    [(Kind::Small, 1800, 100), (Kind::Wide, 250, 100), (Kind::Crowded, 20, 100), (Kind::Huge, 24, 100), (Kind::Full, 3, 40)];
+const PLAN: [(Kind, usize, usize); 6] = [
+    (Kind::Small, 1400, 100),
+    (Kind::Many, 600, 100),
+    (Kind::Wide, 200, 100),
+    (Kind::Crowded, 20, 100),
+    (Kind::Huge, 30, 100),
+    (Kind::Full, 4, 40),
+];
 
 /// The least number of each, by the names of `note`.
 const LEAST: [(&str, u64); 0] = [];
@@ -140,25 +146,19 @@ fn main() {
     let mut rng = Rng::new(SEED);
     let (draws, mut seen) = (Draws::new(&mut rng), Seen::new());
     for (kind, lists, many) in PLAN {
-        let start = std::time::Instant::now();
         for list in 0..lists {
             if let Err(what) = a_list(&mut rng, kind, many, &draws, spoilt, &mut seen, &mut questions) {
                 eprintln!("beside: list {list}, {what}");
                 exit(1);
             }
         }
-        eprintln!("{:?}", start.elapsed());
     }
-    for (name, many) in &seen {
-        println!("{many:8} {name}");
-    }
-    match questions.told() {
-        Ok(many) => println!("{many:8} questions"),
-        Err(what) => {
-            eprintln!("beside: {what}");
-            exit(2);
-        }
-    }
+    let told: Vec<String> = seen.iter().map(|(name, many)| format!("{many} {name}")).collect();
+    let asked = questions.told().unwrap_or_else(|what| {
+        eprintln!("beside: {what}");
+        exit(2);
+    });
+    println!("the Rust and the linked code agree: {}, {asked} questions", told.join(", "));
     for (name, least) in LEAST {
         let many = seen.get(name).copied().unwrap_or(0);
         if many < least {

@@ -1,6 +1,7 @@
 //! A picker in three lent buffers (docs/MEMORY.md): laid out from the fields of an image, written as an image, and tested by the proved
 //! memory test. The buffers are longer than they have to be, and what lies beyond is watched.
 
+use crate::linked_changes::Tested;
 use crate::list_operations::{geometry, Geometry};
 use crate::picker::Shape;
 use crate::records::{unpack, DownloadingPiece, ROWS};
@@ -109,6 +110,12 @@ impl Lent {
 
     pub fn live(&self) -> usize {
         self.words[LIVE] as usize
+    }
+
+    /// The picker for a change, behind the memory test.
+    pub fn tested(&mut self) -> Tested<'_> {
+        let (live, geometry) = (self.live(), self.geometry());
+        Tested { words: &mut self.words, cells: &mut self.cells, rows: &self.rows, live, counts: &self.counts, geometry }
     }
 
     pub fn is_dirty(&self) -> bool {

@@ -1,7 +1,6 @@
-//! The proved changes of the crate `link_changes`, led as a public call leads them: behind the memory test, with the one edit of the
-//! records made afterwards.
+//! The proved changes of the crate `link_changes`, on buffers that the memory test accepted. The edit of the records that a change answers
+//! is made by `Outcome::edit`.
 
-use crate::lent::Lent;
 use crate::list_operations::Geometry;
 use crate::records::{DownloadingPiece, ROWS};
 use oracle::script::Change;
@@ -17,39 +16,137 @@ pub struct Outcome {
     flags: u32,
 }
 
+/// A picker whose buffers the memory test accepted, with the live records in rows and their counts.
+pub struct Tested<'a> {
+    pub words: &'a mut [u64],
+    pub cells: &'a mut [u16],
+    pub rows: &'a [u32; ROWS],
+    pub live: usize,
+    pub counts: &'a [u16; ROWS],
+    pub geometry: Geometry,
+}
+
+/// Changes that leave the partials alone: declared, and as methods.
+macro_rules! without_rows {
+    ($($export:ident as $name:ident($($own:ident: $kind:ty),*) -> $answer:ty;)*) => {
+        #[link(name = "link_changes", kind = "static")]
+        extern "C" {
+            $(fn $export(words: *mut u64, words_len: usize, cells: *mut u16, cells_len: usize, g: Geometry $(, $own: $kind)*) -> $answer;)*
+        }
+        impl Tested<'_> {
+            $(#[inline(always)]
+            fn $name(&mut self $(, $own: $kind)*) -> $answer {
+                let (words, cells) = (&mut *self.words, &mut *self.cells);
+                unsafe { $export(words.as_mut_ptr(), words.len(), cells.as_mut_ptr(), cells.len(), self.geometry $(, $own)*) }
+            })*
+        }
+    };
+}
+
+/// Changes that see them: declared, and as methods.
+macro_rules! with_rows {
+    ($($export:ident as $name:ident($($own:ident: $kind:ty),*);)*) => {
+        #[link(name = "link_changes", kind = "static")]
+        extern "C" {
+            $(fn $export(words: *mut u64, words_len: usize, cells: *mut u16, cells_len: usize, rows: *const u32, rows_len: usize,
+                live: usize, counts: *const u16, counts_len: usize, g: Geometry $(, $own: $kind)*) -> Outcome;)*
+        }
+        impl Tested<'_> {
+            $(#[inline(always)]
+            fn $name(&mut self $(, $own: $kind)*) -> Outcome {
+                let (words, cells) = (&mut *self.words, &mut *self.cells);
+                unsafe {
+                    $export(words.as_mut_ptr(), words.len(), cells.as_mut_ptr(), cells.len(), self.rows.as_ptr(), ROWS, self.live,
+                        self.counts.as_ptr(), ROWS, self.geometry $(, $own)*)
+                }
+            })*
+        }
+    };
+}
+
+without_rows! {
+    ch_inc_refcount as raw_inc_refcount(piece: usize, draws: *const u32, draws_len: usize) -> usize;
+    ch_dec_refcount as raw_dec_refcount(piece: usize, draws: *const u32, draws_len: usize) -> usize;
+    ch_inc_refcount_all as raw_inc_refcount_all() -> ();
+    ch_dec_refcount_all as raw_dec_refcount_all() -> ();
+}
+
+with_rows! {
+    ch_set_piece_priority as raw_set_piece_priority(piece: usize, priority: u16, draws: *const u32, draws_len: usize);
+    ch_abort_download as raw_abort_download(piece: usize, block: usize, has_peer: bool, peer: u64, draws: *const u32, draws_len: usize);
+    ch_mark_as_canceled as raw_mark_as_canceled(piece: usize, block: usize, has_peer: bool, peer: u64, draws: *const u32, draws_len: usize);
+    ch_piece_passed as raw_piece_passed(piece: usize);
+    ch_mark_as_downloading as raw_mark_as_downloading(piece: usize, block: usize, has_peer: bool, peer: u64, options: u16,
+        draws: *const u32, draws_len: usize);
+    ch_mark_as_writing as raw_mark_as_writing(piece: usize, block: usize, has_peer: bool, peer: u64, draws: *const u32, draws_len: usize);
+    ch_mark_as_finished as raw_mark_as_finished(piece: usize, block: usize, has_peer: bool, peer: u64, draws: *const u32, draws_len: usize);
+}
+
 #[link(name = "link_changes", kind = "static")]
 extern "C" {
-    fn ch_inc_refcount(words: *mut u64, words_len: usize, cells: *mut u16, cells_len: usize, g: Geometry, piece: usize,
-        draws: *const u32, draws_len: usize) -> usize;
-    fn ch_dec_refcount(words: *mut u64, words_len: usize, cells: *mut u16, cells_len: usize, g: Geometry, piece: usize,
-        draws: *const u32, draws_len: usize) -> usize;
-    fn ch_inc_refcount_all(words: *mut u64, words_len: usize, cells: *const u16, cells_len: usize, g: Geometry);
-    fn ch_dec_refcount_all(words: *mut u64, words_len: usize, cells: *mut u16, cells_len: usize, g: Geometry);
-    fn ch_set_piece_priority(words: *mut u64, words_len: usize, cells: *mut u16, cells_len: usize, rows: *const u32, rows_len: usize,
-        live: usize, counts: *const u16, counts_len: usize, g: Geometry, piece: usize, priority: u16, draws: *const u32,
-        draws_len: usize) -> Outcome;
-    fn ch_abort_download(words: *mut u64, words_len: usize, cells: *mut u16, cells_len: usize, rows: *const u32, rows_len: usize,
-        live: usize, counts: *const u16, counts_len: usize, g: Geometry, piece: usize, block: usize, has_peer: bool, peer: u64,
-        draws: *const u32, draws_len: usize) -> Outcome;
-    fn ch_mark_as_canceled(words: *mut u64, words_len: usize, cells: *mut u16, cells_len: usize, rows: *const u32, rows_len: usize,
-        live: usize, counts: *const u16, counts_len: usize, g: Geometry, piece: usize, block: usize, has_peer: bool, peer: u64,
-        draws: *const u32, draws_len: usize) -> Outcome;
     fn ch_lock_piece(rows: *const u32, rows_len: usize, live: usize, piece: usize) -> Outcome;
-    fn ch_piece_passed(words: *mut u64, words_len: usize, cells: *mut u16, cells_len: usize, rows: *const u32, rows_len: usize,
-        live: usize, counts: *const u16, counts_len: usize, g: Geometry, piece: usize) -> Outcome;
+}
+
+impl Tested<'_> {
+    /// Makes a change that no refusal stops; all but the edit of the records.
+    #[inline(always)]
+    pub fn carry_out(&mut self, change: &Change, draws: &[u32]) -> Outcome {
+        let (drawn, many) = (draws.as_ptr(), draws.len());
+        let at = |piece: i64| piece as usize;
+        // what is lent beside no peer means nothing
+        let named = |peer: Option<u64>| (peer.is_some(), peer.unwrap_or(7));
+        match *change {
+            Change::IncRefcount { piece } => without_edit(self.raw_inc_refcount(at(piece), drawn, many)),
+            Change::DecRefcount { piece } => without_edit(self.raw_dec_refcount(at(piece), drawn, many)),
+            Change::IncRefcountAll => {
+                self.raw_inc_refcount_all();
+                without_edit(0)
+            }
+            Change::DecRefcountAll => {
+                self.raw_dec_refcount_all();
+                without_edit(0)
+            }
+            Change::SetPiecePriority { piece, wish } => self.raw_set_piece_priority(at(piece), wish as u16, drawn, many),
+            Change::AbortDownload { piece, block, peer } => {
+                let (has_peer, peer) = named(peer);
+                self.raw_abort_download(at(piece), at(block), has_peer, peer, drawn, many)
+            }
+            Change::MarkAsCanceled { piece, block, peer } => {
+                let (has_peer, peer) = named(peer);
+                self.raw_mark_as_canceled(at(piece), at(block), has_peer, peer, drawn, many)
+            }
+            Change::LockPiece { piece } => unsafe { ch_lock_piece(self.rows.as_ptr(), ROWS, self.live, at(piece)) },
+            Change::PiecePassed { piece } => self.raw_piece_passed(at(piece)),
+            Change::MarkAsDownloading { piece, block, peer, options } => {
+                let (has_peer, peer) = named(peer);
+                self.raw_mark_as_downloading(at(piece), at(block), has_peer, peer, options, drawn, many)
+            }
+            Change::MarkAsWriting { piece, block, peer } => {
+                let (has_peer, peer) = named(peer);
+                self.raw_mark_as_writing(at(piece), at(block), has_peer, peer, drawn, many)
+            }
+            Change::MarkAsFinished { piece, block, peer } => {
+                let (has_peer, peer) = named(peer);
+                self.raw_mark_as_finished(at(piece), at(block), has_peer, peer, drawn, many)
+            }
+        }
+    }
+}
+
+fn without_edit(used: usize) -> Outcome {
+    Outcome { answer: true, used, kind: 0, index: 0, info_idx: 0, flags: 0 }
 }
 
 impl Outcome {
-    fn without_edit(used: usize) -> Outcome {
-        Outcome { answer: true, used, kind: 0, index: 0, info_idx: 0, flags: 0 }
-    }
-
     /// Makes the edit among the first `live` records, as many as there were before the change. False where it does not fit.
+    #[inline]
     pub fn edit(&self, partials: &mut [DownloadingPiece], live: usize) -> bool {
+        if self.kind == 0 {
+            return true;
+        }
         let d = DownloadingPiece { index: self.index, info_idx: self.info_idx, flags: self.flags };
         let found = partials[..live].binary_search_by_key(&d.index, |d| d.index);
         match (self.kind, found) {
-            (0, _) => {}
             (1, Ok(k)) => partials[k] = d,
             (2, Err(k)) if live < partials.len() => {
                 partials.copy_within(k..live, k + 1);
@@ -59,45 +156,5 @@ impl Outcome {
             _ => return false,
         }
         true
-    }
-}
-
-/// Makes a change that no refusal stops, on a picker that the memory test accepted; all but the edit of the records.
-pub fn carry_out(lent: &mut Lent, change: &Change, draws: &[u32]) -> Outcome {
-    let (live, g) = (lent.live(), lent.geometry());
-    let (words, n_words) = (lent.words.as_mut_ptr(), lent.words.len());
-    let (cells, n_cells) = (lent.cells.as_mut_ptr(), lent.cells.len());
-    let (rows, counts) = (lent.rows.as_ptr(), lent.counts.as_ptr());
-    let (drawn, n_draws) = (draws.as_ptr(), draws.len());
-    let at = |piece: i64| piece as usize;
-    let without = Outcome::without_edit;
-    unsafe {
-        match *change {
-            Change::IncRefcount { piece } => {
-                without(ch_inc_refcount(words, n_words, cells, n_cells, g, at(piece), drawn, n_draws))
-            }
-            Change::DecRefcount { piece } => {
-                without(ch_dec_refcount(words, n_words, cells, n_cells, g, at(piece), drawn, n_draws))
-            }
-            Change::IncRefcountAll => {
-                ch_inc_refcount_all(words, n_words, cells, n_cells, g);
-                without(0)
-            }
-            Change::DecRefcountAll => {
-                ch_dec_refcount_all(words, n_words, cells, n_cells, g);
-                without(0)
-            }
-            Change::SetPiecePriority { piece, wish } => ch_set_piece_priority(words, n_words, cells, n_cells, rows, ROWS, live, counts,
-                ROWS, g, at(piece), wish as u16, drawn, n_draws),
-            Change::AbortDownload { piece, block, peer } => ch_abort_download(words, n_words, cells, n_cells, rows, ROWS, live, counts,
-                ROWS, g, at(piece), at(block), peer.is_some(), peer.unwrap_or(7), drawn, n_draws),
-            Change::MarkAsCanceled { piece, block, peer } => ch_mark_as_canceled(words, n_words, cells, n_cells, rows, ROWS, live, counts,
-                ROWS, g, at(piece), at(block), peer.is_some(), peer.unwrap_or(7), drawn, n_draws),
-            Change::LockPiece { piece } => ch_lock_piece(rows, ROWS, live, at(piece)),
-            Change::PiecePassed { piece } => {
-                ch_piece_passed(words, n_words, cells, n_cells, rows, ROWS, live, counts, ROWS, g, at(piece))
-            }
-            _ => unreachable!("no such change is linked"),
-        }
     }
 }

@@ -4,7 +4,7 @@
 
 use crate::draws::words;
 use crate::lent::Lent;
-use crate::linked_changes;
+use crate::linked_changes::Outcome;
 use crate::list_operations::update_pieces;
 use crate::rng::Rng;
 use bitdaemon_common::{random, Bitfield};
@@ -64,7 +64,7 @@ impl Pair {
         let answer = truth(&changes::carry_out(&mut self.rust, change, &mut differences));
         let used = random::used();
         let live = self.lent.live();
-        let mut found = linked_changes::carry_out(&mut self.lent, change, draws);
+        let mut found = self.lent.tested().carry_out(change, draws);
         self.spoil(&mut found, spoilt);
         if answer.is_some_and(|answer| answer != found.answer) {
             return Err(format!("the answer is {} where {answer:?} is due", found.answer));
@@ -96,7 +96,7 @@ impl Pair {
         Ok(true)
     }
 
-    fn spoil(&mut self, found: &mut linked_changes::Outcome, spoilt: Spoilt) {
+    fn spoil(&mut self, found: &mut Outcome, spoilt: Spoilt) {
         let lent = &mut self.lent;
         match spoilt {
             Spoilt::Nothing => {}

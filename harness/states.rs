@@ -16,7 +16,9 @@ pub const PEERS: [Option<u64>; 6] = [None, Some(0), Some(1), Some(2), Some(3), S
 pub enum Kind {
     /// Up to a dozen pieces of up to six blocks.
     Small,
-    /// Pieces and blocks in between.
+    /// Dozens to hundreds of pieces of up to four blocks: groups of the list with many pieces.
+    Many,
+    /// Pieces of up to 256 blocks.
     Wide,
     /// Pieces of a byte, more than there may be partials, and as many partials as may stand or almost.
     Crowded,
@@ -35,6 +37,7 @@ impl Kind {
                 let sizes = [1, 2, 7, 100, BLOCK - 1, BLOCK, BLOCK + 1, 2 * BLOCK, 3 * BLOCK, 4 * BLOCK, 4 * BLOCK + 5, 6 * BLOCK];
                 (rng.of(&[1, 2, 2, 3, 4, 5, 6, 8, 9, 12]), rng.of(&sizes))
             }
+            Kind::Many => (rng.of(&[30, 64, 100, 200, 300]), rng.of(&[1, BLOCK, BLOCK + 1, 2 * BLOCK, 4 * BLOCK])),
             Kind::Wide => {
                 let b = rng.of(&[8, 16, 17, 31, 64, 100, 128, 200, 255, 256]);
                 (rng.of(&[2, 5, 16, 17, 40, 70]), b * BLOCK - rng.of(&[0, 0, 1, BLOCK - 1]))
@@ -53,6 +56,7 @@ impl Kind {
     fn partials(self, rng: &mut Rng, pieces: usize) -> usize {
         match self {
             Kind::Small | Kind::Wide => rng.place(pieces + 1),
+            Kind::Many => rng.place(pieces / 2),
             Kind::Crowded => rng.of(&[510, 511, 512, 512]),
             Kind::Huge => rng.of(&[0, 8, 64, 400, 512]),
             Kind::Full => rng.of(&[8, 64, 511]),

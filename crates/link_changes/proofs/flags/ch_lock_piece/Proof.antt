@@ -5,7 +5,7 @@ use Rattle.link_changes.proofs.flags.ch_lock_piece.Statement.{statement
 use Rattle.link_changes.proofs.flags.ch_lock_piece.Tie as tie
 
 lock-piece-requires : tie.Need-lock-piece-requires
-lock-piece-requires c κs = search needs
+lock-piece-requires c κs = c .before .pre
 
 told-requires : tie.Need-told-requires
 told-requires c κs = search needs

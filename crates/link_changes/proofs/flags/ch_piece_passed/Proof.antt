@@ -5,7 +5,7 @@ use Rattle.link_changes.proofs.flags.ch_piece_passed.Statement.{stateme
 use Rattle.link_changes.proofs.flags.ch_piece_passed.Tie as tie
 
 piece-passed-requires : tie.Need-piece-passed-requires
-piece-passed-requires c κs = search needs
+piece-passed-requires c κs = c .before .before .before .before .before .before .pre
 
 told-requires : tie.Need-told-requires
 told-requires c κs = search needs

@@ -5,7 +5,7 @@ use Rattle.link_changes.proofs.giving.ch_abort_download.Statement.{stat
 use Rattle.link_changes.proofs.giving.ch_abort_download.Tie as tie
 
 abort-download-requires : tie.Need-abort-download-requires
-abort-download-requires c κs = search needs
+abort-download-requires c κs = c .before .before .before .before .before .before .before .pre
 
 told-requires : tie.Need-told-requires
 told-requires c κs = search needs

@@ -5,7 +5,7 @@ use Rattle.link_changes.proofs.giving.ch_mark_as_canceled.Statement.{st
 use Rattle.link_changes.proofs.giving.ch_mark_as_canceled.Tie as tie
 
 mark-as-canceled-requires : tie.Need-mark-as-canceled-requires
-mark-as-canceled-requires c κs = search needs
+mark-as-canceled-requires c κs = c .before .before .before .before .before .before .before .pre
 
 told-requires : tie.Need-told-requires
 told-requires c κs = search needs

@@ -5,7 +5,7 @@ use Rattle.link_changes.proofs.priority.ch_set_piece_priority.Statement
 use Rattle.link_changes.proofs.priority.ch_set_piece_priority.Tie as tie
 
 set-piece-priority-requires : tie.Need-set-piece-priority-requires
-set-piece-priority-requires c κs = search needs
+set-piece-priority-requires c κs = c .before .before .before .before .before .before .before .pre
 
 told-requires : tie.Need-told-requires
 told-requires c κs = search needs
