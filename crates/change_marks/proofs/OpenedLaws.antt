@@ -83,8 +83,13 @@ module _ (s : Shape) (live : ℕ) (rows words cells : List ℕ) (i : ℕ) (g : R
     live-alone after c =
         let p = m .partial in
         let few : headWord words′ 7 ≤ length (editRecords (Insert p) (take live more)) =
-        omega (arith, c .bounds .live, length-edited live (Insert p) more, length-records (suc live) rows,
-        insert-number live more rises p fits) in
+        omega (
+          arith,
+          c .bounds .live,
+          length-edited live (Insert p) more,
+          length-records (suc live) rows,
+          insert-number live more rises p fits,
+        ) in
         subst (λ (l : List Record). Changed s after words cells (editRecords (Insert p) l) words′ cells′) front
         (changed-live s (edited live (Insert p) more) (editRecords (Insert p) (take live more)) words′ cells′
         (λ k h. sym (edited-at live more rises s (Insert p) fits words′ cells′ few k h)) after words cells few c)
