@@ -1,6 +1,6 @@
 //! The memory test written by hand in Rust, on the same buffers.
 
-use crate::picker::{rank, Buffers, Shape, BLOCK, HEAD};
+use crate::picker::{rank, Buffers, Shape, HEAD};
 use crate::records::DownloadingPiece;
 
 pub fn by_hand(mem: &Buffers, counts: &mut [[u16; 3]; 512]) -> bool {
@@ -66,7 +66,7 @@ fn live(words: &[u64], cells: &[u16], partials: &[DownloadingPiece], s: &Shape, 
         }
         taken[place] = true;
         low = d.index + 1;
-        let many = words[1].min(words[0] - i as u64 * words[1]).div_ceil(words[1].min(BLOCK)) as usize;
+        let many = s.blocks_in_piece(words, i);
         match blocks(cells, s, place, many) {
             Some(found) => *counted = found,
             None => return false,

@@ -3,43 +3,19 @@
 //! ratio to the Rust.
 
 mod list_operations;
+mod timing;
 
 use bitdaemon_common::{Bitfield, DownloadPriority, PieceIndex};
 use list_operations::{geometry, rank, update, update_pieces, Geometry};
 use picker_rs::{NullPickerStats, PickerOptions, PiecePicker};
 use std::hint::black_box;
 use std::time::Instant;
+use timing::{counts, each, least, since, spread};
 
 const ROUNDS: usize = 400;
 
-/// The counts of n pieces, spread from 1 to `most`.
-fn counts(n: usize, most: usize) -> Vec<u16> {
-    (0..n).map(|i| 1 + (i * 547 % most) as u16).collect()
-}
-
-fn since(start: Instant) -> f64 {
-    start.elapsed().as_secs_f64() * 1e6
-}
-
 /// A piece added, its count changed by one, a piece removed: so many microseconds each, on average over the pieces of a round.
 type Moves = [f64; 3];
-
-/// The pieces of a round, spread over all of them.
-fn spread(n: usize) -> Vec<usize> {
-    (0..16).map(|k| k * n / 16).collect()
-}
-
-fn each(pieces: &[usize], mut f: impl FnMut(usize)) -> f64 {
-    let start = Instant::now();
-    for &i in pieces {
-        f(i);
-    }
-    since(start) / pieces.len() as f64
-}
-
-fn least<const N: usize>(a: [f64; N], b: [f64; N]) -> [f64; N] {
-    std::array::from_fn(|k| a[k].min(b[k]))
-}
 
 // ---- the Rust
 fn rust_picker(counts: &[u16]) -> PiecePicker {

@@ -26,6 +26,13 @@ impl Shape {
     pub fn pieces<'a>(&self, cells: &'a [u16], f: usize) -> &'a [u16] {
         &cells[f * self.n..(f + 1) * self.n]
     }
+    pub fn blocks_in_piece(&self, words: &[u64], i: usize) -> usize {
+        words[1].min(words[0] - i as u64 * words[1]).div_ceil(words[1].min(BLOCK)) as usize
+    }
+    /// Where the peers of a place's blocks start, among the words.
+    pub fn peers(&self, place: usize) -> usize {
+        HEAD + 2 * self.n + place * self.b
+    }
     /// Where cell column f of a place's blocks starts: state, num_peers, has-peer.
     pub fn blocks(&self, f: usize, place: usize) -> usize {
         4 * self.n + (f * self.m + place) * self.b

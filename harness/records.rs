@@ -3,7 +3,7 @@
 pub const ROWS: usize = 1536;
 
 #[repr(C)]
-#[derive(Clone, Copy)]
+#[derive(Clone, Copy, PartialEq)]
 pub struct DownloadingPiece {
     pub index: u32,
     pub info_idx: u32,

@@ -1,44 +1,37 @@
 -- A block given back: left, replaced, or made free. Assumes nothing.
-use mathlib.Core.Path.{_≡_, refl, sym, ap, _∙_, subst}
+use mathlib.Core.Path.{_≡_, refl, sym, ap, _∙_}
 use mathlib.Core.Logic.{_≢_}
 use mathlib.Core.Bool.{Bool, true, false, not, _&&_, true≢false}
 use mathlib.Core.List.{List}
 use mathlib.Core.Option.{Option, some}
 use Prim.Native.Nat.{ℕ, _≤_, _<_}
-use native.Mathlib.Omega.{arith}
 use lib.Dec.{eqb, ltb}
 use borrow.Author.Tests.{eq-eqb, ne-eqb, lt-ltb, le-ltb}
-use Rattle.types.specs.declared.block.BlockState.{BlockState}
-use Rattle.types.specs.declared.block.BlockState.the-variants.{None, Requested, Writing, Finished}
-use Rattle.types.specs.Block.{blockStateNumber}
+use Rattle.types.specs.declared.block.BlockState.the-variants.{Requested, Writing, Finished}
 use Rattle.model.specs.Lists.{nth}
-use Rattle.model.specs.State.{Block, DownloadingPiece, sameBlockState, withPeer}
+use Rattle.model.specs.State.{Block, DownloadingPiece, Picker, sameBlockState, withListing, withPeer, withPiece, withPieces}
 use Rattle.model.specs.list.Order.{Draws, Drawing, drawing, noDraw}
-use Rattle.model.specs.change.Partials.{blockAt, replaceBlock}
+use Rattle.model.specs.change.Partials.{blockAt, dropPartial, eraseDownloadPiece, eraseAndUpdate, replaceBlock}
 use Rattle.model.specs.change.Changes.{freed, canceled, released, freeBlock, abortIn, cancelIn}
+use Rattle.model.proofs.sound.SoundFields.{moved-blind}
 use Rattle.memory_records.specs.declared.record.DownloadingPiece.{DownloadingPiece as Record}
 use Rattle.memory_records.specs.declared.edits.Edit.{Edit}
 use Rattle.memory_records.specs.declared.edits.Edit.the-variants.{Keep}
 use Rattle.memory_records.specs.Records.{edited}
 use Rattle.memory_layout.specs.declared.shape.Shape.{Shape}
-use Rattle.memory_layout.specs.Decode.{headWord, blocksOf, decode, stateFrom}
-use Rattle.memory_layout.specs.Bounds.{Spans}
+use Rattle.memory_layout.specs.Decode.{headWord, decode, stateFrom}
 use Rattle.memory_layout.specs.Changes.{partialIn}
 use Rattle.memory_blocks.specs.declared.info.BlockInfo.{BlockInfo}
 use Rattle.memory_blocks.specs.Blocks.{blockOf, BlockIs, BlockRead, BlockStored}
 use Rattle.change_steps.proofs.WorkLaws.{went-nowhere, went-named}
 use Rattle.change_state.specs.declared.states.Tally.{Tally}
-use Rattle.change_blocks.proofs.SetLaws.{put-places, put-went}
-use Rattle.change_returns.specs.Giving.{BlockBeside, BlockFreed}
-use Rattle.change_giving.specs.Returning.{namedPeer, TallyAt, TallyBeside, Gave}
+use Rattle.change_blocks.specs.Replacing.{TallyAt, namedPeer}
+use Rattle.change_blocks.proofs.SetLaws.{put-went}
+use Rattle.change_blocks.proofs.StandingLaws.{block-there}
+use Rattle.change_returns.specs.Giving.{BlockFreed}
+use Rattle.change_giving.specs.Returning.{Gave}
 
 -- ---- the definitions by a block's numbers
-number-low : (b : BlockState) → blockStateNumber b ≤ 3
-number-low None = omega arith
-number-low Requested = omega arith
-number-low Writing = omega arith
-number-low Finished = omega arith
-
 module _ (draws : Draws) (i : ℕ) (q : DownloadingPiece) (j : ℕ) (peer : Option ℕ) (w : Drawing) (x : BlockInfo)
     (h : BlockIs x (blockAt q j)) where
   peers-are : blockAt q j .numPeers ≡ x .«num_peers»
@@ -81,41 +74,13 @@ module _ (draws : Draws) (i : ℕ) (q : DownloadingPiece) (j : ℕ) (peer : Opti
       rw (← h .state, ne-eqb (x .state) 3 n, ne-eqb (x .state) 2 m)
       (ap (λ (b : Block). noDraw (replaceBlock q j b) w) (sym (f ∙ ap (withPeer peer) (h .is))))
 
+-- the partials after one is closed and the list mended
+erased-partials : (draws : Draws) (i : ℕ) (d : Picker) → eraseAndUpdate draws i (drawing 0 d) .picker .partials ≡ dropPartial i d .partials
+unfolding eraseAndUpdate eraseDownloadPiece withPiece withPieces withListing drawing
+erased-partials draws i d =
+    moved-blind (λ u. u .partials ≡ dropPartial i d .partials) (λ l u q. q) draws i (eraseDownloadPiece i) (drawing 0 d) refl
+
 module _ (s : Shape) (words cells : List ℕ) (i p j : ℕ) (t : Tally) where
-  -- what reading or storing the block asks
-  pub block-places : TallyBeside s words cells i p j t → Spans s words cells × ((p < s .places) × (j < s .blocks))
-  block-places b = (
-    b .there .stands .works .bounds .spans,
-    put-places s i p j words cells (record { records = b .records; k = b .k; stands = b .there .stands }),
-  )
-
-  -- the numbers read are those of the partial's block
-  block-here : (x : BlockInfo) → BlockRead s words cells p j x → (records : List Record) (k : ℕ) → TallyAt s records words cells i p j t k
-      → BlockIs x (blockAt (partialIn (decode records words cells) k) j)
-  block-here x r records k a =
-      let b = a .stands in
-      r .live records k (b .works .bounds)
-      (record { low = b .low; place = b .place; block = subst (λ (m : ℕ). j < blocksOf words m) (sym (b .index)) (b .block) })
-
-  -- a state that was read has a number below 4
-  pub state-low : (x : BlockInfo) → BlockRead s words cells p j x → TallyBeside s words cells i p j t → x .state ≤ 3
-  state-low x r b =
-      subst (λ (m : ℕ). m ≤ 3) (sym (block-here x r (b .records) (b .k) (b .there) .state))
-      (number-low (blockAt (partialIn (decode (b .records) words cells) (b .k)) j .state))
-
-  pub block-beside : (old : ℕ) (x : BlockInfo) → BlockRead s words cells p j x → x .state ≡ old → TallyBeside s words cells i p j t
-      → BlockBeside s words cells i p j old t
-  block-beside old x r e b =
-      record {
-        records = b .records;
-        k = b .k;
-        there = record {
-          stands = b .there .stands;
-          tally = b .there .tally;
-          state = sym e ∙ block-here x r (b .records) (b .k) (b .there) .state;
-        };
-      }
-
   -- ---- by what is done
   module _ (draws : Draws) (change : (found : Option DownloadingPiece) (w : Drawing) → Drawing) where
     -- the change on partial k is this one
@@ -124,18 +89,18 @@ module _ (s : Shape) (words cells : List ℕ) (i p j : ℕ) (t : Tally) where
         → change (some (partialIn (decode records words cells) k)) (drawing 0 (decode records words cells))
         ≡ other (partialIn (decode records words cells) k) (drawing 0 (decode records words cells))
 
-    gave-nothing : Is (λ q w. w) → Gave s draws change i p j t words cells words cells Keep 0
+    gave-nothing : Is (λ q w. w) → Gave s change i p j t words cells words cells Keep 0
     gave-nothing e = record {
       closed = false;
       edits = refl;
       went = λ records k a.
           went-nowhere s records words cells 0 (change (some (partialIn (decode records words cells) k))) (a .stands .works)
           (e records k a);
-      erased = λ f. absurd (true≢false (sym f));
+      others = λ f. absurd (true≢false (sym f));
     }
 
     gave-put : (x : BlockInfo) (words′ cells′ : List ℕ) → BlockStored s words cells words′ cells′ p j x
-        → Is (λ q. noDraw (replaceBlock q j (blockOf x))) → Gave s draws change i p j t words cells words′ cells′ Keep 0
+        → Is (λ q. noDraw (replaceBlock q j (blockOf x))) → Gave s change i p j t words cells words′ cells′ Keep 0
     unfolding noDraw drawing
     gave-put x words′ cells′ b e = record {
       closed = false;
@@ -144,12 +109,12 @@ module _ (s : Shape) (words cells : List ℕ) (i p j : ℕ) (t : Tally) where
           went-named s records words cells 0 records words′ cells′ 0 (noDraw (λ d. replaceBlock (partialIn d k) j (blockOf x) d))
           (change (some (partialIn (decode records words cells) k))) (sym (e records k a))
           (put-went s i p j x words cells words′ cells′ b records k (a .stands) 0);
-      erased = λ f. absurd (true≢false (sym f));
+      others = λ f. absurd (true≢false (sym f));
     }
 
     gave-freed : (old : ℕ) (y : BlockInfo) → BlockRead s words cells p j y → y .state ≡ old → (x : BlockInfo) (words′ cells′ : List ℕ)
         (edit : Edit) (next : ℕ) → BlockFreed s draws i p j old x t words cells 0 words′ cells′ edit next
-        → Is (λ q. freeBlock draws i q j (blockOf x)) → Gave s draws change i p j t words cells words′ cells′ edit next
+        → Is (λ q. freeBlock draws i q j (blockOf x)) → Gave s change i p j t words cells words′ cells′ edit next
     unfolding freeBlock
     gave-freed old y r z x words′ cells′ edit next b e = record {
       closed = eqb (t .busy) 1 && not (t .hashing);
@@ -159,12 +124,14 @@ module _ (s : Shape) (words cells : List ℕ) (i p j : ℕ) (t : Tally) where
           (freeBlock draws i (partialIn (decode records words cells) k) j (blockOf x))
           (change (some (partialIn (decode records words cells) k))) (sym (e records k a))
           (b .went records k (record {
-            stands = a .stands;
-            tally = a .tally;
-            state = sym z ∙ block-here y r records k a .state;
+            at = a;
+            state = sym z ∙ block-there s words cells i p j t y r records k a .state;
           }));
-      erased = λ f records k a.
-          e records k a ∙ rw (← a .tally .busy, ← a .tally .hashing, f) refl;
+      others = λ f records k a.
+          let d = decode records words cells in
+          let closes : freeBlock draws i (partialIn d k) j (blockOf x) (drawing 0 d) ≡ eraseAndUpdate draws i (drawing 0 d) =
+          rw (← a .tally .busy, ← a .tally .hashing, f) refl in
+          ap (λ (w : Drawing). w .picker .partials) (e records k a ∙ closes) ∙ erased-partials draws i d;
     }
 
   -- ---- the two changes of a block, whose numbers are x
@@ -176,48 +143,48 @@ module _ (s : Shape) (words cells : List ℕ) (i p j : ℕ) (t : Tally) where
     cancel found w = cancelIn draws i found j (namedPeer has peer) w
 
     -- a requester less
-    pub release-nothing : x .state ≢ 1 → Gave s draws abort i p j t words cells words cells Keep 0
+    pub release-nothing : x .state ≢ 1 → Gave s abort i p j t words cells words cells Keep 0
     release-nothing n =
-        gave-nothing draws abort (λ records k a. abort-other draws i _ j (namedPeer has peer) _ x (block-here x r records k a) n)
+        gave-nothing draws abort (λ records k a. abort-other draws i _ j (namedPeer has peer) _ x (block-there s words cells i p j t x r records k a) n)
 
     pub release-put : x .state ≡ 1 → 1 < x .«num_peers» → (y : BlockInfo) → blockOf y ≡ released (namedPeer has peer) (blockOf x)
         → (words′ cells′ : List ℕ) → BlockStored s words cells words′ cells′ p j y
-        → Gave s draws abort i p j t words cells words′ cells′ Keep 0
+        → Gave s abort i p j t words cells words′ cells′ Keep 0
     release-put e m y f words′ cells′ b =
         gave-put draws abort y words′ cells′ b
-        (λ records k a. abort-many draws i _ j (namedPeer has peer) _ x (block-here x r records k a) e m y f)
+        (λ records k a. abort-many draws i _ j (namedPeer has peer) _ x (block-there s words cells i p j t x r records k a) e m y f)
 
     pub release-free : x .state ≡ 1 → x .«num_peers» ≤ 1 → (word : ℕ) (words′ cells′ : List ℕ) (edit : Edit) (next : ℕ)
         → BlockFreed s draws i p j 1 (record { state = 0; «num_peers» = 0; «has_peer» = false; peer = word }) t words cells 0
         words′ cells′ edit next
-        → Gave s draws abort i p j t words cells words′ cells′ edit next
+        → Gave s abort i p j t words cells words′ cells′ edit next
     unfolding blockOf freed stateFrom nth
     release-free e m word words′ cells′ edit next b =
         let y : BlockInfo = record { state = 0; «num_peers» = 0; «has_peer» = false; peer = word } in
         gave-freed draws abort 1 x r e y words′ cells′ edit next b
-        (λ records k a. abort-last draws i _ j (namedPeer has peer) _ x (block-here x r records k a) e m y refl)
+        (λ records k a. abort-last draws i _ j (namedPeer has peer) _ x (block-there s words cells i p j t x r records k a) e m y refl)
 
     -- a write that failed
-    pub cancel-nothing : x .state ≡ 3 → Gave s draws cancel i p j t words cells words cells Keep 0
+    pub cancel-nothing : x .state ≡ 3 → Gave s cancel i p j t words cells words cells Keep 0
     cancel-nothing e =
-        gave-nothing draws cancel (λ records k a. cancel-finished draws i _ j (namedPeer has peer) _ x (block-here x r records k a) e)
+        gave-nothing draws cancel (λ records k a. cancel-finished draws i _ j (namedPeer has peer) _ x (block-there s words cells i p j t x r records k a) e)
 
     pub cancel-free : x .state ≢ 3 → x .state ≡ 2 → (words′ cells′ : List ℕ) (edit : Edit) (next : ℕ)
         → BlockFreed s draws i p j 2 (record { state = 0; «num_peers» = x .«num_peers»; «has_peer» = has; peer = peer }) t words cells 0
         words′ cells′ edit next
-        → Gave s draws cancel i p j t words cells words′ cells′ edit next
-    unfolding blockOf canceled stateFrom nth namedPeer
+        → Gave s cancel i p j t words cells words′ cells′ edit next
+    unfolding blockOf canceled stateFrom nth
     cancel-free n e words′ cells′ edit next b =
         let y : BlockInfo = record { state = 0; «num_peers» = x .«num_peers»; «has_peer» = has; peer = peer } in
         gave-freed draws cancel 2 x r e y words′ cells′ edit next b
-        (λ records k a. cancel-writing draws i _ j (namedPeer has peer) _ x (block-here x r records k a) n e y refl)
+        (λ records k a. cancel-writing draws i _ j (namedPeer has peer) _ x (block-there s words cells i p j t x r records k a) n e y refl)
 
     pub cancel-put : x .state ≢ 3 → x .state ≢ 2 → (words′ cells′ : List ℕ)
         → BlockStored s words cells words′ cells′ p j
         (record { state = x .state; «num_peers» = x .«num_peers»; «has_peer» = has; peer = peer })
-        → Gave s draws cancel i p j t words cells words′ cells′ Keep 0
-    unfolding blockOf withPeer namedPeer
+        → Gave s cancel i p j t words cells words′ cells′ Keep 0
+    unfolding blockOf withPeer
     cancel-put n m words′ cells′ b =
         let y : BlockInfo = record { state = x .state; «num_peers» = x .«num_peers»; «has_peer» = has; peer = peer } in
         gave-put draws cancel y words′ cells′ b
-        (λ records k a. cancel-other draws i _ j (namedPeer has peer) _ x (block-here x r records k a) n m y refl)
+        (λ records k a. cancel-other draws i _ j (namedPeer has peer) _ x (block-there s words cells i p j t x r records k a) n m y refl)

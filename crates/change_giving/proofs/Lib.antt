@@ -1,3 +1,2 @@
 pub mod PeerLaws
 pub mod GivingLaws
-pub mod WholeLaws

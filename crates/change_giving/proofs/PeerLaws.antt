@@ -11,11 +11,11 @@ use Rattle.model.specs.change.Changes.{released}
 use Rattle.memory_layout.specs.Decode.{stateFrom}
 use Rattle.memory_blocks.specs.declared.info.BlockInfo.{BlockInfo}
 use Rattle.memory_blocks.specs.Blocks.{blockOf}
-use Rattle.change_giving.specs.Returning.{namedPeer}
+use Rattle.change_blocks.specs.Replacing.{namedPeer}
 
 pub same-is : (has : Bool) (peer : ℕ) (has′ : Bool) (other : ℕ)
     → ((not has && not has′) || ((has && has′) && eqb peer other)) ≡ samePeer (namedPeer has peer) (namedPeer has′ other)
-unfolding samePeer namedPeer
+unfolding samePeer
 same-is true peer true other = refl
 same-is true peer false other = refl
 same-is false peer true other = refl
@@ -32,7 +32,7 @@ pub release-is : (b : BlockInfo) (has : Bool) (peer : ℕ) (same : Bool)
     → same ≡ samePeer (namedPeer (b .«has_peer») (b .peer)) (namedPeer has peer)
     → blockOf (record { state = 1; «num_peers» = b .«num_peers» - 1; «has_peer» = b .«has_peer» && not same; peer = b .peer })
     ≡ released (namedPeer has peer) (blockOf b)
-unfolding blockOf released namedPeer stateFrom nth
+unfolding blockOf released stateFrom nth
 release-is b has peer same e =
     ap (λ (o : Option ℕ). record { state = Requested; numPeers = b .«num_peers» - 1; peer = o })
     (forgotten (b .«has_peer») same (b .peer)

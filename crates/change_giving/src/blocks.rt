@@ -10,7 +10,8 @@ use memory_layout::Shape;
 use memory_records::Edit;
 ghost use Prim.Native.Nat.{_<_};
 ghost use Rattle.model.specs.change.Changes.{abortIn, cancelIn};
-ghost use Rattle.change_giving.specs.Returning.{namedPeer, TallyBeside, Gave};
+ghost use Rattle.change_blocks.specs.Replacing.{TallyBeside, namedPeer};
+ghost use Rattle.change_giving.specs.Returning.{Gave};
 
 // A requester less of block j of the partial of piece i at place p, whose blocks have the numbers of `t`: the block is free once its last
 // one is gone. Nothing where it is not requested.
@@ -28,7 +29,7 @@ pub fn release_block(
 ) -> Given
     requires { ⌜ TallyBeside s (now words) (now cells) i p j t ⌝ }
     requires { ⌜ i < s .pieces ⌝ }
-    ensures { λ r. ⌜ Gave s (now (draws .entry)) (λ found w. abortIn (now (draws .entry)) i found j (namedPeer «has_peer» peer) w) i p j t
+    ensures { λ r. ⌜ Gave s (λ found w. abortIn (now (draws .entry)) i found j (namedPeer «has_peer» peer) w) i p j t
         (now (words .entry)) (now (cells .entry)) (now (words .exit)) (now (cells .exit)) (r .edit) (r .used) ⌝ }
 {
     let b = get_block(words, cells, s, p, j);
@@ -70,7 +71,7 @@ pub fn cancel_block(
 ) -> Given
     requires { ⌜ TallyBeside s (now words) (now cells) i p j t ⌝ }
     requires { ⌜ i < s .pieces ⌝ }
-    ensures { λ r. ⌜ Gave s (now (draws .entry)) (λ found w. cancelIn (now (draws .entry)) i found j (namedPeer «has_peer» peer) w) i p j t
+    ensures { λ r. ⌜ Gave s (λ found w. cancelIn (now (draws .entry)) i found j (namedPeer «has_peer» peer) w) i p j t
         (now (words .entry)) (now (cells .entry)) (now (words .exit)) (now (cells .exit)) (r .edit) (r .used) ⌝ }
 {
     let b = get_block(words, cells, s, p, j);

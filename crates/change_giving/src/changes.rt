@@ -2,13 +2,11 @@
 use crate::blocks::cancel_block;
 use crate::blocks::release_block;
 use change_returns::Given;
-use change_tally::tally_of;
+use change_tally::standing_in;
 use memory_layout::Shape;
 use memory_records::Edit;
 use memory_records::Found;
-use memory_records::row;
 use memory_rows::find;
-use types::u32_to_usize;
 ghost use Prim.Native.Nat.{_<_};
 ghost use Rattle.model.specs.change.Changes.{abortDownload, markAsCanceled};
 ghost use Rattle.memory_records.specs.Rows.{recordsIn};
@@ -16,7 +14,7 @@ ghost use Rattle.memory_layout.specs.Decode.{blocksOf};
 ghost use Rattle.memory_layout.specs.Standing.{editRecords};
 ghost use Rattle.change_steps.specs.Whole.{Done};
 ghost use Rattle.change_tally.specs.RowsStanding.{RowsStand};
-ghost use Rattle.change_giving.specs.Returning.{namedPeer};
+ghost use Rattle.change_blocks.specs.Replacing.{namedPeer};
 
 // The named peer no longer asks for block j of piece i. Only a requested block of a standing partial is given back.
 pub fn abort_download(
@@ -44,10 +42,19 @@ pub fn abort_download(
             used: 0,
         };
     };
-    let record = row(rows, k);
-    let t = tally_of(words, rows, counts, s, k, i);
-    let p = u32_to_usize(record.info_idx);
-    release_block(words, cells, s, i, p, j, t, has_peer, peer, draws)
+    let d = standing_in(words, rows, counts, s, k, i);
+    release_block(
+        words,
+        cells,
+        s,
+        i,
+        d.place,
+        j,
+        d.tally,
+        has_peer,
+        peer,
+        draws,
+    )
 }
 
 // The write of block j of piece i, which the named peer brought, failed.
@@ -76,8 +83,17 @@ pub fn mark_as_canceled(
             used: 0,
         };
     };
-    let record = row(rows, k);
-    let t = tally_of(words, rows, counts, s, k, i);
-    let p = u32_to_usize(record.info_idx);
-    cancel_block(words, cells, s, i, p, j, t, has_peer, peer, draws)
+    let d = standing_in(words, rows, counts, s, k, i);
+    cancel_block(
+        words,
+        cells,
+        s,
+        i,
+        d.place,
+        j,
+        d.tally,
+        has_peer,
+        peer,
+        draws,
+    )
 }

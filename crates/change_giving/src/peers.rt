@@ -5,7 +5,7 @@ ghost use Prim.Native.Nat.{_<_};
 ghost use Rattle.model.specs.State.{samePeer};
 ghost use Rattle.model.specs.change.Changes.{released};
 ghost use Rattle.memory_blocks.specs.Blocks.{blockOf};
-ghost use Rattle.change_giving.specs.Returning.{namedPeer};
+ghost use Rattle.change_blocks.specs.Replacing.{namedPeer};
 
 // Two peers that are the same, or none of both.
 fn same_peer(has_peer: bool, peer: u64, has_other: bool, other: u64) -> bool

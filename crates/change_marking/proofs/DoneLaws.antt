@@ -20,13 +20,12 @@ use Rattle.model.proofs.base.Truths.{both-true, true-both}
 use Rattle.model.proofs.keep.KeepBlocks.{block-in, setBlock-keeps}
 use Rattle.model.proofs.keep.KeepClose.{finished-rank}
 use Rattle.model.proofs.sound.PartialLaws.{findDlPiece-piece, partialOf-put-same, size-put}
-use Rattle.change_blocks.specs.Replacing.{withBlockAt}
+use Rattle.change_blocks.specs.Replacing.{withBlockAt, namedPeer}
 use Rattle.change_blocks.proofs.TallyLaws.{count-set}
-use Rattle.change_marking.specs.Marking.{peerOf}
 use Rattle.change_marking.proofs.TurnedLaws.{update-partials}
 
 -- ---- the block
-pub peer-fits : (has : Bool) (peer : ℕ) → peer < 18446744073709551616 → peerOk (peerOf has peer) ≡ true
+pub peer-fits : (has : Bool) (peer : ℕ) → peer < 18446744073709551616 → peerOk (namedPeer has peer) ≡ true
 unfolding peerOk
 peer-fits true peer h = lt-ltb peer (2 ^ 64) h
 peer-fits false peer h = refl

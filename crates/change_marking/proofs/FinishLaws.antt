@@ -1,6 +1,6 @@
 -- A block of a standing partial on disk, in the buffers: left, replaced, or replaced and the piece flushed. Assumes nothing.
 use mathlib.Core.Path.{_≡_, refl, sym, ap, ap₂, _∙_, subst}
-use mathlib.Core.Bool.{Bool, true, false, not, _&&_}
+use mathlib.Core.Bool.{Bool, true, false, not, _&&_, true≢false}
 use mathlib.Core.Logic.{_≢_}
 use mathlib.Core.List.{List}
 use mathlib.Core.Option.{Option, none, some}
@@ -10,15 +10,15 @@ use lib.Dec.{eqb, leb}
 use borrow.Author.Tests.{eq-eqb, ne-eqb}
 use Rattle.types.specs.declared.block.BlockState.the-variants.{Writing, Finished}
 use Rattle.types.specs.Block.{blockStateNumber}
-use Rattle.model.specs.Lists.{len, nth, when}
+use Rattle.model.specs.Lists.{len, nth, when, filter}
 use Rattle.model.specs.Bep3.{bitOf, pieceBlocks}
-use Rattle.model.specs.State.{Block, DownloadingPiece, Picker, sameBlockState, hasPeer, withBlocks, blocksInPiece}
+use Rattle.model.specs.State.{Block, DownloadingPiece, Picker, sameBlockState, hasPeer, withBlocks, withPartials, blocksInPiece}
 use Rattle.model.specs.list.Order.{Draws, Drawing, drawing, noDraw, rank}
-use Rattle.model.specs.change.Partials.{partialOf, blockAt, blocksInState}
+use Rattle.model.specs.change.Partials.{partialOf, blockAt, blocksInState, dropPartial}
 use Rattle.model.specs.change.Changes.{setBlock, finishedBy, finishedPeer, allFinished, flushDone, pieceFlushed, markFinishedIn}
 use Rattle.model.specs.image.WellFormed.{peerOk}
 use Rattle.model.specs.image.Sound.{Sound}
-use Rattle.model.proofs.sound.PartialLaws.{findDlPiece-piece}
+use Rattle.model.proofs.sound.PartialLaws.{findDlPiece-piece, another, drop-put}
 use Rattle.model.proofs.sound.SoundLaws.{wellFormed-sound}
 use Rattle.memory_records.specs.declared.record.DownloadingPiece.{DownloadingPiece as Record}
 use Rattle.memory_records.specs.declared.edits.Edit.the-variants.{Keep, Remove}
@@ -34,13 +34,13 @@ use Rattle.memory_partials.proofs.MarkLaws.{standing-found}
 use Rattle.change_steps.specs.Working.{Went}
 use Rattle.change_steps.proofs.WorkLaws.{went-nowhere, went-named, went-then}
 use Rattle.change_state.specs.declared.states.Tally.{Tally}
-use Rattle.change_blocks.specs.Replacing.{withBlockAt, Retallied, BlockSet}
+use Rattle.change_blocks.specs.Replacing.{withBlockAt, Retallied, TallyAt, TallyBeside, namedPeer, BlockSet}
 use Rattle.change_blocks.proofs.TallyLaws.{count-most}
+use Rattle.change_blocks.proofs.StandingLaws.{block-there, block-within, set-there}
 use Rattle.change_flags.specs.Closing.{HasPartial, PartialBeside, Flushed}
-use Rattle.change_marking.specs.Marking.{TalliedAt, TalliedBeside, peerOf}
+use Rattle.change_flags.proofs.FlushLaws.{flushed-partials}
 use Rattle.change_marking.specs.Finishing.{FinishAt, FinishBeside, FinishedInfo, BlockFinished}
-use Rattle.change_marking.proofs.BlockLaws.{block-there, block-within, set-there}
-use Rattle.change_marking.proofs.DoneLaws.{one-finished, set-many, set-found, set-sound, flush-is, flush-rank}
+use Rattle.change_marking.proofs.DoneLaws.{one-finished, set-partials-are, set-many, set-found, set-sound, flush-is, flush-rank}
 
 -- ---- the block
 writing-is : (n : ℕ) → sameBlockState (stateFrom n) Writing ≡ eqb n 2
@@ -51,7 +51,7 @@ writing-is (suc (suc zero)) = refl
 writing-is (suc (suc (suc zero))) = refl
 writing-is (suc (suc (suc (suc n)))) = sym (ne-eqb (suc (suc (suc (suc n)))) 2 (λ e. absurd (omega (arith, e))))
 
-has-is : (has : Bool) (peer : ℕ) → hasPeer (peerOf has peer) ≡ has
+has-is : (has : Bool) (peer : ℕ) → hasPeer (namedPeer has peer) ≡ has
 unfolding hasPeer
 has-is true peer = refl
 has-is false peer = refl
@@ -67,7 +67,7 @@ module _ (b : BlockInfo) (has : Bool) (peer : ℕ) (x : BlockInfo) (es : x .stat
   info-kept h eh ep = record {
     state = es;
     is = λ y g.
-        subst (λ (v : Block). blockOf x ≡ finishedBy (finishedPeer (peerOf has peer) v) (v .numPeers)) g
+        subst (λ (v : Block). blockOf x ≡ finishedBy (finishedPeer (namedPeer has peer) v) (v .numPeers)) g
         (rw (es, state-three, en, eh, ep, writing-is (b .state), has-is has peer, h) refl);
   }
 
@@ -77,7 +77,7 @@ module _ (b : BlockInfo) (has : Bool) (peer : ℕ) (x : BlockInfo) (es : x .stat
   info-given h eh ep = record {
     state = es;
     is = λ y g.
-        subst (λ (v : Block). blockOf x ≡ finishedBy (finishedPeer (peerOf has peer) v) (v .numPeers)) g
+        subst (λ (v : Block). blockOf x ≡ finishedBy (finishedPeer (namedPeer has peer) v) (v .numPeers)) g
         (rw (es, state-three, en, eh, ep, writing-is (b .state), has-is has peer, h) refl);
   }
 
@@ -90,7 +90,7 @@ passed-bit flags = ap (λ (n : ℕ). eqb (n % 2) 1) one
     one = omega arith
 
 pub finish-beside : (s : Shape) (words cells : List ℕ) (i p j : ℕ) (t : Tally) (flags finished : ℕ)
-    → FinishBeside s words cells i p j t flags finished → TalliedBeside s words cells i p j t
+    → FinishBeside s words cells i p j t flags finished → TallyBeside s words cells i p j t
 finish-beside s words cells i p j t flags finished b = record { records = b .records; k = b .k; there = b .placed .there }
 
 -- one block more can be counted
@@ -106,7 +106,7 @@ finish-few s words cells i p j t flags finished b =
 
 module _ (s : Shape) (draws : Draws) (i p j : ℕ) (t : Tally) (flags finished : ℕ) (words cells : List ℕ) (used : ℕ) (b : BlockInfo)
     (r : BlockRead s words cells p j b) (has : Bool) (peer : ℕ) where
-  finished-test : (n : Bool) → eqb (b .state) 3 ≡ n → (records : List Record) (k : ℕ) → TalliedAt s records words cells i p j t k
+  finished-test : (n : Bool) → eqb (b .state) 3 ≡ n → (records : List Record) (k : ℕ) → TallyAt s records words cells i p j t k
       → sameBlockState (blockAt (partialIn (decode records words cells) k) j .state) Finished ≡ n
   unfolding sameBlockState
   finished-test n e records k a = rw (← block-there s words cells i p j t b r records k a .state) e
@@ -115,16 +115,19 @@ module _ (s : Shape) (draws : Draws) (i p j : ℕ) (t : Tally) (flags finished :
   pub finish-left : b .state ≡ 3 → BlockFinished s draws i p j has peer t flags finished words cells used words cells Keep used
   unfolding markFinishedIn
   finish-left e = record {
+    closed = false;
+    edits = refl;
     went = λ records k a.
         let q = partialIn (decode records words cells) k in
-        went-nowhere s records words cells used (markFinishedIn draws i (some q) j (peerOf has peer)) (a .there .stands .works)
+        went-nowhere s records words cells used (markFinishedIn draws i (some q) j (namedPeer has peer)) (a .there .stands .works)
         (rw (finished-test true (eq-eqb (b .state) 3 e) records k (a .there)) refl);
+    others = λ f. absurd (true≢false (sym f));
   }
 
   -- not before
   module _ (o : b .state ≢ 3) (after : Tally) (y : Retallied t (b .state) 3 after) (x : BlockInfo) (z : FinishedInfo b has peer x)
       (words₁ cells₁ : List ℕ) (next : ℕ) (g : BlockSet s draws i p j x after words cells used words₁ cells₁ next)
-      (pk : peerOk (peerOf has peer) ≡ true) where
+      (pk : peerOk (namedPeer has peer) ≡ true) where
     module _ (records : List Record) (k : ℕ) (a : FinishAt s records words cells i p j t flags finished k) where
       abbrev d : Picker
       d = decode records words cells
@@ -140,12 +143,12 @@ module _ (s : Shape) (draws : Draws) (i p j : ℕ) (t : Tally) (flags finished :
           let u = a .there .stands in
           standing-found s records words cells i p k (record { low = u .low; index = u .index; place = u .place }) (u .works .bounds) (u .rising)
 
-      block-is : blockOf x ≡ finishedBy (finishedPeer (peerOf has peer) (blockAt q j)) (blockAt q j .numPeers)
+      block-is : blockOf x ≡ finishedBy (finishedPeer (namedPeer has peer) (blockAt q j)) (blockAt q j .numPeers)
       block-is = z .is (blockAt q j) (block-there s words cells i p j t b r records k (a .there) .is)
 
       set-went : Went s (setBlock draws i q j (blockOf x)) records words cells used records words₁ cells₁ next
       set-went =
-          set-there s draws i p j t words cells used b r 3 (omega arith) after y x (z .state) words₁ cells₁ next g records k (a .there)
+          set-there s words cells i p j t b r draws used 3 (omega arith) after y x (z .state) words₁ cells₁ next g records k (a .there)
 
       picker-is : d₁ ≡ setBlock draws i q j (blockOf x) (drawing used d) .picker
       unfolding drawing
@@ -154,7 +157,7 @@ module _ (s : Shape) (draws : Draws) (i p j : ℕ) (t : Tally) (flags finished :
       sound-after : Sound d₁
       sound-after =
           subst Sound (sym (picker-is ∙ ap (λ (u : Block). setBlock draws i q j u (drawing used d) .picker) block-is))
-          (set-sound draws i d q j used found (wellFormed-sound d (a .sound)) (peerOf has peer) pk)
+          (set-sound draws i d q j used found (wellFormed-sound d (a .sound)) (namedPeer has peer) pk)
 
       found-after : partialOf d₁ i ≡ some (withBlockAt j (blockOf x) q)
       found-after = ap (λ (u : Picker). partialOf u i) picker-is ∙ set-found draws i d q j (blockOf x) used found
@@ -208,7 +211,7 @@ module _ (s : Shape) (draws : Draws) (i p j : ℕ) (t : Tally) (flags finished :
 
       -- the whole step, by what the flush makes of the picker
       named : (h : Picker → Picker) → flushDone i d₁ ≡ h d₁
-          → noDraw h (setBlock draws i q j (blockOf x) (drawing used d)) ≡ markFinishedIn draws i (some q) j (peerOf has peer) (drawing used d)
+          → noDraw h (setBlock draws i q j (blockOf x) (drawing used d)) ≡ markFinishedIn draws i (some q) j (namedPeer has peer) (drawing used d)
       unfolding markFinishedIn noDraw drawing
       named h e =
           rw (finished-test false (ne-eqb (b .state) 3 o) records k (a .there))
@@ -216,40 +219,59 @@ module _ (s : Shape) (draws : Draws) (i p j : ℕ) (t : Tally) (flags finished :
           ∙ ap (λ (u : Block). noDraw (flushDone i) (setBlock draws i q j u (drawing used d))) block-is)
 
       kept-went : false ≡ (leb (t .blocks) (finished + 1) && (bitOf flags 0 && (not (bitOf flags 2) && not (bitOf flags 1))))
-          → Went s (markFinishedIn draws i (some q) j (peerOf has peer)) records words cells used records words₁ cells₁ next
+          → Went s (markFinishedIn draws i (some q) j (namedPeer has peer)) records words cells used records words₁ cells₁ next
       unfolding noDraw drawing when withBlockAt withBlocks
       kept-went e =
           went-named s records words cells used records words₁ cells₁ next (setBlock draws i q j (blockOf x))
-          (markFinishedIn draws i (some q) j (peerOf has peer))
+          (markFinishedIn draws i (some q) j (namedPeer has peer))
           (named (λ u. u) (flush-is i d₁ (withBlockAt j (blockOf x) q) false found-after (done-is false e))) set-went
 
       flushed-went : true ≡ (leb (t .blocks) (finished + 1) && (bitOf flags 0 && (not (bitOf flags 2) && not (bitOf flags 1))))
           → (words₂ cells₂ : List ℕ) → Flushed s i words₁ cells₁ words₂ cells₂
-          → Went s (markFinishedIn draws i (some q) j (peerOf has peer)) records words cells used
+          → Went s (markFinishedIn draws i (some q) j (namedPeer has peer)) records words cells used
           (edited (headWord words 7) (Remove i) records) words₂ cells₂ next
       unfolding when withBlockAt withBlocks
       flushed-went e words₂ cells₂ w =
           let n = flush-rank i d₁ (withBlockAt j (blockOf x) q) sound-after found-after (done-is true e) in
-          subst (λ (m : ℕ). Went s (markFinishedIn draws i (some q) j (peerOf has peer)) records words cells used
+          subst (λ (m : ℕ). Went s (markFinishedIn draws i (some q) j (namedPeer has peer)) records words cells used
           (edited m (Remove i) records) words₂ cells₂ next) many-after
           (went-named s records words cells used (edited (headWord words₁ 7) (Remove i) records) words₂ cells₂ next
-          (λ v. noDraw (pieceFlushed i) (setBlock draws i q j (blockOf x) v)) (markFinishedIn draws i (some q) j (peerOf has peer))
+          (λ v. noDraw (pieceFlushed i) (setBlock draws i q j (blockOf x) v)) (markFinishedIn draws i (some q) j (namedPeer has peer))
           (named (pieceFlushed i) (flush-is i d₁ (withBlockAt j (blockOf x) q) true found-after (done-is true e)))
           (went-then s records words cells used records words₁ cells₁ next (setBlock draws i q j (blockOf x)) (noDraw (pieceFlushed i)) set-went
           (edited (headWord words₁ 7) (Remove i) records) words₂ cells₂ next (w .went records has-after n next)))
+
+      -- the other partials after the flush
+      flushed-others : true ≡ (leb (t .blocks) (finished + 1) && (bitOf flags 0 && (not (bitOf flags 2) && not (bitOf flags 1))))
+          → markFinishedIn draws i (some q) j (namedPeer has peer) (drawing used d) .picker .partials ≡ dropPartial i d .partials
+      unfolding noDraw drawing when withBlockAt withBlocks dropPartial withPartials partialOf
+      flushed-others e =
+          ap (λ (v : Drawing). v .picker .partials)
+          (sym (named (pieceFlushed i) (flush-is i d₁ (withBlockAt j (blockOf x) q) true found-after (done-is true e))))
+          ∙ flushed-partials i (setBlock draws i q j (blockOf x) (drawing used d) .picker)
+          ∙ ap (filter (another i)) (set-partials-are draws i d q j (blockOf x) used found)
+          ∙ drop-put i (withBlockAt j (blockOf x) q) (d .partials) (findDlPiece-piece i (d .partials) q found)
 
     pub flush-asks : FinishBeside s words cells i p j t flags finished → PartialBeside s i words₁ cells₁
     flush-asks a = record { records = a .records; has = has-after (a .records) (a .k) (a .placed) }
 
     pub finish-kept : false ≡ (leb (t .blocks) (finished + 1) && (bitOf flags 0 && (not (bitOf flags 2) && not (bitOf flags 1))))
         → BlockFinished s draws i p j has peer t flags finished words cells used words₁ cells₁ Keep next
-    finish-kept e = record { went = λ records k a. kept-went records k a e }
+    finish-kept e = record {
+      closed = false;
+      edits = refl;
+      went = λ records k a. kept-went records k a e;
+      others = λ f. absurd (true≢false (sym f));
+    }
 
     pub finish-flushed : true ≡ (leb (t .blocks) (finished + 1) && (bitOf flags 0 && (not (bitOf flags 2) && not (bitOf flags 1))))
         → (n : ℕ) → n ≡ i → (words₂ cells₂ : List ℕ) → Flushed s i words₁ cells₁ words₂ cells₂
         → BlockFinished s draws i p j has peer t flags finished words cells used words₂ cells₂ (Remove n) next
     finish-flushed e n en words₂ cells₂ w = record {
+      closed = true;
+      edits = ap Remove en;
       went = λ records k a.
-          subst (λ (m : ℕ). Went s (markFinishedIn draws i (some (partialIn (decode records words cells) k)) j (peerOf has peer)) records words
+          subst (λ (m : ℕ). Went s (markFinishedIn draws i (some (partialIn (decode records words cells) k)) j (namedPeer has peer)) records words
           cells used (edited (headWord words 7) (Remove m) records) words₂ cells₂ next) (sym en) (flushed-went records k a e words₂ cells₂ w);
+      others = λ f records k a. flushed-others records k a e;
     }

@@ -18,18 +18,19 @@ use Rattle.memory_blocks.specs.declared.info.BlockInfo.{BlockInfo}
 use Rattle.memory_blocks.specs.Blocks.{blockOf, BlockRead, BlockStored}
 use Rattle.change_steps.proofs.WorkLaws.{went-named}
 use Rattle.change_state.specs.declared.states.Tally.{Tally}
-use Rattle.change_blocks.specs.Replacing.{Retallied, BlockSet}
+use Rattle.change_blocks.specs.Replacing.{Retallied, namedPeer, BlockSet}
 use Rattle.change_blocks.proofs.SetLaws.{put-went}
-use Rattle.change_marking.specs.Marking.{TalliedAt, peerOf, Written}
-use Rattle.change_marking.proofs.BlockLaws.{received-high, received-low, block-there, set-there}
+use Rattle.change_blocks.proofs.StandingLaws.{block-there, set-there}
+use Rattle.change_marking.specs.Marking.{Written}
+use Rattle.change_marking.proofs.BlockLaws.{received-high, received-low}
 
 -- the block of the numbers that are stored
 kept-is : (x b : BlockInfo) (y : Block) → x .state ≡ b .state → x .«num_peers» ≡ b .«num_peers» → blockOf b ≡ y
-    → blockOf x ≡ withPeer (peerOf (x .«has_peer») (x .peer)) y
+    → blockOf x ≡ withPeer (namedPeer (x .«has_peer») (x .peer)) y
 unfolding blockOf withPeer
-kept-is x b y e f h = subst (λ (z : Block). blockOf x ≡ withPeer (peerOf (x .«has_peer») (x .peer)) z) h (rw (e, f) refl)
+kept-is x b y e f h = subst (λ (z : Block). blockOf x ≡ withPeer (namedPeer (x .«has_peer») (x .peer)) z) h (rw (e, f) refl)
 
-written-is : (x : BlockInfo) → x .state ≡ 2 → x .«num_peers» ≡ 0 → blockOf x ≡ writtenBy (peerOf (x .«has_peer») (x .peer))
+written-is : (x : BlockInfo) → x .state ≡ 2 → x .«num_peers» ≡ 0 → blockOf x ≡ writtenBy (namedPeer (x .«has_peer») (x .peer))
 unfolding blockOf writtenBy stateFrom nth
 written-is x e f = rw (e, f) refl
 
@@ -46,7 +47,7 @@ module _ (s : Shape) (draws : Draws) (i p j : ℕ) (t : Tally) (words cells : Li
           let d = partialIn (decode records words cells) k in
           let z = block-there s words cells i p j t b r records k a in
           went-named s records words cells used records words′ cells′ used (noDraw (λ q. replaceBlock (partialIn q k) j (blockOf x) q))
-          (λ w. markWritingIn draws i (some d) j (peerOf (x .«has_peer») (x .peer)) w .after)
+          (λ w. markWritingIn draws i (some d) j (namedPeer (x .«has_peer») (x .peer)) w .after)
           (rw (received-high (blockAt d j) (b .state) (z .state) h)
           (ap (λ (q : Block). drawing used (replaceBlock d j q (decode records words cells))) (kept-is x b (blockAt d j) e f (z .is))))
           (put-went s i p j x words cells words′ cells′ g records k (a .stands) used);
@@ -66,10 +67,10 @@ module _ (s : Shape) (draws : Draws) (i p j : ℕ) (t : Tally) (words cells : Li
       went = λ records k a.
           let d = partialIn (decode records words cells) k in
           went-named s records words cells used records words′ cells′ next (setBlock draws i d j (blockOf x))
-          (λ w. markWritingIn draws i (some d) j (peerOf (x .«has_peer») (x .peer)) w .after)
+          (λ w. markWritingIn draws i (some d) j (namedPeer (x .«has_peer») (x .peer)) w .after)
           (rw (received-low (blockAt d j) (b .state) (block-there s words cells i p j t b r records k a .state) h)
           (ap (λ (q : Block). setBlock draws i d j q (drawing used (decode records words cells))) (written-is x e f)))
-          (set-there s draws i p j t words cells used b r 2 (omega arith) after y x e words′ cells′ next g records k a);
+          (set-there s words cells i p j t b r draws used 2 (omega arith) after y x e words′ cells′ next g records k a);
       answer = λ records k a.
           let d = partialIn (decode records words cells) k in
           rw (received-low (blockAt d j) (b .state) (block-there s words cells i p j t b r records k a .state) h) refl;

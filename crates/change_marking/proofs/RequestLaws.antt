@@ -23,21 +23,22 @@ use Rattle.change_steps.proofs.WorkLaws.{went-nowhere, went-named, went-then}
 use Rattle.change_state.specs.declared.states.Tally.{Tally}
 use Rattle.change_state.specs.Numbers.{IsTally}
 use Rattle.change_direction.specs.Turning.{MadeReverse}
-use Rattle.change_blocks.specs.Replacing.{withBlockAt, Retallied, PartialAt, PartialBeside, BlockSet}
-use Rattle.change_marking.specs.Marking.{TalliedAt, TalliedBeside, RequestBeside, peerOf, Requested}
-use Rattle.change_marking.proofs.BlockLaws.{received-high, received-low, block-there, block-within}
+use Rattle.change_blocks.specs.Replacing.{withBlockAt, Retallied, PartialAt, PartialBeside, TallyAt, TallyBeside, namedPeer, BlockSet}
+use Rattle.change_blocks.proofs.StandingLaws.{block-there, block-within}
+use Rattle.change_marking.specs.Marking.{RequestBeside, Requested}
+use Rattle.change_marking.proofs.BlockLaws.{received-high, received-low}
 use Rattle.change_marking.proofs.TurnedLaws.{reverse-few, reverse-partials, block-few, next-is, partial-same, stands-on}
 
 -- the block of the numbers that are stored
 requested-is : (x : BlockInfo) (n : ℕ) → x .state ≡ 1 → x .«num_peers» ≡ suc n
-    → blockOf x ≡ requestedBy (peerOf (x .«has_peer») (x .peer)) (suc n)
+    → blockOf x ≡ requestedBy (namedPeer (x .«has_peer») (x .peer)) (suc n)
 unfolding blockOf requestedBy stateFrom nth
 requested-is x n e f = rw (e, f) refl
 
 module _ (s : Shape) (draws : Draws) (i p j : ℕ) (back : Bool) (t : Tally) (words cells : List ℕ) (used : ℕ) (b : BlockInfo)
     (r : BlockRead s words cells p j b) where
   -- its peers
-  count-is : (records : List Record) (k : ℕ) → TalliedAt s records words cells i p j t k
+  count-is : (records : List Record) (k : ℕ) → TallyAt s records words cells i p j t k
       → b .«num_peers» ≡ blockAt (partialIn (decode records words cells) k) j .numPeers
   unfolding blockOf
   count-is records k a = ap (λ (y : Block). y .numPeers) (block-there s words cells i p j t b r records k a .is)
@@ -54,7 +55,7 @@ module _ (s : Shape) (draws : Draws) (i p j : ℕ) (back : Bool) (t : Tally) (wo
     marks = λ options e. record {
       went = λ records k a.
           let d = partialIn (decode records words cells) k in
-          went-nowhere s records words cells used (λ w. markDownloadingIn draws i (some d) j (peerOf has peer) options w .after)
+          went-nowhere s records words cells used (λ w. markDownloadingIn draws i (some d) j (namedPeer has peer) options w .after)
           (a .stands .works) (rw (received-high (blockAt d j) (b .state) (block-there s words cells i p j t b r records k a .state) h) refl);
       answer = λ records k a.
           let d = partialIn (decode records words cells) k in
@@ -64,19 +65,19 @@ module _ (s : Shape) (draws : Draws) (i p j : ℕ) (back : Bool) (t : Tally) (wo
 
   -- ---- turned
   module _ (words₁ cells₁ : List ℕ) (turned : ℕ) (m : MadeReverse s draws i back (t .requested) words cells used words₁ cells₁ turned) where
-    turned-went : (records : List Record) (k : ℕ) → TalliedAt s records words cells i p j t k
+    turned-went : (records : List Record) (k : ℕ) → TallyAt s records words cells i p j t k
         → Went s (makePieceReverse draws i back (partialIn (decode records words cells) k)) records words cells used records words₁ cells₁ turned
     turned-went records k a =
         m .went records (a .stands .works) (partialIn (decode records words cells) k) (a .tally .requested)
 
-    turned-stands : (records : List Record) (k : ℕ) → TalliedAt s records words cells i p j t k → PartialAt s records words₁ cells₁ i p j k
+    turned-stands : (records : List Record) (k : ℕ) → TallyAt s records words cells i p j t k → PartialAt s records words₁ cells₁ i p j k
     unfolding drawing
     turned-stands records k a =
         let d = partialIn (decode records words cells) k in
         stands-on s (makePieceReverse draws i back d) records words cells used words₁ cells₁ turned (turned-went records k a)
         (reverse-partials draws i back d (drawing used (decode records words cells))) i p j k (a .stands)
 
-    turned-few : (records : List Record) (k : ℕ) → TalliedAt s records words cells i p j t k → turned ≤ used + 1
+    turned-few : (records : List Record) (k : ℕ) → TallyAt s records words cells i p j t k → turned ≤ used + 1
     unfolding drawing
     turned-few records k a =
         let d = partialIn (decode records words cells) k in
@@ -85,7 +86,7 @@ module _ (s : Shape) (draws : Draws) (i p j : ℕ) (back : Bool) (t : Tally) (wo
         (reverse-partials draws i back d w) in
         omega (arith, e, reverse-few draws i back d w)
 
-    pub turned-asks : TalliedBeside s words cells i p j t → PartialBeside s words₁ cells₁ i p j × (turned ≤ used + 1)
+    pub turned-asks : TallyBeside s words cells i p j t → PartialBeside s words₁ cells₁ i p j × (turned ≤ used + 1)
     turned-asks a = (
       record { records = a .records; k = a .k; stands = turned-stands (a .records) (a .k) (a .there) },
       turned-few (a .records) (a .k) (a .there),
@@ -95,7 +96,7 @@ module _ (s : Shape) (draws : Draws) (i p j : ℕ) (back : Bool) (t : Tally) (wo
     module _ (after : Tally) (y : Retallied t (b .state) 1 after) (x : BlockInfo) (ex : x .state ≡ 1)
         (en : x .«num_peers» ≡ b .«num_peers» + 1) (words₂ cells₂ : List ℕ) (next : ℕ)
         (g : BlockSet s draws i p j x after words₁ cells₁ turned words₂ cells₂ next) where
-      set-went : (records : List Record) (k : ℕ) → TalliedAt s records words cells i p j t k
+      set-went : (records : List Record) (k : ℕ) → TallyAt s records words cells i p j t k
           → Went s (setBlock draws i (partialIn (decode records words cells) k) j (blockOf x)) records words₁ cells₁ turned records words₂ cells₂ next
       unfolding blockOf stateFrom nth drawing
       set-went records k a =
@@ -108,7 +109,7 @@ module _ (s : Shape) (draws : Draws) (i p j : ℕ) (back : Bool) (t : Tally) (wo
           (g .went records k (turned-stands records k a)
           (subst (λ (q : DownloadingPiece). IsTally after (withBlockAt j (blockOf x) q)) (sym same) c))
 
-      pub set-asks : TalliedBeside s words cells i p j t → WorksBeside s words₂ cells₂ × (next ≤ used + 2)
+      pub set-asks : TallyBeside s words cells i p j t → WorksBeside s words₂ cells₂ × (next ≤ used + 2)
       unfolding drawing
       set-asks a =
           let d = partialIn (decode (a .records) words cells) (a .k) in
@@ -137,7 +138,7 @@ module _ (s : Shape) (draws : Draws) (i p j : ℕ) (back : Bool) (t : Tally) (wo
               let w = set-went records k a in
               went-named s records words cells used records words₃ cells₃ last
               (λ v. unreversePiece draws i back (setBlock draws i d j (blockOf x) (makePieceReverse draws i back d v)))
-              (λ v. markDownloadingIn draws i (some d) j (peerOf (x .«has_peer») (x .peer)) options v .after)
+              (λ v. markDownloadingIn draws i (some d) j (namedPeer (x .«has_peer») (x .peer)) options v .after)
               (rw (received-low (blockAt d j) (b .state) (z .state) h, ← e)
               (ap (λ (q : Block). unreversePiece draws i back (setBlock draws i d j q (makePieceReverse draws i back d
               (drawing used (decode records words cells)))))

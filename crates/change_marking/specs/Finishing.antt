@@ -3,7 +3,6 @@ use Prim.Native.Nat.{ℕ}
 use mathlib.Core.Path.{_≡_}
 use mathlib.Core.Bool.{Bool, true}
 use mathlib.Core.List.{List}
-use mathlib.Core.Option.{some}
 use Rattle.types.specs.declared.block.BlockState.the-variants.{Finished}
 use Rattle.model.specs.State.{Block}
 use Rattle.model.specs.list.Order.{Draws}
@@ -12,22 +11,21 @@ use Rattle.model.specs.change.Changes.{finishedBy, finishedPeer, markFinishedIn
 use Rattle.model.specs.image.WellFormed.{wellFormed}
 use Rattle.memory_records.specs.declared.record.DownloadingPiece.{DownloadingPiece as Record}
 use Rattle.memory_records.specs.declared.edits.Edit.{Edit}
-use Rattle.memory_records.specs.Records.{edited}
 use Rattle.memory_layout.specs.declared.shape.Shape.{Shape}
-use Rattle.memory_layout.specs.Decode.{headWord, recordAt, decode}
+use Rattle.memory_layout.specs.Decode.{recordAt, decode}
 use Rattle.memory_layout.specs.Changes.{partialIn}
 use Rattle.memory_blocks.specs.declared.info.BlockInfo.{BlockInfo}
 use Rattle.memory_blocks.specs.Blocks.{blockOf}
-use Rattle.change_steps.specs.Working.{Went}
 use Rattle.change_state.specs.declared.states.Tally.{Tally}
-use Rattle.change_marking.specs.Marking.{TalliedAt, peerOf}
+use Rattle.change_blocks.specs.Replacing.{TallyAt, namedPeer}
+use Rattle.change_returns.specs.Giving.{PartialChanged}
 
 -- ---- before
 -- record k is the partial of piece i at place p in a well-formed picker; it has these flags, its blocks the numbers of t, and so many of
 -- them are on disk
 pub record FinishAt (s : Shape) (records : List Record) (words cells : List ℕ) (i p j : ℕ) (t : Tally) (flags finished k : ℕ)
     : Type 0 where
-  pub there : TalliedAt s records words cells i p j t k
+  pub there : TallyAt s records words cells i p j t k
   pub sound : wellFormed (decode records words cells) ≡ true
   pub flagged : recordAt records k .flags ≡ flags
   pub counted : finished ≡ blocksInState Finished (partialIn (decode records words cells) k)
@@ -42,11 +40,11 @@ pub record FinishBeside (s : Shape) (words cells : List ℕ) (i p j : ℕ) (t : 
 -- the numbers of block b once it is on disk
 pub record FinishedInfo (b : BlockInfo) (has : Bool) (peer : ℕ) (x : BlockInfo) : Type 0 where
   pub state : x .state ≡ 3
-  pub is : (y : Block) → blockOf b ≡ y → blockOf x ≡ finishedBy (finishedPeer (peerOf has peer) y) (y .numPeers)
+  pub is : (y : Block) → blockOf b ≡ y → blockOf x ≡ finishedBy (finishedPeer (namedPeer has peer) y) (y .numPeers)
 
--- the definition's `markFinishedIn` of a standing partial, with whichever records stand beside, once their one edit is made
-pub record BlockFinished (s : Shape) (draws : Draws) (i p j : ℕ) (has : Bool) (peer : ℕ) (t : Tally) (flags finished : ℕ)
-    (words cells : List ℕ) (used : ℕ) (words′ cells′ : List ℕ) (edit : Edit) (next : ℕ) : Type 0 where
-  pub went : (records : List Record) (k : ℕ) → FinishAt s records words cells i p j t flags finished k
-      → Went s (markFinishedIn draws i (some (partialIn (decode records words cells) k)) j (peerOf has peer)) records words cells used
-      (edited (headWord words 7) edit records) words′ cells′ next
+-- the definition's `markFinishedIn` of a standing partial
+abbrev pub BlockFinished : (s : Shape) (draws : Draws) (i p j : ℕ) (has : Bool) (peer : ℕ) (t : Tally) (flags finished : ℕ)
+    (words cells : List ℕ) (used : ℕ) (words′ cells′ : List ℕ) (edit : Edit) (next : ℕ) → Type 0
+BlockFinished s draws i p j has peer t flags finished words cells used words′ cells′ edit next =
+    PartialChanged s (λ found w. markFinishedIn draws i found j (namedPeer has peer) w) i
+    (λ records k. FinishAt s records words cells i p j t flags finished k) words cells used words′ cells′ edit next

@@ -1,9 +1,9 @@
 -- A mark of a block whose piece has a partial, by the numbers of the partial's blocks. Assumes nothing.
 use Prim.Native.Nat.{ℕ, _<_}
 use mathlib.Core.Path.{_≡_}
-use mathlib.Core.Bool.{Bool, cond}
+use mathlib.Core.Bool.{Bool}
 use mathlib.Core.List.{List}
-use mathlib.Core.Option.{Option, none, some}
+use mathlib.Core.Option.{some}
 use Rattle.model.specs.State.{DownloadingPiece}
 use Rattle.model.specs.list.Order.{Draws, Drawing, drawing}
 use Rattle.model.specs.change.Partials.{blockAt}
@@ -14,47 +14,31 @@ use Rattle.memory_layout.specs.Decode.{decode}
 use Rattle.memory_layout.specs.Changes.{partialIn}
 use Rattle.change_steps.specs.Working.{Went}
 use Rattle.change_state.specs.declared.states.Tally.{Tally}
-use Rattle.change_state.specs.Numbers.{IsTally}
-use Rattle.change_blocks.specs.Replacing.{PartialAt}
+use Rattle.change_blocks.specs.Replacing.{TallyAt, TallyBeside, namedPeer}
 use Rattle.change_marking.specs.declared.answers.Marked.{Marked}
 
 -- ---- before
--- record k is the partial of piece i at place p, which has a block j, and its blocks have the numbers of t
-pub record TalliedAt (s : Shape) (records : List Record) (words cells : List ℕ) (i p j : ℕ) (t : Tally) (k : ℕ) : Type 0 where
-  pub stands : PartialAt s records words cells i p j k
-  pub tally : IsTally t (partialIn (decode records words cells) k)
-
--- it is so with some records beside these words and cells
-pub record TalliedBeside (s : Shape) (words cells : List ℕ) (i p j : ℕ) (t : Tally) : Type 0 where
-  pub records : List Record
-  pub k : ℕ
-  pub there : TalliedAt s records words cells i p j t k
-
--- and one peer more can be counted
+-- the partial of piece i stands at place p with the numbers of t, it has a block j, and one peer more of it can be counted
 pub record RequestBeside (s : Shape) (words cells : List ℕ) (i p j : ℕ) (t : Tally) : Type 0 where
-  pub beside : TalliedBeside s words cells i p j t
+  pub beside : TallyBeside s words cells i p j t
   pub few : blockAt (partialIn (decode (beside .records) words cells) (beside .k)) j .numPeers < 65535
 
 -- ---- after
 -- the mark is made with whichever records stand beside, which stay, of the partial at place p; the answer is the definition's
 pub record Marks (s : Shape) (mark : DownloadingPiece → Drawing → Change) (i p j : ℕ) (t : Tally) (words cells : List ℕ) (used : ℕ)
     (words′ cells′ : List ℕ) (r : Marked) : Type 0 where
-  pub went : (records : List Record) (k : ℕ) → TalliedAt s records words cells i p j t k
+  pub went : (records : List Record) (k : ℕ) → TallyAt s records words cells i p j t k
       → Went s (λ w. mark (partialIn (decode records words cells) k) w .after) records words cells used records words′ cells′ (r .used)
-  pub answer : (records : List Record) (k : ℕ) → TalliedAt s records words cells i p j t k
+  pub answer : (records : List Record) (k : ℕ) → TallyAt s records words cells i p j t k
       → mark (partialIn (decode records words cells) k) (drawing used (decode records words cells)) .answer ≡ some (r .answer)
-
--- the peer of these numbers
-abbrev pub peerOf : (has : Bool) (peer : ℕ) → Option ℕ
-peerOf has peer = cond has (some peer) none
 
 -- the definition's `markDownloadingIn` of a standing partial
 pub record Requested (s : Shape) (draws : Draws) (i p j : ℕ) (back has : Bool) (peer : ℕ) (t : Tally) (words cells : List ℕ) (used : ℕ)
     (words′ cells′ : List ℕ) (r : Marked) : Type 0 where
   pub marks : (options : ℕ) → back ≡ reverseAsked options
-      → Marks s (λ d. markDownloadingIn draws i (some d) j (peerOf has peer) options) i p j t words cells used words′ cells′ r
+      → Marks s (λ d. markDownloadingIn draws i (some d) j (namedPeer has peer) options) i p j t words cells used words′ cells′ r
 
 -- the definition's `markWritingIn` of one
 pub record Written (s : Shape) (draws : Draws) (i p j : ℕ) (has : Bool) (peer : ℕ) (t : Tally) (words cells : List ℕ) (used : ℕ)
     (words′ cells′ : List ℕ) (r : Marked) : Type 0 where
-  pub marks : Marks s (λ d. markWritingIn draws i (some d) j (peerOf has peer)) i p j t words cells used words′ cells′ r
+  pub marks : Marks s (λ d. markWritingIn draws i (some d) j (namedPeer has peer)) i p j t words cells used words′ cells′ r

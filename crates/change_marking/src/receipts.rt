@@ -9,7 +9,8 @@ use memory_blocks::put_block;
 use memory_layout::Shape;
 ghost use Prim.Native.Nat.{_≤_, _<_};
 ghost use lib.ListN.{length};
-ghost use Rattle.change_marking.specs.Marking.{TalliedBeside, Written};
+ghost use Rattle.change_blocks.specs.Replacing.{TallyBeside};
+ghost use Rattle.change_marking.specs.Marking.{Written};
 
 // Block j of the partial of piece i at place p, whose blocks have the numbers of `t`, was brought by a peer. One that was received before
 // only changes its peer.
@@ -26,7 +27,7 @@ pub fn write_block(
     draws: &[u32],
     used: usize,
 ) -> Marked
-    requires { ⌜ TalliedBeside s (now words) (now cells) i p j t ⌝ }
+    requires { ⌜ TallyBeside s (now words) (now cells) i p j t ⌝ }
     requires { ⌜ i < s .pieces ⌝ }
     requires { ⌜ used ≤ length (now draws) ⌝ }
     ensures { λ r. ⌜ Written s (now (draws .entry)) i p j «has_peer» peer t (now (words .entry)) (now (cells .entry)) used

@@ -2,12 +2,11 @@
 use mathlib.Core.Path.{_≡_, refl, sym, ap, ap₂, _∙_, subst}
 use mathlib.Core.Bool.{true, false, not, _&&_}
 use mathlib.Core.List.{List}
-use Prim.Native.Nat.{ℕ, _≤_, _<_}
+use Prim.Native.Nat.{ℕ, _≤_}
 use native.Mathlib.Omega.{arith}
 use lib.Dec.{eqb, ltb}
 use Rattle.types.specs.declared.block.BlockState.the-variants.{Requested}
-use Rattle.types.specs.Block.{blockStateNumber}
-use Rattle.model.specs.Lists.{bit, len}
+use Rattle.model.specs.Lists.{bit}
 use Rattle.model.specs.State.{Block, sameBlockState}
 use Rattle.model.specs.list.Order.{Draws}
 use Rattle.model.specs.change.Partials.{progress, blocksInState, eraseAndUpdate}
@@ -17,33 +16,27 @@ use Rattle.memory_records.specs.declared.edits.Edit.{Edit}
 use Rattle.memory_records.specs.declared.edits.Edit.the-variants.{Keep, Remove}
 use Rattle.memory_records.specs.Records.{edited}
 use Rattle.memory_layout.specs.declared.shape.Shape.{Shape}
-use Rattle.memory_layout.specs.Decode.{headWord, recordAt, blocksOf, decode, stateFrom}
+use Rattle.memory_layout.specs.Decode.{headWord, recordAt, decode}
 use Rattle.memory_layout.specs.Changes.{partialIn}
 use Rattle.memory_layout.proofs.BoundsLaws.{blocks-within}
 use Rattle.memory_layout.proofs.Meanings.{blocks-number}
-use Rattle.memory_layout.proofs.Numbers.{state-number}
 use Rattle.memory_blocks.specs.declared.info.BlockInfo.{BlockInfo}
-use Rattle.memory_blocks.specs.Blocks.{blockOf}
-use Rattle.memory_partials.proofs.MarkLaws.{Standing, standing-found}
+use Rattle.memory_blocks.specs.Blocks.{blockOf, BlockRead}
+use Rattle.memory_partials.proofs.MarkLaws.{standing-found}
 use Rattle.change_steps.specs.Working.{Went}
 use Rattle.change_steps.proofs.WorkLaws.{went-named}
 use Rattle.change_state.specs.declared.states.Tally.{Tally}
-use Rattle.change_state.specs.Numbers.{IsTally}
-use Rattle.change_blocks.specs.Replacing.{Retallied, PartialAt, PartialBeside as BlocksBeside, BlockSet}
+use Rattle.change_blocks.specs.Replacing.{Retallied, PartialBeside as BlocksBeside, TallyBeside, BlockSet}
 use Rattle.change_blocks.proofs.TallyLaws.{count-most, busy-counts, requested-counts}
+use Rattle.change_blocks.proofs.StandingLaws.{state-of, block-within, block-there}
 use Rattle.change_flags.specs.Closing.{HasPartial, PartialBeside, ErasedAndUpdated}
 use Rattle.change_returns.specs.Giving.{BlockAt, BlockBeside, closing, BlockFreed}
-
--- state 0 is that of a free block
-state-free : (x : BlockInfo) → x .state ≡ 0 → 0 ≡ blockStateNumber (blockOf x .state)
-unfolding blockOf
-state-free x e = sym (ap (λ (v : ℕ). blockStateNumber (stateFrom v)) e ∙ state-number 0 (omega arith))
 
 module _ (s : Shape) (words cells : List ℕ) (i p j old : ℕ) (t : Tally) where
   -- the piece has a partial
   has : (records : List Record) (k : ℕ) → BlockAt s records words cells i p j old t k → HasPartial s i records words cells
   has records k b =
-      let a = b .stands in
+      let a = b .at .stands in
       record {
         works = a .works;
         rising = a .rising;
@@ -56,14 +49,20 @@ module _ (s : Shape) (words cells : List ℕ) (i p j old : ℕ) (t : Tally) wher
   partial-beside b = record { records = b .records; has = has (b .records) (b .k) (b .there) }
 
   pub blocks-beside : BlockBeside s words cells i p j old t → BlocksBeside s words cells i p j
-  blocks-beside b = record { records = b .records; k = b .k; stands = b .there .stands }
+  blocks-beside b = record { records = b .records; k = b .k; stands = b .there .at .stands }
 
-  -- the partial has the block
-  blocks-there : (records : List Record) (k : ℕ) → BlockAt s records words cells i p j old t k
-      → j < len (partialIn (decode records words cells) k .blocks)
-  blocks-there records k b =
-      let a = b .stands in
-      omega (arith, a .block, blocks-number s records words cells (a .works .bounds) k (a .low), ap (blocksOf words) (a .index))
+  -- the block that was read is in that state
+  pub block-beside : (x : BlockInfo) → BlockRead s words cells p j x → x .state ≡ old → TallyBeside s words cells i p j t
+      → BlockBeside s words cells i p j old t
+  block-beside x r e b =
+      record {
+        records = b .records;
+        k = b .k;
+        there = record {
+          at = b .there;
+          state = sym e ∙ block-there s words cells i p j t x r (b .records) (b .k) (b .there) .state;
+        };
+      }
 
   -- what taking the block out of the numbers asks
   pub retally-asks : BlockBeside s words cells i p j old t
@@ -72,10 +71,10 @@ module _ (s : Shape) (words cells : List ℕ) (i p j old : ℕ) (t : Tally) wher
   retally-asks b =
       let records = b .records in
       let k = b .k in
-      let a = b .there .stands in
-      let y = b .there .tally in
+      let a = b .there .at .stands in
+      let y = b .there .at .tally in
       let q = partialIn (decode records words cells) k in
-      let h = blocks-there records k (b .there) in
+      let h = block-within s words cells i p j t records k (b .there .at) in
       let n = blocks-number s records words cells (a .works .bounds) k (a .low) in
       let m = blocks-within s records words cells (a .works .bounds) (recordAt records k .index) in
       let w = a .works .bounds .spans .inWords .sizes .wide in
@@ -86,11 +85,16 @@ module _ (s : Shape) (words cells : List ℕ) (i p j old : ℕ) (t : Tally) wher
         (omega (arith, f, y .requested, requested-counts q j h), omega (arith, y .requested, c, n, m, w)),
       )
 
+  -- the same of the block that was read
+  pub retally-read : (x : BlockInfo) → BlockRead s words cells p j x → x .state ≡ old → TallyBeside s words cells i p j t
+      → ((bit (ltb 0 old) ≤ t .busy) × (t .busy ≤ 256)) × ((bit (eqb old 1) ≤ t .requested) × (t .requested ≤ 256))
+  retally-read x r e b = retally-asks (block-beside x r e b)
+
   -- the code's test is the definition's
   test-is : (records : List Record) (k : ℕ) → BlockAt s records words cells i p j old t k
       → (eqb (t .busy) 1 && not (t .hashing))
       ≡ (eqb (progress (partialIn (decode records words cells) k)) 1 && not (partialIn (decode records words cells) k .hashing))
-  test-is records k b = rw (b .tally .busy, b .tally .hashing) refl
+  test-is records k b = rw (b .at .tally .busy, b .at .tally .hashing) refl
 
   module _ (x : BlockInfo) (draws : Draws) (used : ℕ) (words′ cells′ : List ℕ) (next : ℕ) where
     -- closed
@@ -119,6 +123,7 @@ module _ (s : Shape) (words cells : List ℕ) (i p j old : ℕ) (t : Tally) wher
           let d = decode records words cells in
           went-named s records words cells used records words′ cells′ next (setBlock draws i (partialIn d k) j (blockOf x))
           (freeBlock draws i (partialIn d k) j (blockOf x)) (rw (← test-is records k b, ← o))
-          (g .went records k (b .stands)
-          (r .is (partialIn d k) j (blockOf x) (b .tally) (blocks-there records k b) (b .state) (state-free x z)));
+          (g .went records k (b .at .stands)
+          (r .is (partialIn d k) j (blockOf x) (b .at .tally) (block-within s words cells i p j t records k (b .at)) (b .state)
+          (state-of x 0 z (omega arith))));
     }

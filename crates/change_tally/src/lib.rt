@@ -1,4 +1,7 @@
-// The numbers of a partial's blocks that `update_piece_state` looks at, from the local rows and the counts beside them.
+// What stands in the row of a partial, from the local rows and the counts beside them: the numbers of its blocks that `update_piece_state`
+// looks at, and what else a change of its blocks needs.
+mod standing;
+
 use change_state::Tally;
 use memory_layout::Shape;
 use memory_partials::blocks_in_piece;
@@ -6,6 +9,8 @@ use memory_records::row;
 use memory_rows::finished;
 use memory_rows::requested;
 use memory_rows::writing;
+pub use standing::Standing;
+pub use standing::standing_in;
 ghost use mathlib.Core.Path.{_≡_};
 ghost use Prim.Native.Nat.{_<_};
 ghost use lib.ListN.{length};

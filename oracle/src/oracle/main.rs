@@ -1,18 +1,7 @@
 //! Leads the unchanged piece picker through a script of calls: the script on standard input, the outcomes on standard output, both as
 //! docs/CALLS.md describes them.
 
-mod changes;
-mod geometry;
-mod image;
-mod judge;
-mod outcome;
-mod pick;
-#[allow(dead_code)]
-mod piece_picker;
-mod questions;
-mod run;
-mod script;
-
+use oracle::{pick, run, script};
 use std::cell::Cell;
 use std::io::{self, Read, Write};
 use std::panic;

@@ -36,6 +36,7 @@ pub enum What {
     Question(&'static Question, i64, i64),
 }
 
+#[derive(Debug)]
 pub enum Change {
     IncRefcount { piece: i64 },
     DecRefcount { piece: i64 },

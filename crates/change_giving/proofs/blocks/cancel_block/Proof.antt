@@ -2,7 +2,9 @@
 use mathlib.Core.Path.{refl}
 use native.Mathlib.Omega.{arith}
 use borrow.Author.Needs.{needs}
-use Rattle.change_giving.proofs.GivingLaws.{block-places, state-low, block-beside, cancel-nothing, cancel-free, cancel-put}
+use Rattle.change_blocks.proofs.StandingLaws.{block-places, state-low}
+use Rattle.change_returns.proofs.FreeLaws.{block-beside}
+use Rattle.change_giving.proofs.GivingLaws.{cancel-nothing, cancel-free, cancel-put}
 use Rattle.change_giving.proofs.blocks.cancel_block.Statement.{statement}
 use Rattle.change_giving.proofs.blocks.cancel_block.Tie as tie
 
@@ -32,7 +34,7 @@ free-block-requires c κs =
     let l = m .before .before .before .before in
     let o = l .before .before .before .before .before .before in
     let a = o .args in
-    let b = block-beside (a .s) (a .words .now) (a .cells .now) (a .i) (a .p) (a .j) (a .t) 2
+    let b = block-beside (a .s) (a .words .now) (a .cells .now) (a .i) (a .p) (a .j) 2 (a .t)
     (l .get-block .result) (l .get-block .ensures) (m .if2 .taken) (o .pre .0) in
     (b, (o .pre .1, (refl, omega arith)))
 

@@ -2,7 +2,9 @@
 use mathlib.Core.Path.{refl}
 use native.Mathlib.Omega.{arith}
 use borrow.Author.Needs.{needs}
-use Rattle.change_giving.proofs.GivingLaws.{block-places, block-beside, release-nothing, release-put, release-free}
+use Rattle.change_blocks.proofs.StandingLaws.{block-places}
+use Rattle.change_returns.proofs.FreeLaws.{block-beside}
+use Rattle.change_giving.proofs.GivingLaws.{release-nothing, release-put, release-free}
 use Rattle.change_giving.proofs.blocks.release_block.Statement.{statement}
 use Rattle.change_giving.proofs.blocks.release_block.Tie as tie
 
@@ -61,7 +63,7 @@ free-block-requires c κs =
     let l = n .before .before in
     let o = l .before .before .before .before .before .before in
     let a = o .args in
-    let b = block-beside (a .s) (a .words .now) (a .cells .now) (a .i) (a .p) (a .j) (a .t) 1
+    let b = block-beside (a .s) (a .words .now) (a .cells .now) (a .i) (a .p) (a .j) 1 (a .t)
     (l .get-block .result) (l .get-block .ensures) (n .if1 .left) (o .pre .0) in
     (b, (o .pre .1, (refl, omega arith)))
 

@@ -2,9 +2,8 @@
 use native.Mathlib.Omega.{arith}
 use mathlib.Core.Path.{refl}
 use borrow.Author.Needs.{needs}
-use Rattle.change_blocks.proofs.SetLaws.{put-places}
-use Rattle.change_returns.proofs.FreeLaws.{retally-asks}
-use Rattle.change_marking.proofs.BlockLaws.{stands-there, state-there, state-most}
+use Rattle.change_blocks.proofs.StandingLaws.{stands-there, block-places, state-low}
+use Rattle.change_returns.proofs.FreeLaws.{retally-read}
 use Rattle.change_marking.proofs.ReceiptLaws.{write-kept, write-made}
 use Rattle.change_marking.proofs.receipts.write_block.Statement.{statement}
 use Rattle.change_marking.proofs.receipts.write_block.Tie as tie
@@ -13,18 +12,17 @@ get-block-requires : tie.Need-get-block-requires
 get-block-requires c κs =
     let o = c .before .before .before .before .before in
     let a = o .args in
-    let b = stands-there (a .s) (a .words .now) (a .cells .now) (a .i) (a .p) (a .j) (a .t) (o .pre .0) in
-    (b .stands .works .bounds .spans, put-places (a .s) (a .i) (a .p) (a .j) _ _ b)
+    block-places (a .s) (a .words .now) (a .cells .now) (a .i) (a .p) (a .j) (a .t) (o .pre .0)
 
 put-block-requires : tie.Need-put-block-requires
 put-block-requires c κs =
     let g = c .before .before .before .before in
-    let o = c .before .before .before .before .before .before .before .before .before .before in
+    let o = g .before .before .before .before .before .before in
     let a = o .args in
-    let b = stands-there (a .s) (a .words .now) (a .cells .now) (a .i) (a .p) (a .j) (a .t) (o .pre .0) in
-    let m = state-most (a .s) (a .draws .now) (a .i) (a .p) (a .j) (a .t) (a .words .now) (a .cells .now) (a .used) (g .get-block .result)
-    (g .get-block .ensures) (o .pre .0) in
-    (b .stands .works .bounds .spans, (put-places (a .s) (a .i) (a .p) (a .j) _ _ b, m))
+    let b = block-places (a .s) (a .words .now) (a .cells .now) (a .i) (a .p) (a .j) (a .t) (o .pre .0) in
+    let m = state-low (a .s) (a .words .now) (a .cells .now) (a .i) (a .p) (a .j) (a .t) (g .get-block .result) (g .get-block .ensures)
+    (o .pre .0) in
+    (b .0, (b .1, m))
 
 same-length : tie.Need-same-length
 same-length c = search needs
@@ -35,31 +33,28 @@ same-length-2 c = search needs
 returns : tie.Need-returns
 returns c =
     let u = c .before .before .before .before in
-    let f = c .before .before .before .before .before .before .before in
-    let g = c .before .before .before .before .before .before .before .before .before in
-    let o = c .before .before .before .before .before .before .before .before .before .before .before .before .before .before .before in
+    let f = u .before .before .before in
+    let g = f .before .before in
+    let o = g .before .before .before .before .before .before in
     let a = o .args in
     write-kept (a .s) _ (a .i) (a .p) (a .j) (a .t) (a .words .now) (a .cells .now) (a .used) (g .get-block .result) (g .get-block .ensures)
     (f .if1 .taken) _ refl refl _ _ (u .put-block .ensures)
 
 retally-requires : tie.Need-retally-requires
 retally-requires c κs =
-    let c8 = c .before .before .before .before .before .before .before .before in
-    let g = c .before .before in let o = c8 in let a = o .args in retally-asks (a .s) (a .words .now) (a .cells .now) (a .i) (a .p) (a .j)
-    (g .get-block .result .state) (a .t)
-    (state-there (a .s) (a .words .now) (a .cells .now) (a .i) (a .p) (a .j) (a .t) (g .get-block .result) (g .get-block .ensures)
-    (o .pre .0))
+    let g = c .before .before in
+    let o = g .before .before .before .before .before .before in
+    let a = o .args in
+    retally-read (a .s) (a .words .now) (a .cells .now) (a .i) (a .p) (a .j) _ (a .t) (g .get-block .result) (g .get-block .ensures)
+    refl (o .pre .0)
 
 set-block-requires : tie.Need-set-block-requires
 set-block-requires c κs =
-    let o = c .before .before .before .before .before .before .before .before .before .before .before in
-    let a = o .args in (
-      stands-there (a .s) (a .words .now) (a .cells .now) (a .i) (a .p) (a .j) (a .t) (o .pre .0),
-      (
-        o .pre .1 .0,
-        (omega arith, o .pre .1 .1),
-      ),
-    )
+    let g = c .before .before .before .before .before in
+    let o = g .before .before .before .before .before .before in
+    let a = o .args in
+    let b = stands-there (a .s) (a .words .now) (a .cells .now) (a .i) (a .p) (a .j) (a .t) (o .pre .0) in
+    (b, (o .pre .1 .0, (omega arith, o .pre .1 .1)))
 
 same-length-3 : tie.Need-same-length-3
 same-length-3 c = search needs
@@ -69,14 +64,14 @@ same-length-4 c = search needs
 
 returns-2 : tie.Need-returns-2
 returns-2 c =
-    let c4 = c .before .before .before .before in
-    let c7 = c4 .before .before .before in
-    let c8 = c7 .before in
-    let c10 = c8 .before .before in
-    let c16 = c10 .before .before .before .before .before .before in
-    let u = c4 in let y = c7 in let f = c8 in let g = c10 in let o = c16 in let a = o .args in write-made (a .s) _ (a .i) (a .p) (a .j)
-    (a .t) (a .words .now) (a .cells .now) (a .used) (g .get-block .result) (g .get-block .ensures) (f .if1 .left) (y .retally .result)
-    (y .retally .ensures) _ refl refl _ _ (u .set-block .result) (u .set-block .ensures)
+    let u = c .before .before .before .before in
+    let y = u .before .before .before in
+    let f = y .before in
+    let g = f .before .before in
+    let o = g .before .before .before .before .before .before in
+    let a = o .args in
+    write-made (a .s) _ (a .i) (a .p) (a .j) (a .t) (a .words .now) (a .cells .now) (a .used) (g .get-block .result) (g .get-block .ensures)
+    (f .if1 .left) (y .retally .result) (y .retally .ensures) _ refl refl _ _ (u .set-block .result) (u .set-block .ensures)
 
 pub write-block-spec : {M : Type 1} → statement M
 write-block-spec =

@@ -20,7 +20,7 @@ erase-and-update-requires c κs =
 usize-to-u32-requires : tie.Need-usize-to-u32-requires
 usize-to-u32-requires c κs =
     let o = c .before .before .before .before .before .before .before .before .before .before .before .before in
-    omega (arith, o .pre .1 .0, o .pre .0 .there .stands .works .bounds .spans .inWords .sizes .many)
+    omega (arith, o .pre .1 .0, o .pre .0 .there .at .stands .works .bounds .spans .inWords .sizes .many)
 
 same-length : tie.Need-same-length
 same-length c = search needs

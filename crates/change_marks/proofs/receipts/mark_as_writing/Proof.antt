@@ -1,0 +1,108 @@
+-- `mark_as_writing` meets its contract: a block of the partial found, or of a piece without one, which is opened unless it is flushed. Assumes nothing.
+use native.Mathlib.Omega.{arith}
+use borrow.Author.Needs.{needs}
+use Rattle.model.specs.change.Changes.{markWritingIn, markAsWriting}
+use Rattle.change_blocks.specs.Replacing.{namedPeer}
+use Rattle.change_returns.proofs.WholeLaws.{find-asks, standing-asks, tally-beside}
+use Rattle.change_marks.proofs.WholeLaws.{mark-named, rows-vacant, writing-opened, marked-found}
+use Rattle.change_marks.proofs.receipts.mark_as_writing.Statement.{statement}
+use Rattle.change_marks.proofs.receipts.mark_as_writing.Tie as tie
+
+find-requires : tie.Need-find-requires
+find-requires c κs =
+    let o = c .before .before .before .before .before in
+    let a = o .args in
+    find-asks (a .s) (a .live) (a .rows .now) (a .counts .now) (a .words .now) (a .cells .now) (o .pre .0)
+
+enum-known-k : tie.Need-enum-known-k
+enum-known-k c = search needs
+
+enum-told : tie.Need-enum-told
+enum-told c = search needs
+
+open-arrived-requires : tie.Need-open-arrived-requires
+open-arrived-requires c κs =
+    let n = c .before .before in
+    let f = n .before .before in
+    let o = f .before .before .before .before .before .before in
+    let a = o .args in
+    let p = o .pre in
+    let v = rows-vacant (a .s) (a .live) (a .rows .now) (a .counts .now) (a .words .now) (a .cells .now) (o .pre .0) (a .i)
+    (f .find .result) (n .enum-told .given .1) (f .find .ensures .1) in
+    (v, (p .1 .0, (p .1 .1 .0, (omega arith, p .1 .1 .1))))
+
+same-length : tie.Need-same-length
+same-length c = search needs
+
+same-length-2 : tie.Need-same-length-2
+same-length-2 c = search needs
+
+returns : tie.Need-returns
+returns c =
+    let m = c .before .before .before .before in
+    let n = m .before .before .before in
+    let f = n .before .before in
+    let o = f .before .before .before .before .before .before in
+    let a = o .args in
+    let v = rows-vacant (a .s) (a .live) (a .rows .now) (a .counts .now) (a .words .now) (a .cells .now) (o .pre .0) (a .i)
+    (f .find .result) (n .enum-told .given .1) (f .find .ensures .1) in
+    mark-named (a .s) _ (markAsWriting (a .draws .now) (a .i) (a .j) (namedPeer (a .has-peer) (a .peer))) _ _ _ _ _ _ _ _
+    (writing-opened (a .s) (a .live) (a .rows .now) (a .words .now) (a .cells .now) (a .i) v (a .draws .now) (a .j) (a .has-peer) (a .peer))
+    (m .open-arrived .ensures)
+
+standing-in-requires : tie.Need-standing-in-requires
+standing-in-requires c κs =
+    let e = c .before .before in
+    let f = e .before .before in
+    let o = f .before .before .before .before .before .before in
+    let a = o .args in
+    standing-asks (a .s) (a .live) (a .rows .now) (a .counts .now) (a .words .now) (a .cells .now) (o .pre .0) (a .i) _
+    (f .find .result) (e .k .given .1) (f .find .ensures .1) (o .pre .1 .0 .0)
+
+write-block-requires : tie.Need-write-block-requires
+write-block-requires c κs =
+    let d = c .before .before in
+    let e = d .before .before .before in
+    let f = e .before .before in
+    let o = f .before .before .before .before .before .before in
+    let a = o .args in
+    let b = tally-beside (a .s) (a .live) (a .rows .now) (a .counts .now) (a .words .now) (a .cells .now) (o .pre .0) (a .i) _
+    (f .find .result) (e .k .given .1) (f .find .ensures .1) (d .standing-in .result) (d .standing-in .ensures) (a .j) (o .pre .1 .0 .1) in
+    (b, (o .pre .1 .0 .0, omega arith))
+
+same-length-3 : tie.Need-same-length-3
+same-length-3 c = search needs
+
+same-length-4 : tie.Need-same-length-4
+same-length-4 c = search needs
+
+returns-2 : tie.Need-returns-2
+unfolding markAsWriting
+returns-2 c =
+    let u = c .before .before .before .before in
+    let d = u .before .before .before in
+    let e = d .before .before .before in
+    let f = e .before .before in
+    let o = f .before .before .before .before .before .before in
+    let a = o .args in
+    marked-found (a .s) (a .live) (a .rows .now) (a .counts .now) (a .words .now) (a .cells .now) (o .pre .0) (a .i) _
+    (f .find .result) (e .k .given .1) (f .find .ensures .1) (d .standing-in .result) (d .standing-in .ensures) (a .j) (o .pre .1 .0 .1)
+    (λ found w. markWritingIn (a .draws .now) (a .i) found (a .j) (namedPeer (a .has-peer) (a .peer)) w) _ _
+    (u .write-block .result) (u .write-block .ensures .marks)
+
+pub mark-as-writing-spec : {M : Type 1} → statement M
+mark-as-writing-spec =
+    tie.close
+    (tie.spec
+    find-requires
+    enum-known-k
+    enum-told
+    open-arrived-requires
+    same-length
+    same-length-2
+    returns
+    standing-in-requires
+    write-block-requires
+    same-length-3
+    same-length-4
+    returns-2)

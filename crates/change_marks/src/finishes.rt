@@ -1,0 +1,63 @@
+// A block on disk.
+use crate::openings::open_arrived;
+use change_marking::finish_block;
+use change_returns::Given;
+use change_tally::standing_in;
+use memory_blocks::BlockInfo;
+use memory_layout::Shape;
+use memory_records::Found;
+use memory_rows::find;
+ghost use mathlib.Core.Path.{_≡_};
+ghost use mathlib.Core.Bool.{false};
+ghost use Prim.Native.Nat.{_≤_, _<_};
+ghost use lib.ListN.{length};
+ghost use Rattle.model.specs.State.{minDraws};
+ghost use Rattle.model.specs.change.Changes.{markAsFinished};
+ghost use Rattle.model.specs.Calls.{noPartialLeft};
+ghost use Rattle.memory_records.specs.Rows.{recordsIn};
+ghost use Rattle.memory_layout.specs.Decode.{blocksOf};
+ghost use Rattle.memory_layout.specs.Standing.{editRecords};
+ghost use Rattle.memory_rows.specs.Lookup.{pickerIn};
+ghost use Rattle.change_steps.specs.Whole.{Done};
+ghost use Rattle.change_tally.specs.RowsStanding.{RowsStand};
+ghost use Rattle.change_blocks.specs.Replacing.{namedPeer};
+
+// Block j of piece i is on disk. A piece without a partial is opened, unless it is flushed; one that passed goes with its last block.
+pub fn mark_as_finished(
+    words: &mut [u64],
+    cells: &mut [u16],
+    rows: &[u32],
+    live: usize,
+    counts: &[u16],
+    s: Shape,
+    i: usize,
+    j: usize,
+    has_peer: bool,
+    peer: u64,
+    draws: &[u32],
+) -> Given
+    requires { ⌜ RowsStand s live (now rows) (now counts) (now words) (now cells) ⌝ }
+    requires { ⌜ (i < s .pieces) × (j < blocksOf (now words) i) ⌝ }
+    requires { ⌜ noPartialLeft (pickerIn live (now rows) (now words) (now cells)) i ≡ false ⌝ }
+    requires { ⌜ minDraws ≤ length (now draws) ⌝ }
+    ensures { λ r. ⌜ Done s (markAsFinished (now (draws .entry)) i j (namedPeer «has_peer» peer)) (recordsIn live (now (rows .entry)))
+        (now (words .entry)) (now (cells .entry)) (editRecords (r .edit) (recordsIn live (now (rows .entry))))
+        (now (words .exit)) (now (cells .exit)) (r .used) ⌝ }
+{
+    let Found::At(k) = find(rows, live, i) else {
+        let x = BlockInfo {
+            state: 3,
+            num_peers: 0,
+            has_peer: has_peer,
+            peer: peer,
+        };
+        let m = open_arrived(words, cells, rows, live, s, i, j, x, draws);
+        let edit = m.edit;
+        return Given {
+            edit: edit,
+            used: m.used,
+        };
+    };
+    let d = standing_in(words, rows, counts, s, k, i);
+    finish_block(words, cells, s, i, d.place, j, has_peer, peer, d.tally, d.flags, d.finished, draws, 0)
+}

@@ -1,0 +1,146 @@
+//! Leads the unchanged Rust and the proved code, linked, through the same random lists of calls in one process: lists from `new` and from
+//! images of every kind (states.rs), the calls drawn by calls.rs, each compared by pair.rs. Prints how often each was made; ends with
+//! status 1 at the first difference, 2 where a kind was made less often than it has to be. `beside SPOILT` makes one compared value
+//! wrong after a while, which has to end with status 1.
+//!
+//! To add calls: their exports and how they are led in a file like linked_changes.rs; drawn arguments in calls.rs or beside it; what is
+//! compared as a method of `Pair`; made and counted in `a_list`, with a floor in `LEAST`.
+
+mod calls;
+mod draws;
+mod lent;
+mod linked_changes;
+#[allow(dead_code)]
+mod list_operations;
+mod pair;
+#[allow(dead_code)]
+mod picker;
+mod records;
+mod rng;
+mod states;
+
+use calls::Calls;
+use draws::Draws;
+use oracle::image::{self, Fields};
+use oracle::piece_picker::PiecePicker;
+use pair::{Made, Pair, Spoilt};
+use rng::Rng;
+use states::{a_picker, Kind};
+use std::collections::BTreeMap;
+use std::process::exit;
+
+const SEED: u64 = 11;
+
+/// Lists of each kind, and the calls of a list.
+const PLAN: [(Kind, usize, usize); 6] = [
+    (Kind::Small, 1400, 100),
+    (Kind::Many, 600, 100),
+    (Kind::Wide, 200, 100),
+    (Kind::Crowded, 20, 100),
+    (Kind::Huge, 30, 100),
+    (Kind::Full, 4, 40),
+];
+
+/// The least number of each, by the names of `note`.
+const LEAST: [(&str, u64); 0] = [];
+
+/// How often each kind of call and of answer was seen.
+type Seen = BTreeMap<String, u64>;
+
+fn note(seen: &mut Seen, what: &str) {
+    match seen.get_mut(what) {
+        Some(many) => *many += 1,
+        None => {
+            seen.insert(what.into(), 1);
+        }
+    }
+}
+
+fn note_made(seen: &mut Seen, name: &str, made: &Made, dirty: bool) {
+    note(seen, name);
+    if let Some(answer) = made.answer {
+        note(seen, &format!("{name} {answer}"));
+    }
+    note(seen, ["no edit", "replaced", "put in", "taken out"][made.edit as usize]);
+    note(seen, if dirty { "with a dirty list" } else { "with a list" });
+    if made.used > 0 {
+        note(seen, "that drew");
+    }
+    for difference in &made.differences {
+        note(seen, &format!("difference {difference}"));
+    }
+}
+
+/// Where a list starts: what `new` gives, or any image.
+fn a_start(rng: &mut Rng, kind: Kind, seen: &mut Seen) -> Fields {
+    if rng.percent(70) {
+        note(seen, "lists from images");
+        return a_picker(rng, kind);
+    }
+    note(seen, "lists from new");
+    let geometry = kind.geometry(rng);
+    let picker = PiecePicker::new(geometry.total, geometry.piece_size as i32);
+    image::read(&picker.image()).unwrap_or_else(|place| panic!("a new picker's image has a fault at {place}"))
+}
+
+/// One list of calls; an error says what differs after which of them.
+fn a_list(rng: &mut Rng, kind: Kind, many: usize, draws: &Draws, spoilt: Spoilt, seen: &mut Seen) -> Result<(), String> {
+    let start = a_start(rng, kind, seen);
+    let mut pair = Pair::new(rng, &start)?;
+    let calls = Calls::new(rng, &pair.lent);
+    for k in 0..many {
+        let words = draws.some(rng);
+        if rng.percent(8) && pair.rebuild(&words).map_err(|what| format!("call {k}, a rebuild: {what}"))? {
+            note(seen, "rebuild");
+        }
+        let change = calls.change(rng, &pair.lent);
+        let dirty = pair.lent.is_dirty();
+        let spoilt = if k > 20 { spoilt } else { Spoilt::Nothing };
+        match pair.change(&change, &words, spoilt).map_err(|what| format!("call {k}, {change:?}: {what}"))? {
+            Some(made) => note_made(seen, name_of(&format!("{change:?}")), &made, dirty),
+            None => note(seen, "refused"),
+        }
+    }
+    Ok(())
+}
+
+fn name_of(shown: &str) -> &str {
+    shown.split(' ').next().unwrap_or(shown)
+}
+
+fn spoilt_by(name: Option<&str>) -> Spoilt {
+    match name {
+        None => Spoilt::Nothing,
+        Some("answer") => Spoilt::Answer,
+        Some("draws") => Spoilt::Draws,
+        Some("edit") => Spoilt::Edit,
+        Some("cell") => Spoilt::Cell,
+        Some("word") => Spoilt::Word,
+        Some("record") => Spoilt::Record,
+        Some("beyond") => Spoilt::Beyond,
+        Some(_) => panic!("no such value"),
+    }
+}
+
+fn main() {
+    let spoilt = spoilt_by(std::env::args().nth(1).as_deref());
+    let mut rng = Rng::new(SEED);
+    let (draws, mut seen) = (Draws::new(&mut rng), Seen::new());
+    for (kind, lists, many) in PLAN {
+        for list in 0..lists {
+            if let Err(what) = a_list(&mut rng, kind, many, &draws, spoilt, &mut seen) {
+                eprintln!("beside: list {list}, {what}");
+                exit(1);
+            }
+        }
+    }
+    let told: Vec<String> = seen.iter().map(|(name, many)| format!("{many} {name}")).collect();
+    println!("the Rust and the linked code agree: {}", told.join(", "));
+    for (name, least) in LEAST {
+        let many = seen.get(name).copied().unwrap_or(0);
+        if many < least {
+            eprintln!("beside: {many} times {name}, fewer than {least}");
+            exit(2);
+        }
+    }
+}
