@@ -1,8 +1,8 @@
 -- A mark that opens a piece, as a whole change. Assumes nothing.
-use mathlib.Core.Path.{_≡_, refl, sym, ap, subst, _∙_}
+use mathlib.Core.Path.{_≡_, sym, ap, subst, _∙_}
 use mathlib.Core.Bool.{Bool, true}
-use mathlib.Core.List.{List, _∷_}
-use Prim.Native.Nat.{ℕ, zero, suc, _<_, _≤_}
+use mathlib.Core.List.{List}
+use Prim.Native.Nat.{ℕ, suc, _<_, _≤_}
 use native.Mathlib.Omega.{arith}
 use lib.ListN.{length, take}
 use Rattle.types.specs.declared.queue.DownloadQueue.{DownloadQueue}
@@ -13,7 +13,7 @@ use Rattle.model.specs.change.Changes.{markOpening}
 use Rattle.memory_records.specs.declared.record.DownloadingPiece.{DownloadingPiece as Record}
 use Rattle.memory_records.specs.declared.edits.Edit.the-variants.{Insert}
 use Rattle.memory_records.specs.Records.{edited, risingFrom}
-use Rattle.memory_records.specs.Rows.{rowAt, recordsFrom, recordsIn}
+use Rattle.memory_records.specs.Rows.{recordsIn}
 use Rattle.memory_records.proofs.laws.EditLaws.{length-edited}
 use Rattle.memory_records.proofs.laws.RowLaws.{length-records, records-at}
 use Rattle.memory_layout.specs.declared.shape.Shape.{Shape}
@@ -27,12 +27,8 @@ use Rattle.change_steps.proofs.MendLaws.{went-changed}
 use Rattle.change_opening.specs.declared.marks.Marked.{Marked}
 use Rattle.change_opening.specs.Adding.{Vacant, VacantBeside}
 use Rattle.change_opening.specs.Marking.{OpeningMarked}
-use Rattle.change_opening.proofs.RoomLaws.{stands-vacant, stands-beside}
+use Rattle.change_opening.proofs.RoomLaws.{stands-vacant, front-rows, stands-beside}
 use Rattle.change_marks.specs.Marks.{RowsVacant, MarkDone}
-
-front-rows : (n k : ℕ) (rows : List ℕ) → take n (recordsFrom (suc n) k rows) ≡ recordsFrom n k rows
-front-rows zero k rows = refl
-front-rows (suc n) k rows = ap (λ (rs : List Record). rowAt rows k ∷ rs) (front-rows n (suc k) rows)
 
 module _ (s : Shape) (live : ℕ) (rows words cells : List ℕ) (i : ℕ) (g : RowsVacant s live rows words cells i) where
   abbrev rs : List Record
@@ -83,8 +79,13 @@ module _ (s : Shape) (live : ℕ) (rows words cells : List ℕ) (i : ℕ) (g : R
     live-alone after c =
         let p = m .partial in
         let few : headWord words′ 7 ≤ length (editRecords (Insert p) (take live more)) =
-        omega (arith, c .bounds .live, length-edited live (Insert p) more, length-records (suc live) rows,
-        insert-number live more rises p fits) in
+        omega (
+          arith,
+          c .bounds .live,
+          length-edited live (Insert p) more,
+          length-records (suc live) rows,
+          insert-number live more rises p fits,
+        ) in
         subst (λ (l : List Record). Changed s after words cells (editRecords (Insert p) l) words′ cells′) front
         (changed-live s (edited live (Insert p) more) (editRecords (Insert p) (take live more)) words′ cells′
         (λ k h. sym (edited-at live more rises s (Insert p) fits words′ cells′ few k h)) after words cells few c)

@@ -43,7 +43,7 @@ stands-vacant s i live rows records words cells t vacant count rows-are fits = r
 }
 
 -- ---- the rows alone: one row more is room enough
-front-rows : (n k : ℕ) (rows : List ℕ) → take n (recordsFrom (suc n) k rows) ≡ recordsFrom n k rows
+pub front-rows : (n k : ℕ) (rows : List ℕ) → take n (recordsFrom (suc n) k rows) ≡ recordsFrom n k rows
 front-rows zero k rows = refl
 front-rows (suc n) k rows = ap (λ (rs : List Record). rowAt rows k ∷ rs) (front-rows n (suc k) rows)
 
