@@ -1,8 +1,8 @@
 -- A mark that opens a piece, as a whole change. Assumes nothing.
-use mathlib.Core.Path.{_≡_, sym, ap, subst, _∙_}
+use mathlib.Core.Path.{_≡_, refl, sym, ap, subst, _∙_}
 use mathlib.Core.Bool.{Bool, true}
-use mathlib.Core.List.{List}
-use Prim.Native.Nat.{ℕ, suc, _<_, _≤_}
+use mathlib.Core.List.{List, _∷_}
+use Prim.Native.Nat.{ℕ, zero, suc, _<_, _≤_}
 use native.Mathlib.Omega.{arith}
 use lib.ListN.{length, take}
 use Rattle.types.specs.declared.queue.DownloadQueue.{DownloadQueue}
@@ -10,10 +10,11 @@ use Rattle.model.specs.State.{Picker}
 use Rattle.model.specs.list.Order.{Draws, Drawing, drawing}
 use Rattle.model.specs.change.Partials.{partialOf}
 use Rattle.model.specs.change.Changes.{markOpening}
+use Rattle.model.proofs.sound.SoundLaws.{wellFormed-sound}
 use Rattle.memory_records.specs.declared.record.DownloadingPiece.{DownloadingPiece as Record}
 use Rattle.memory_records.specs.declared.edits.Edit.the-variants.{Insert}
 use Rattle.memory_records.specs.Records.{edited, risingFrom}
-use Rattle.memory_records.specs.Rows.{recordsIn}
+use Rattle.memory_records.specs.Rows.{rowAt, recordsFrom, recordsIn}
 use Rattle.memory_records.proofs.laws.EditLaws.{length-edited}
 use Rattle.memory_records.proofs.laws.RowLaws.{length-records, records-at}
 use Rattle.memory_layout.specs.declared.shape.Shape.{Shape}
@@ -22,13 +23,15 @@ use Rattle.memory_layout.specs.Standing.{Stands, Changed, editRecords}
 use Rattle.memory_layout.proofs.EditedRecords.{decode-live, stands-live, changed-live, live-rise, insert-number, edited-at}
 use Rattle.memory_blocks.specs.declared.info.BlockInfo.{BlockInfo}
 use Rattle.memory_blocks.specs.Blocks.{blockOf}
-use Rattle.change_steps.specs.Whole.{Done}
-use Rattle.change_steps.proofs.MendLaws.{went-changed}
+use Rattle.change_steps.proofs.MendLaws.{stands-works, went-changed}
 use Rattle.change_opening.specs.declared.marks.Marked.{Marked}
 use Rattle.change_opening.specs.Adding.{Vacant, VacantBeside}
 use Rattle.change_opening.specs.Marking.{OpeningMarked}
-use Rattle.change_opening.proofs.RoomLaws.{stands-vacant, front-rows, stands-beside}
 use Rattle.change_marks.specs.Marks.{RowsVacant, MarkDone}
+
+front-rows : (n k : ℕ) (rows : List ℕ) → take n (recordsFrom (suc n) k rows) ≡ recordsFrom n k rows
+front-rows zero k rows = refl
+front-rows (suc n) k rows = ap (λ (rs : List Record). rowAt rows k ∷ rs) (front-rows n (suc k) rows)
 
 module _ (s : Shape) (live : ℕ) (rows words cells : List ℕ) (i : ℕ) (g : RowsVacant s live rows words cells i) where
   abbrev rs : List Record
@@ -59,14 +62,20 @@ module _ (s : Shape) (live : ℕ) (rows words cells : List ℕ) (i : ℕ) (g : R
   fits = omega (arith, length-records (suc live) rows)
 
   room : Vacant s i live rows more words cells
-  room =
-      stands-vacant s i live rows more words cells more-stands (ap (λ (d : Picker). partialOf d i) same ∙ g .vacant) (g .many) front fits
+  room = record {
+    works = stands-works s more words cells more-stands;
+    rising = wellFormed-sound (decode more words cells) (more-stands .sound) .rising;
+    vacant = ap (λ (d : Picker). partialOf d i) same ∙ g .vacant;
+    count = g .many;
+    rowsAre = front;
+    fits = fits;
+  }
 
   rises : risingFrom 0 (take live more) ≡ true
   rises = subst (λ (n : ℕ). risingFrom 0 (take n more) ≡ true) (sym (g .many)) (live-rise s more words cells more-stands)
 
   pub room-beside : VacantBeside s i live rows words cells
-  room-beside = stands-beside s i live rows words cells (g .stands) (g .many) (g .vacant)
+  room-beside = record { records = more; stands = room }
 
   module _ (draws : Draws) (q : DownloadQueue) (affinity : Bool) (j : ℕ) (x : BlockInfo) (words′ cells′ : List ℕ) (m : Marked)
       (o : OpeningMarked s draws i q affinity j x live rows words cells 0 words′ cells′ m) where

@@ -2,9 +2,11 @@
 use native.Mathlib.Omega.{arith}
 use borrow.Author.Needs.{needs}
 use Rattle.model.specs.change.Changes.{markFinishedIn, markAsFinished}
+use Rattle.memory_blocks.specs.Blocks.{blockOf}
 use Rattle.change_blocks.specs.Replacing.{namedPeer}
 use Rattle.change_marking.specs.Finishing.{FinishAt}
 use Rattle.change_returns.proofs.WholeLaws.{find-asks, standing-asks, whole-found}
+use Rattle.change_marks.specs.Marks.{markArrived}
 use Rattle.change_marks.proofs.WholeLaws.{done-named, rows-vacant, finished-opened, finish-here, finish-beside}
 use Rattle.change_marks.proofs.finishes.mark_as_finished.Statement.{statement}
 use Rattle.change_marks.proofs.finishes.mark_as_finished.Tie as tie
@@ -47,7 +49,9 @@ returns c =
     let a = o .args in
     let v = rows-vacant (a .s) (a .live) (a .rows .now) (a .counts .now) (a .words .now) (a .cells .now) (o .pre .0) (a .i)
     (f .find .result) (n .enum-told .given .1) (f .find .ensures .1) in
-    done-named (a .s) _ (markAsFinished (a .draws .now) (a .i) (a .j) (namedPeer (a .has-peer) (a .peer))) _ _ _ _ _ _ _
+    let b = blockOf (record { state = 3; «num_peers» = 0; «has_peer» = a .has-peer; peer = a .peer }) in
+    done-named (a .s) (λ w. markArrived (a .draws .now) (a .i) (a .j) b w .after)
+    (markAsFinished (a .draws .now) (a .i) (a .j) (namedPeer (a .has-peer) (a .peer))) _ _ _ _ _ _ _
     (finished-opened (a .s) (a .live) (a .rows .now) (a .words .now) (a .cells .now) (a .i) v (a .draws .now) (a .j) (a .has-peer) (a .peer))
     (m .open-arrived .ensures .done)
 
