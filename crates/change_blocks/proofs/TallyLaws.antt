@@ -31,7 +31,8 @@ module _ {A : Type 0} (test : A → Bool) (none : A) where
   counted-once (x ∷ xs) (suc j) h = omega (arith, counted-once xs j (le-of-suc-le-suc h))
 
   -- the others count as before
-  pub count-set : (l : List A) (j : ℕ) (y : A) → j < len l → count test (setNth j y l) + bit (test (nth none l j)) ≡ count test l + bit (test y)
+  pub count-set : (l : List A) (j : ℕ) (y : A) → j < len l
+      → count test (setNth j y l) + bit (test (nth none l j)) ≡ count test l + bit (test y)
   unfolding count nth setNth len
   count-set [] j y h = absurd (not-suc-le-zero h)
   count-set (x ∷ xs) zero y h = omega arith

@@ -47,8 +47,8 @@ module _ (s : Shape) (i : ℕ) (h : i < s .pieces) (q : DownloadQueue) (n : ℕ)
     state-asks b = field-asks s i (withState q) words cells cells′ named in-range old r b
 
     -- what it leaves
-    pub state-set : (draws : Draws) (used : ℕ) (words′ : List ℕ) (next : ℕ) → ListBecame s (update draws old i) words words′ cells′ used next
-        → Goes s (setState draws i q) words cells used words′ cells′ next
+    pub state-set : (draws : Draws) (used : ℕ) (words′ : List ℕ) (next : ℕ)
+        → ListBecame s (update draws old i) words words′ cells′ used next → Goes s (setState draws i q) words cells used words′ cells′ next
     unfolding setState
     state-set draws used words′ next l =
         field-mended s i (withState q) words cells cells′ named in-range old r draws used words′ next l
