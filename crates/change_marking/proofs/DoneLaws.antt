@@ -2,17 +2,15 @@
 use mathlib.Core.Path.{_≡_, refl, sym, ap, _∙_}
 use mathlib.Core.Bool.{Bool, true, false, not, _&&_}
 use mathlib.Core.Option.{Option, some}
-use Prim.Native.Nat.{ℕ, _+_, _^_, _≤_, _<_}
+use Prim.Native.Nat.{ℕ, _+_, _^_, _<_}
 use native.Mathlib.Omega.{arith}
 use lib.Dec.{leb}
 use borrow.Author.Tests.{lt-ltb}
 use Rattle.types.specs.declared.block.BlockState.the-variants.{Writing, Finished}
-use Rattle.model.specs.Lists.{bit, len, nth, setNth, when}
+use Rattle.model.specs.Lists.{bit, len, when}
 use Rattle.model.specs.State.{Block, DownloadingPiece, Picker, noBlock, maxPeers, sameBlockState, hasPeer, withBlocks, withPartials}
-use Rattle.model.specs.State.{blocksInPiece}
-use Rattle.model.specs.list.Order.{Draws, Drawing, drawing, noDraw, rank}
+use Rattle.model.specs.list.Order.{Draws, drawing, noDraw, rank}
 use Rattle.model.specs.change.Partials.{findDlPiece, partialOf, blockAt, blocksInState, replaceIn, replacePartial, replaceBlock}
-use Rattle.model.specs.change.Partials.{updatePieceState}
 use Rattle.model.specs.change.Changes.{setBlock, finishedBy, finishedPeer, allFinished, flushIf, flushDone, pieceFlushed}
 use Rattle.model.specs.image.WellFormed.{peerOk, blockOk}
 use Rattle.model.specs.image.Sound.{Sound}

@@ -3,17 +3,16 @@ use mathlib.Core.Path.{_≡_, refl, sym, ap, ap₂, _∙_, subst}
 use mathlib.Core.Bool.{Bool, true, false, not, _&&_, true≢false}
 use mathlib.Core.Logic.{_≢_}
 use mathlib.Core.List.{List}
-use mathlib.Core.Option.{Option, none, some}
-use Prim.Native.Nat.{ℕ, zero, suc, _+_, _/_, _%_, _≤_, _<_}
+use mathlib.Core.Option.{some}
+use Prim.Native.Nat.{ℕ, zero, suc, _+_, _/_, _%_, _≤_}
 use native.Mathlib.Omega.{arith}
 use lib.Dec.{eqb, leb}
 use borrow.Author.Tests.{eq-eqb, ne-eqb}
 use Rattle.types.specs.declared.block.BlockState.the-variants.{Writing, Finished}
-use Rattle.types.specs.Block.{blockStateNumber}
 use Rattle.model.specs.Lists.{len, nth, when, filter}
 use Rattle.model.specs.Bep3.{bitOf, pieceBlocks}
 use Rattle.model.specs.State.{Block, DownloadingPiece, Picker, sameBlockState, hasPeer, withBlocks, withPartials, blocksInPiece}
-use Rattle.model.specs.list.Order.{Draws, Drawing, drawing, noDraw, rank}
+use Rattle.model.specs.list.Order.{Draws, Drawing, drawing, noDraw}
 use Rattle.model.specs.change.Partials.{partialOf, blockAt, blocksInState, dropPartial}
 use Rattle.model.specs.change.Changes.{setBlock, finishedBy, finishedPeer, allFinished, flushDone, pieceFlushed, markFinishedIn}
 use Rattle.model.specs.image.WellFormed.{peerOk}

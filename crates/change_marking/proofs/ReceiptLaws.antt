@@ -1,5 +1,5 @@
 -- A block of a standing partial that a peer brought: only its peer changes where it was received before. Assumes nothing.
-use mathlib.Core.Path.{_≡_, refl, sym, ap, subst}
+use mathlib.Core.Path.{_≡_, refl, ap, subst}
 use mathlib.Core.Bool.{true, false}
 use mathlib.Core.List.{List}
 use mathlib.Core.Option.{some}
@@ -10,7 +10,6 @@ use Rattle.model.specs.State.{Block, withPeer}
 use Rattle.model.specs.list.Order.{Draws, drawing, noDraw}
 use Rattle.model.specs.change.Partials.{blockAt, replaceBlock}
 use Rattle.model.specs.change.Changes.{saying, setBlock, writtenBy, markWritingIn}
-use Rattle.memory_records.specs.declared.record.DownloadingPiece.{DownloadingPiece as Record}
 use Rattle.memory_layout.specs.declared.shape.Shape.{Shape}
 use Rattle.memory_layout.specs.Decode.{decode, stateFrom}
 use Rattle.memory_layout.specs.Changes.{partialIn}

@@ -1,16 +1,15 @@
 -- A block of a standing partial asked for once more: left where it was received, else turned, replaced and turned back. Assumes nothing.
-use mathlib.Core.Path.{_≡_, refl, sym, ap, ap₂, _∙_, subst}
+use mathlib.Core.Path.{_≡_, refl, sym, ap, _∙_, subst}
 use mathlib.Core.Bool.{Bool, true, false}
 use mathlib.Core.List.{List}
 use mathlib.Core.Option.{some}
 use Prim.Native.Nat.{ℕ, suc, _+_, _≤_, _<_}
 use native.Mathlib.Omega.{arith}
-use Rattle.types.specs.Block.{blockStateNumber}
 use Rattle.model.specs.Lists.{nth}
 use Rattle.model.specs.State.{Block, DownloadingPiece}
 use Rattle.model.specs.list.Order.{Draws, Drawing, drawing}
 use Rattle.model.specs.change.Partials.{blockAt}
-use Rattle.model.specs.change.Changes.{saying, setBlock, makePieceReverse, unreversePiece, requestedBy, request, reverseAsked}
+use Rattle.model.specs.change.Changes.{saying, setBlock, makePieceReverse, unreversePiece, requestedBy, request}
 use Rattle.model.specs.change.Changes.{markDownloadingIn}
 use Rattle.memory_records.specs.declared.record.DownloadingPiece.{DownloadingPiece as Record}
 use Rattle.memory_layout.specs.declared.shape.Shape.{Shape}

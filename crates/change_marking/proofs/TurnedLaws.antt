@@ -19,10 +19,10 @@ use Rattle.model.specs.image.Sound.{partialsFrom}
 use Rattle.model.proofs.base.Phases.{cond-arms, when-arms}
 use Rattle.memory_records.specs.declared.record.DownloadingPiece.{DownloadingPiece as Record}
 use Rattle.memory_layout.specs.declared.shape.Shape.{Shape}
-use Rattle.memory_layout.specs.Decode.{headWord, blocksOf, decode}
+use Rattle.memory_layout.specs.Decode.{blocksOf, decode}
 use Rattle.memory_layout.specs.Changes.{partialIn}
 use Rattle.memory_layout.proofs.Meanings.{partials-number}
-use Rattle.change_steps.specs.Working.{Works, Went}
+use Rattle.change_steps.specs.Working.{Went}
 use Rattle.change_state.proofs.KeptLaws.{SamePartials, still, state-same, update-same}
 use Rattle.change_blocks.specs.Replacing.{PartialAt}
 

@@ -107,8 +107,8 @@ module _ (s : Shape) (live : ℕ) (rows words cells : List ℕ) (i : ℕ) (g : R
         record {
           done = record {
             changed = live-alone (step (drawing 0 (decode rs words cells)) .picker)
-                (subst (λ (d : Picker). Changed s (step (drawing 0 d) .picker) words cells (edited live (Insert (m .partial)) more) words′ cells′)
-                same (c .0));
+                (subst (λ (d : Picker). Changed s (step (drawing 0 d) .picker) words cells (edited live (Insert (m .partial)) more)
+                words′ cells′) same (c .0));
             draws = c .1 ∙ ap (λ (d : Picker). step (drawing 0 d) .used) same;
           };
           says = ap (λ (d : Picker). markOpening draws i q affinity j (blockOf x) (drawing 0 d) .answer) (sym same) ∙ o .answer more room;

@@ -1,5 +1,5 @@
 -- `new_state` meets its contract: its tests are the definition's, in its order. Assumes nothing.
-use mathlib.Core.Path.{_≡_, sym, _∙_}
+use mathlib.Core.Path.{sym, _∙_}
 use borrow.Author.Needs.{needs}
 use Rattle.change_state.proofs.StateLaws.{zero-prio, left-open, some-free, some-requested, all-received}
 use Rattle.change_state.proofs.states.new_state.Statement.{statement}
