@@ -42,8 +42,9 @@ impl Calls {
     }
 
     pub fn change(&self, rng: &mut Rng, lent: &Lent) -> Change {
-        let kind = rng.below(59); // 90 with marks
-        let at = self.piece(rng, lent);
+        let kind = rng.below(90);
+        // a count or a priority moves an Open piece along the list
+        let at = if kind < 31 && rng.percent(60) { rng.place(lent.shape().n) } else { self.piece(rng, lent) };
         let (piece, block, peer) = (at as i64, self.block(rng, lent, at) as i64, rng.of(&PEERS));
         match kind {
             0..=9 => Change::IncRefcount { piece },

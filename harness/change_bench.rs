@@ -66,20 +66,21 @@ impl Clock {
     }
 
     /// Microseconds of a change, on average over the pieces of a round. Where rows move, each is timed alone.
-    fn time<S: Side>(&self, side: &mut S, op: Op, pieces: &[At]) -> f64 {
+    #[inline(never)]
+    fn time<O: Op, S: Side>(&self, side: &mut S, pieces: &[At]) -> f64 {
         let mut sum = 0;
-        if op.moves_rows() {
+        if O::MOVES_ROWS {
             for &at in pieces {
                 let start = ticks();
-                side.make(op, at);
+                side.make::<O>(at);
                 sum += ticks() - start - self.nothing;
-                side.settle(op, at);
+                side.settle::<O>(at);
             }
         } else {
             let start = ticks();
             for &at in pieces {
-                side.make(op, at);
-                side.settle(op, at);
+                side.make::<O>(at);
+                side.settle::<O>(at);
             }
             sum = ticks() - start;
         }
@@ -149,75 +150,73 @@ fn a_block(done: bool, j: usize) -> Block {
     Block { state: if done { 3 } else { requested.into() }, requesters: requested.into(), peer: Some(1) }
 }
 
-/// The timed changes, each undone by another but for the last.
-#[derive(Clone, Copy, PartialEq)]
-enum Op {
-    Up,
-    Down,
-    Remove,
-    Add,
-    Mark,
-    GiveBack,
-    Open,
-    Close,
-    Passed,
+/// A timed change.
+trait Op {
+    /// Rows move when a piece is opened or closed: then they are brought up to date between two calls, untimed.
+    const MOVES_ROWS: bool = false;
+    /// What the change adds to the partial's count of requested blocks.
+    const REQUESTS: i16 = 0;
+
+    fn pieces(size: Size) -> Vec<At>;
+    fn change(piece: i64) -> Change;
+    fn rust(picker: &mut PiecePicker, piece: PieceIndex);
 }
 
-impl Op {
-    /// The pieces of a round.
-    fn pieces(self, size: Size) -> Vec<At> {
-        match self {
-            Op::Mark | Op::GiveBack | Op::Passed => size.begun_pieces(),
-            _ => size.open_pieces(),
-        }
-    }
+/// A change by its names: the pieces of a round, the change, what the Rust is called with, and what differs from the usual.
+macro_rules! ops {
+    ($($name:ident on $pieces:ident: |$i:ident| $change:expr, |$p:ident, $at:ident| $rust:expr $(, $constant:ident: $kind:ty = $value:expr)*;)*) => {
+        $(struct $name;
+        impl Op for $name {
+            $(const $constant: $kind = $value;)*
+            fn pieces(size: Size) -> Vec<At> {
+                size.$pieces()
+            }
+            #[inline(always)]
+            fn change($i: i64) -> Change {
+                $change
+            }
+            #[inline(always)]
+            fn rust($p: &mut PiecePicker, $at: PieceIndex) {
+                black_box($rust);
+            }
+        })*
+    };
+}
 
-    /// The change on a piece: block 1 of a partial is free, and an Open piece is opened by its block 0.
-    #[inline(always)]
-    fn change(self, at: At) -> Change {
-        let piece = at.piece as i64;
-        let block = (self == Op::Mark || self == Op::GiveBack).into();
-        match self {
-            Op::Up => Change::IncRefcount { piece },
-            Op::Down => Change::DecRefcount { piece },
-            Op::Remove => Change::SetPiecePriority { piece, wish: 0 },
-            Op::Add => Change::SetPiecePriority { piece, wish: 4 },
-            Op::Mark | Op::Open => Change::MarkAsDownloading { piece, block, peer: PEER, options: 0 },
-            Op::GiveBack | Op::Close => Change::AbortDownload { piece, block, peer: PEER },
-            Op::Passed => Change::PiecePassed { piece },
-        }
-    }
+fn block(piece_index: PieceIndex, block_index: i32) -> PieceBlock {
+    PieceBlock { piece_index, block_index }
+}
 
-    /// Rows move when a piece is opened or closed, and are brought up to date between two calls, untimed.
-    fn moves_rows(self) -> bool {
-        matches!(self, Op::Open | Op::Close | Op::Passed)
-    }
+// block 1 of a partial is free, and an Open piece is opened by its block 0
+ops! {
+    Up on open_pieces: |piece| Change::IncRefcount { piece }, |p, i| p.inc_refcount(i);
+    Down on open_pieces: |piece| Change::DecRefcount { piece }, |p, i| p.dec_refcount(i);
+    Remove on open_pieces: |piece| Change::SetPiecePriority { piece, wish: 0 },
+        |p, i| p.set_piece_priority(i, DownloadPriority::DONT_DOWNLOAD);
+    Add on open_pieces: |piece| Change::SetPiecePriority { piece, wish: 4 }, |p, i| p.set_piece_priority(i, DownloadPriority::DEFAULT);
+    Mark on begun_pieces: |piece| Change::MarkAsDownloading { piece, block: 1, peer: PEER, options: 0 },
+        |p, i| p.mark_as_downloading(block(i, 1), PEER, PickerOptions::NONE), REQUESTS: i16 = 1;
+    GiveBack on begun_pieces: |piece| Change::AbortDownload { piece, block: 1, peer: PEER },
+        |p, i| p.abort_download(block(i, 1), PEER), REQUESTS: i16 = -1;
+    Open on open_pieces: |piece| Change::MarkAsDownloading { piece, block: 0, peer: PEER, options: 0 },
+        |p, i| p.mark_as_downloading(block(i, 0), PEER, PickerOptions::NONE), MOVES_ROWS: bool = true, REQUESTS: i16 = 1;
+    Close on open_pieces: |piece| Change::AbortDownload { piece, block: 0, peer: PEER },
+        |p, i| p.abort_download(block(i, 0), PEER), MOVES_ROWS: bool = true, REQUESTS: i16 = -1;
+    Passed on begun_pieces: |piece| Change::PiecePassed { piece }, |p, i| p.piece_passed(i), MOVES_ROWS: bool = true;
 }
 
 /// One of the two sides.
 trait Side {
-    fn make(&mut self, op: Op, at: At);
+    fn make<O: Op>(&mut self, at: At);
 
     /// What a call would have from its memory test is brought up to date.
-    fn settle(&mut self, _: Op, _: At) {}
+    fn settle<O: Op>(&mut self, _: At) {}
 }
 
 impl Side for PiecePicker {
     #[inline(always)]
-    fn make(&mut self, op: Op, at: At) {
-        let i = PieceIndex(at.piece as i32);
-        let block = |j| PieceBlock { piece_index: i, block_index: j };
-        match op {
-            Op::Up => self.inc_refcount(i),
-            Op::Down => self.dec_refcount(i),
-            Op::Remove => drop(black_box(self.set_piece_priority(i, DownloadPriority::DONT_DOWNLOAD))),
-            Op::Add => drop(black_box(self.set_piece_priority(i, DownloadPriority::DEFAULT))),
-            Op::Mark => drop(black_box(self.mark_as_downloading(block(1), PEER, PickerOptions::NONE))),
-            Op::Open => drop(black_box(self.mark_as_downloading(block(0), PEER, PickerOptions::NONE))),
-            Op::GiveBack => self.abort_download(block(1), PEER),
-            Op::Close => self.abort_download(block(0), PEER),
-            Op::Passed => self.piece_passed(i),
-        }
+    fn make<O: Op>(&mut self, at: At) {
+        O::rust(self, PieceIndex(at.piece as i32));
     }
 }
 
@@ -240,35 +239,32 @@ impl Proved {
 impl Side for Proved {
     /// As a call makes it behind the memory test, with the edit of the records.
     #[inline(always)]
-    fn make(&mut self, op: Op, at: At) {
+    fn make<O: Op>(&mut self, at: At) {
         let (live, lent) = (self.lent.live(), &mut self.lent);
         let (rows, counts, geometry) = (&lent.rows, &lent.counts, self.geometry);
         let mut tested = Tested { words: &mut lent.words, cells: &mut lent.cells, rows, live, counts, geometry };
-        let made = tested.carry_out(&op.change(at), &self.table[self.next..self.next + COUNT]);
+        let made = tested.carry_out(&O::change(at.piece as i64), &self.table[self.next..self.next + COUNT]);
         black_box(made.edit(&mut lent.partials, live));
         let next = self.next + made.used;
         self.next = if next < COUNT { next } else { next - COUNT };
     }
 
     #[inline(always)]
-    fn settle(&mut self, op: Op, at: At) {
+    fn settle<O: Op>(&mut self, at: At) {
         let Lent { words, partials, rows, counts, .. } = &mut self.lent;
-        match op {
-            Op::Mark => counts[at.row] += 1,
-            Op::GiveBack => counts[at.row] -= 1,
-            Op::Open | Op::Close | Op::Passed => {
-                unpack(words, partials, rows);
-                let row = rows[..words[7] as usize].partition_point(|i| (*i as usize) < at.piece);
-                for (column, requested) in counts.chunks_exact_mut(512).zip([1, 0, 0]) {
-                    if op == Op::Open {
-                        column.copy_within(row..511, row + 1);
-                        column[row] = requested;
-                    } else {
-                        column.copy_within(row + 1.., row);
-                    }
-                }
+        if !O::MOVES_ROWS {
+            counts[at.row] = counts[at.row].wrapping_add_signed(O::REQUESTS);
+            return;
+        }
+        unpack(words, partials, rows);
+        let row = rows[..words[7] as usize].partition_point(|i| (*i as usize) < at.piece);
+        for (column, requested) in counts.chunks_exact_mut(512).zip([1, 0, 0]) {
+            if O::REQUESTS > 0 {
+                column.copy_within(row..511, row + 1);
+                column[row] = requested;
+            } else {
+                column.copy_within(row + 1.., row);
             }
-            _ => {}
         }
     }
 }
@@ -280,48 +276,76 @@ fn settled(lent: &Lent) -> (Vec<u32>, Vec<u16>) {
     (columns().map(|k| lent.rows[k]).collect(), columns().map(|k| lent.counts[k]).collect())
 }
 
-/// Both made the same, and rows and counts were up to date throughout.
-fn check(rust: &PiecePicker, proved: &mut Proved) {
-    let before = settled(&proved.lent);
-    assert_eq!(proved.lent.test(), 0, "a picker stands in the buffers");
-    assert!(settled(&proved.lent) == before, "rows and counts were not up to date");
-    assert!(rust.image() == proved.lent.image(), "the two sides part");
+/// Microseconds here and in the Rust, the least of all rounds.
+type Best = [f64; 2];
+const NONE_YET: Best = [f64::MAX; 2];
+
+/// The two sides of a row.
+struct Sides<'a> {
+    size: Size,
+    clock: &'a Clock,
+    rust: PiecePicker,
+    proved: Proved,
 }
 
-/// Microseconds of each change here and in the Rust: the least of all rounds, the two in turns.
-fn best_of(size: Size, ops: &[Op], clock: &Clock) -> Vec<[f64; 2]> {
-    let fields = size.fields(&[]);
-    let (mut rust, mut proved) = (PiecePicker::from_fields(&fields), Proved::new(&fields));
-    random::lend(&ANY);
-    let pieces: Vec<Vec<At>> = ops.iter().map(|op| op.pieces(size)).collect();
-    let mut best = vec![[f64::MAX; 2]; ops.len()];
+impl<'a> Sides<'a> {
+    fn new(size: Size, clock: &'a Clock, finished: &[At]) -> Sides<'a> {
+        let fields = size.fields(finished);
+        random::lend(&ANY);
+        Sides { size, clock, rust: PiecePicker::from_fields(&fields), proved: Proved::new(&fields) }
+    }
+
+    /// A round of each.
+    fn round<O: Op>(&mut self, best: &mut Best) {
+        let pieces = O::pieces(self.size);
+        let theirs = self.clock.time::<O, _>(&mut self.rust, &pieces);
+        let ours = self.clock.time::<O, _>(&mut self.proved, &pieces);
+        *best = least(*best, [ours, theirs]);
+    }
+
+    /// Both made the same, and rows and counts were up to date throughout.
+    fn check(&mut self) {
+        let before = settled(&self.proved.lent);
+        assert_eq!(self.proved.lent.test(), 0, "a picker stands in the buffers");
+        assert!(settled(&self.proved.lent) == before, "rows and counts were not up to date");
+        assert!(self.rust.image() == self.proved.lent.image(), "the two sides part");
+    }
+}
+
+/// Counts and priorities.
+fn counted(size: Size, clock: &Clock) -> [Best; 4] {
+    let mut sides = Sides::new(size, clock, &[]);
+    let mut best = [NONE_YET; 4];
     for _ in 0..ROUNDS {
-        for ((op, pieces), best) in ops.iter().zip(&pieces).zip(&mut best) {
-            let theirs = clock.time(&mut rust, *op, pieces);
-            let ours = clock.time(&mut proved, *op, pieces);
-            *best = least(*best, [ours, theirs]);
-        }
+        sides.round::<Up>(&mut best[0]);
+        sides.round::<Down>(&mut best[1]);
+        sides.round::<Remove>(&mut best[2]);
+        sides.round::<Add>(&mut best[3]);
     }
-    check(&rust, &mut proved);
+    sides.check();
     best
 }
 
-/// The same for a piece passed, which nothing undoes: both start anew each time.
-fn best_of_passed(size: Size, clock: &Clock) -> [f64; 2] {
-    let pieces = size.begun_pieces();
-    let fields = size.fields(&pieces);
-    let mut best = [f64::MAX; 2];
+/// Marks. Nothing undoes a piece passed: both sides start anew each time.
+fn marked(size: Size, clock: &Clock) -> [Best; 5] {
+    let mut sides = Sides::new(size, clock, &[]);
+    let mut best = [NONE_YET; 5];
+    for _ in 0..ROUNDS {
+        sides.round::<Mark>(&mut best[0]);
+        sides.round::<GiveBack>(&mut best[1]);
+        sides.round::<Open>(&mut best[2]);
+        sides.round::<Close>(&mut best[3]);
+    }
+    sides.check();
     for _ in 0..ROUNDS / 10 {
-        let (mut rust, mut proved) = (PiecePicker::from_fields(&fields), Proved::new(&fields));
-        let theirs = clock.time(&mut rust, Op::Passed, &pieces);
-        let ours = clock.time(&mut proved, Op::Passed, &pieces);
-        best = least(best, [ours, theirs]);
-        check(&rust, &mut proved);
+        let mut sides = Sides::new(size, clock, &size.begun_pieces());
+        sides.round::<Passed>(&mut best[4]);
+        sides.check();
     }
     best
 }
 
-fn print(size: Size, times: impl IntoIterator<Item = [f64; 2]>) {
+fn print(size: Size, times: &[Best]) {
     print!("{:6} {:3} {:8} {:9}", size.n, size.b, size.partials, size.most);
     for [ours, theirs] in times {
         print!(" {ours:7.3} {:5.2}", ours / theirs);
@@ -331,19 +355,16 @@ fn print(size: Size, times: impl IntoIterator<Item = [f64; 2]>) {
 
 fn main() {
     let clock = Clock::new();
-    let counted = [Op::Up, Op::Down, Op::Remove, Op::Add];
-    let marked = [Op::Mark, Op::GiveBack, Op::Open, Op::Close];
     println!("pieces   b partials counts to     up, to the Rust  down         remove          add");
     for most in [23, 900] {
         for (n, b, partials) in SIZES {
             let size = Size { n, b, partials, most };
-            print(size, best_of(size, &counted, &clock));
+            print(size, &counted(size, &clock));
         }
     }
-    println!("pieces   b partials counts to     mark, to the Rust  give back    open          close          passed");
+    println!("pieces   b partials counts to   mark, to the Rust  give back    open          close         passed");
     for (n, b, partials) in SIZES {
         let size = Size { n, b, partials, most: 23 };
-        let passed = best_of_passed(size, &clock);
-        print(size, best_of(size, &marked, &clock).into_iter().chain([passed]));
+        print(size, &marked(size, &clock));
     }
 }

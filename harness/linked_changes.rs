@@ -34,7 +34,8 @@ macro_rules! without_rows {
             $(fn $export(words: *mut u64, words_len: usize, cells: *mut u16, cells_len: usize, g: Geometry $(, $own: $kind)*) -> $answer;)*
         }
         impl Tested<'_> {
-            $(fn $name(&mut self $(, $own: $kind)*) -> $answer {
+            $(#[inline(always)]
+            fn $name(&mut self $(, $own: $kind)*) -> $answer {
                 let (words, cells) = (&mut *self.words, &mut *self.cells);
                 unsafe { $export(words.as_mut_ptr(), words.len(), cells.as_mut_ptr(), cells.len(), self.geometry $(, $own)*) }
             })*
@@ -51,7 +52,8 @@ macro_rules! with_rows {
                 live: usize, counts: *const u16, counts_len: usize, g: Geometry $(, $own: $kind)*) -> Outcome;)*
         }
         impl Tested<'_> {
-            $(fn $name(&mut self $(, $own: $kind)*) -> Outcome {
+            $(#[inline(always)]
+            fn $name(&mut self $(, $own: $kind)*) -> Outcome {
                 let (words, cells) = (&mut *self.words, &mut *self.cells);
                 unsafe {
                     $export(words.as_mut_ptr(), words.len(), cells.as_mut_ptr(), cells.len(), self.rows.as_ptr(), ROWS, self.live,
@@ -74,6 +76,10 @@ with_rows! {
     ch_abort_download as raw_abort_download(piece: usize, block: usize, has_peer: bool, peer: u64, draws: *const u32, draws_len: usize);
     ch_mark_as_canceled as raw_mark_as_canceled(piece: usize, block: usize, has_peer: bool, peer: u64, draws: *const u32, draws_len: usize);
     ch_piece_passed as raw_piece_passed(piece: usize);
+    ch_mark_as_downloading as raw_mark_as_downloading(piece: usize, block: usize, has_peer: bool, peer: u64, options: u16,
+        draws: *const u32, draws_len: usize);
+    ch_mark_as_writing as raw_mark_as_writing(piece: usize, block: usize, has_peer: bool, peer: u64, draws: *const u32, draws_len: usize);
+    ch_mark_as_finished as raw_mark_as_finished(piece: usize, block: usize, has_peer: bool, peer: u64, draws: *const u32, draws_len: usize);
 }
 
 #[link(name = "link_changes", kind = "static")]
@@ -83,7 +89,7 @@ extern "C" {
 
 impl Tested<'_> {
     /// Makes a change that no refusal stops; all but the edit of the records.
-    #[inline]
+    #[inline(always)]
     pub fn carry_out(&mut self, change: &Change, draws: &[u32]) -> Outcome {
         let (drawn, many) = (draws.as_ptr(), draws.len());
         let at = |piece: i64| piece as usize;
@@ -111,7 +117,18 @@ impl Tested<'_> {
             }
             Change::LockPiece { piece } => unsafe { ch_lock_piece(self.rows.as_ptr(), ROWS, self.live, at(piece)) },
             Change::PiecePassed { piece } => self.raw_piece_passed(at(piece)),
-            _ => unreachable!("no such change is linked"),
+            Change::MarkAsDownloading { piece, block, peer, options } => {
+                let (has_peer, peer) = named(peer);
+                self.raw_mark_as_downloading(at(piece), at(block), has_peer, peer, options, drawn, many)
+            }
+            Change::MarkAsWriting { piece, block, peer } => {
+                let (has_peer, peer) = named(peer);
+                self.raw_mark_as_writing(at(piece), at(block), has_peer, peer, drawn, many)
+            }
+            Change::MarkAsFinished { piece, block, peer } => {
+                let (has_peer, peer) = named(peer);
+                self.raw_mark_as_finished(at(piece), at(block), has_peer, peer, drawn, many)
+            }
         }
     }
 }

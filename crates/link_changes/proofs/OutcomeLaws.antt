@@ -1,16 +1,19 @@
 -- A whole change told in numbers. Assumes nothing.
 use Prim.Native.Nat.{ℕ}
-use mathlib.Core.Path.{_≡_, sym, subst, _∙_}
+use mathlib.Core.Path.{sym, subst, ap, _∙_}
 use mathlib.Core.Bool.{Bool}
 use mathlib.Core.List.{List}
+use mathlib.Core.Option.{some}
 use Rattle.model.specs.State.{Picker}
 use Rattle.model.specs.list.Order.{Draws, Drawing}
+use Rattle.model.specs.change.Changes.{Change}
 use Rattle.memory_records.specs.declared.record.DownloadingPiece.{DownloadingPiece as Record}
 use Rattle.memory_records.specs.declared.edits.Edit.{Edit}
 use Rattle.memory_layout.specs.declared.shape.Shape.{Shape}
 use Rattle.memory_layout.specs.Standing.{Changed, editRecords}
 use Rattle.change_steps.specs.Whole.{Done}
 use Rattle.change_flags.specs.Flagging.{EditAlone}
+use Rattle.change_marks.specs.Marks.{MarkDone}
 use Rattle.change_priority.specs.declared.changes.PrioritySet.{PrioritySet}
 use Rattle.change_priority.specs.Saying.{Said}
 use Rattle.link_changes.specs.declared.outcome.Outcome.{Outcome}
@@ -35,6 +38,16 @@ pub changed-told : (s : Shape) (after : Picker) (words cells : List ℕ) (record
     → Changed s after words cells (editRecords (editNamed r) records) words′ cells′
 changed-told s after words cells records words′ cells′ answer used edit r t =
     subst (λ e. Changed s after words cells (editRecords e records) words′ cells′) (sym (t .edits))
+
+-- a mark with its answer
+pub mark-told : (s : Shape) (mark : (w : Drawing) → Change) (records : List Record) (words cells words′ cells′ : List ℕ) (answer : Bool)
+    (used : ℕ) (edit : Edit) (r : Outcome) → Tells answer used edit r
+    → MarkDone s mark records words cells (editRecords edit records) words′ cells′ answer used
+    → MarkDone s mark records words cells (editRecords (editNamed r) records) words′ cells′ (r .answer) (r .used)
+mark-told s mark records words cells words′ cells′ answer used edit r t d = record {
+  done = done-told s (λ w. mark w .after) records words cells words′ cells′ answer used edit r t (d .done);
+  says = d .says ∙ ap some (sym (t .answers));
+}
 
 -- the answer of a new priority
 pub said-told : (s : Shape) (draws : Draws) (i priority : ℕ) (records : List Record) (words cells words′ cells′ : List ℕ)

@@ -10,7 +10,7 @@ ghost use Rattle.memory_layout.specs.Decode.{blocksOf};
 ghost use Rattle.memory_layout.specs.Standing.{editRecords};
 ghost use Rattle.change_steps.specs.Whole.{Done};
 ghost use Rattle.change_tally.specs.RowsStanding.{RowsStand};
-ghost use Rattle.change_giving.specs.Returning.{namedPeer};
+ghost use Rattle.change_blocks.specs.Replacing.{namedPeer};
 ghost use Rattle.link_lists.specs.Lending.{shaped};
 ghost use Rattle.link_changes.specs.Outcomes.{editNamed};
 

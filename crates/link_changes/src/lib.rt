@@ -4,6 +4,7 @@
 mod counts;
 mod flags;
 mod giving;
+mod marks;
 mod outcome;
 mod priority;
 
@@ -15,5 +16,8 @@ pub use flags::ch_lock_piece;
 pub use flags::ch_piece_passed;
 pub use giving::ch_abort_download;
 pub use giving::ch_mark_as_canceled;
+pub use marks::ch_mark_as_downloading;
+pub use marks::ch_mark_as_finished;
+pub use marks::ch_mark_as_writing;
 pub use outcome::Outcome;
 pub use priority::ch_set_piece_priority;
