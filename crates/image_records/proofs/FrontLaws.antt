@@ -95,6 +95,13 @@ module _ (kind at : ℕ) (bytes : List ℕ) where
         long = rw m (length-take-le (bodyLength kind) (drop start bytes) (omega (arith, length-drop start bytes)));
       }
 
+  pub body-at : startsWith kind (drop at bytes) ≡ true → Body kind at bytes (bodyAt kind at bytes)
+  unfolding bodyAt
+  body-at e = record {
+    is = refl;
+    long = length-take-le (bodyLength kind) (drop 1 (drop at bytes)) (omega (arith, stands-within e, length-drop 1 (drop at bytes), length-drop at bytes));
+  }
+
 -- ---- what its reader finds
 module _ {A : Type 0} (kind : ℕ) (read : List ℕ → Option A) where
   judged-given : (bs : List ℕ) → startsWith kind bs ≡ true
@@ -124,3 +131,18 @@ module _ {A : Type 0} (kind : ℕ) (read : List ℕ → Option A) where
     pub judged-fault : read body ≡ none → judged kind read (drop at bytes) ≡ fault (drop at bytes)
     unfolding given
     judged-fault f = judged-body ∙ ap (given (drop at bytes) (drop (at + suc (bodyLength kind)) bytes)) f
+
+  -- either way, for a caller: a fault where the record starts, or a value and the place behind it
+  module _ {X : Type 0} (at : ℕ) (bytes : List ℕ) (bad : judged kind read (drop at bytes) ≡ fault (drop at bytes) → X)
+      (good : (a : A) → at + suc (bodyLength kind) ≤ length bytes → read (bodyAt kind at bytes) ≡ some a
+      → judged kind read (drop at bytes) ≡ got a (drop (at + suc (bodyLength kind)) bytes) → X) where
+    by-value : startsWith kind (drop at bytes) ≡ true → Body kind at bytes (bodyAt kind at bytes) → (o : Option A)
+        → read (bodyAt kind at bytes) ≡ o → X
+    by-value e b none f = bad (judged-fault at bytes e (bodyAt kind at bytes) b f)
+    by-value e b (some a) f =
+        good a (omega (arith, stands-within kind at bytes e)) f (judged-found at bytes e (bodyAt kind at bytes) b a f)
+
+    pub judged-cases : X
+    judged-cases =
+        by-test (startsWith kind (drop at bytes)) (λ e. by-value e (body-at kind at bytes e) (read (bodyAt kind at bytes)) refl)
+        (λ e. bad (judged-none (drop at bytes) e))
