@@ -204,6 +204,13 @@ module _ (n w start many : ℕ) (bytes first ranks : List ℕ) (last at k : ℕ)
         within = p .room;
       }
 
+-- ---- a reader that ends with what it found
+pub went-on : {A B : Type 0} (bytes : List ℕ) (g : Got A) (f : A → B) (to : Place) → Went g bytes to → Went (next g (λ x. ret (f x))) bytes to
+unfolding Went
+went-on bytes g f (At k) w =
+    record { value = f (w .value); is = next-got g (λ x. ret (f x)) (w .value) (drop k bytes) (w .is); within = w .within }
+went-on bytes g f (Fault k) w = record { is = next-fault g (λ x. ret (f x)) (drop k bytes) (w .is); within = w .within }
+
 -- ---- the list
 -- a dirty one has no place
 pub listing-dirty : (at n : ℕ) (isDirty : Bool) (ranks bytes : List ℕ) → isDirty ≡ true → at ≤ length bytes
@@ -229,10 +236,5 @@ module _ (at n : ℕ) (isDirty : Bool) (ranks bytes : List ℕ) (e : isDirty ≡
   listing-is s r many em =
       rw (e, many-is s r, em)
 
-  went-on : {A B : Type 0} (g : Got A) (f : A → B) (to : Place) → Went g bytes to → Went (next g (λ x. ret (f x))) bytes to
-  unfolding Went
-  went-on g f (At k) w = record { value = f (w .value); is = next-got g (λ x. ret (f x)) (w .value) (drop k bytes) (w .is); within = w .within }
-  went-on g f (Fault k) w = record { is = next-fault g (λ x. ret (f x)) (drop k bytes) (w .is); within = w .within }
-
   pub listing-fresh : (many : ℕ) → many ≡ rankedIn ranks n → (to : Place) → OrderJudged at many n ranks bytes to → ListingJudged at isDirty n ranks bytes to
-  listing-fresh many em to o s r = rw (listing-is s r many em) (went-on (getOrder s many [] (drop at bytes)) fresh to (o s r))
+  listing-fresh many em to o s r = rw (listing-is s r many em) (went-on bytes (getOrder s many [] (drop at bytes)) fresh to (o s r))
