@@ -42,7 +42,7 @@ unfolding numberRecord bytesOf
 number-long kind n = refl
 
 -- ---- numbers
-bit-yes : (v : ℕ) → v ≤ 1 → bit (yes? v) ≡ v
+pub bit-yes : (v : ℕ) → v ≤ 1 → bit (yes? v) ≡ v
 unfolding yes?
 bit-yes zero h = refl
 bit-yes (suc zero) h = refl
