@@ -4,4 +4,6 @@ mod lengths;
 mod whole;
 
 pub use lengths::image_length;
+pub use whole::Taken;
+pub use whole::take_image;
 pub use whole::write_image;

@@ -1,4 +1,5 @@
 // The whole image, part behind part.
+use crate::lengths::image_length;
 use image_bytes::body_length;
 use image_parts::put_extents;
 use image_parts::put_head_of;
@@ -12,7 +13,7 @@ ghost use Rattle.model.specs.Lists.{len};
 ghost use Rattle.model.specs.image.Image.{image};
 ghost use Rattle.memory_rows.specs.Lookup.{pickerIn};
 ghost use Rattle.ask_picker.specs.Asked.{Asked};
-ghost use Rattle.image_write.specs.Written.{ImageWritten};
+ghost use Rattle.image_write.specs.Written.{ImageWritten, ImageTaken};
 
 // How many bytes were written.
 pub fn write_image(
@@ -34,4 +35,30 @@ pub fn write_image(
     let partials = put_partials(words, cells, rows, live, s, bytes, pieces);
     let extents = put_extents(words, bytes, partials);
     put_list(words, s, bytes, extents)
+}
+
+// How many bytes were written, or that the buffer is shorter than the image.
+pub enum Taken {
+    Bytes(usize),
+    Short,
+}
+
+// The image where it has room; else nothing is written.
+pub fn take_image(
+    words: &[u64],
+    cells: &[u16],
+    rows: &[u32],
+    live: usize,
+    s: Shape,
+    bytes: &mut [u8],
+) -> Taken
+    requires { ⌜ Asked s live (now rows) (now words) (now cells) ⌝ }
+    ensures { λ r. ⌜ ImageTaken (pickerIn live (now (rows .entry)) (now (words .entry)) (now (cells .entry))) (now (bytes .entry))
+        (now (bytes .exit)) r ⌝ }
+{
+    let long = image_length(words, rows, live, s);
+    if bytes.len() < long {
+        return Taken::Short;
+    }
+    Taken::Bytes(write_image(words, cells, rows, live, s, bytes))
 }
