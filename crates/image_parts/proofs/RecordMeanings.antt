@@ -19,7 +19,7 @@ use Rattle.memory_layout.specs.Bounds.{PlainPieces, PlainBlock}
 use Rattle.memory_layout.proofs.Numbers.{queue-number, state-number}
 use Rattle.image_bytes.specs.Put.{Put}
 use Rattle.image_bytes.proofs.PutLaws.{put-as}
-use Rattle.image_records.specs.Fields.{headFields, pieceFields, partialFields, blockFields}
+use Rattle.image_put.specs.Fields.{headFields, pieceFields, partialFields, blockFields}
 use Rattle.image_parts.specs.Parts.{Appended, headIn, peerWritten}
 use Rattle.image_parts.proofs.RunLaws.{appended-then, appended-as, run-long}
 

@@ -8,7 +8,7 @@ use Rattle.memory_layout.specs.declared.shape.Shape.{Shape}
 use Rattle.memory_layout.specs.Decode.{headWord, yes?}
 use Rattle.memory_layout.specs.Bounds.{PlainBlock}
 use Rattle.image_bytes.specs.Put.{Put}
-use Rattle.image_records.specs.Fields.{headFields}
+use Rattle.image_put.specs.Fields.{headFields}
 
 -- bytes from a place on, and the place behind them
 pub record Appended (at : ℕ) (bs before after : List ℕ) (next : ℕ) : Type 0 where

@@ -1,6 +1,6 @@
 // The blocks of a partial.
 use image_bytes::body_length;
-use image_records::put_block;
+use image_put::put_block;
 use memory_layout::Shape;
 use memory_layout::block_cell;
 use memory_layout::peer_word;

@@ -1,5 +1,5 @@
 // The head.
-use image_records::put_head;
+use image_put::put_head;
 use memory_layout::head_word;
 ghost use Prim.Native.Nat.{_≤_};
 ghost use lib.ListN.{length};

@@ -1,6 +1,6 @@
 // The records of one number: recent extents, oldest first, and the places of the list. A dirty list has none.
 use image_bytes::body_length;
-use image_records::put_number;
+use image_put::put_number;
 use memory_layout::Shape;
 use memory_layout::head_word;
 use memory_layout::piece_word;

@@ -2,7 +2,7 @@
 use crate::blocks::put_blocks;
 use geometry::blocks_at;
 use image_bytes::body_length;
-use image_records::put_partial;
+use image_put::put_partial;
 use memory_layout::Shape;
 use memory_layout::head_word;
 use memory_records::DownloadingPiece;

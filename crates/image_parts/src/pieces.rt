@@ -1,6 +1,6 @@
 // The pieces.
 use image_bytes::body_length;
-use image_records::put_piece;
+use image_put::put_piece;
 use memory_layout::Shape;
 use memory_layout::piece_cell;
 use memory_layout::piece_word;

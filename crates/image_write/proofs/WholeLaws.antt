@@ -21,7 +21,7 @@ use Rattle.memory_layout.proofs.Meanings.{dirty-is, list-is}
 use Rattle.memory_rows.specs.Lookup.{pickerIn}
 use Rattle.ask_picker.specs.Asked.{Asked}
 use Rattle.image_bytes.specs.Put.{Put}
-use Rattle.image_records.specs.Fields.{headFields}
+use Rattle.image_put.specs.Fields.{headFields}
 use Rattle.image_parts.specs.Parts.{Appended, headIn}
 use Rattle.image_parts.proofs.RunLaws.{appended-then, appended-as, run-long}
 use Rattle.image_parts.proofs.RecordMeanings.{bit-yes, piece-long, number-long}

@@ -8,7 +8,7 @@ ghost use Prim.Native.Nat.{_+_, _≤_, _<_};
 ghost use lib.ListN.{length};
 ghost use Rattle.model.specs.image.Image.{numberRecord};
 ghost use Rattle.image_bytes.specs.Put.{Put};
-ghost use Rattle.image_records.specs.Fields.{headFields, pieceFields, partialFields, blockFields};
+ghost use Rattle.image_put.specs.Fields.{headFields, pieceFields, partialFields, blockFields};
 
 // The kinds.
 const HEAD: u64 = 1;

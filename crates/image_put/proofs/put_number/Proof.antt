@@ -1,9 +1,9 @@
 -- `put_number` meets its contract. Assumes nothing.
-use Rattle.image_records.proofs.Chain.{put-kind}
+use Rattle.image_put.proofs.Chain.{put-kind}
 use Rattle.model.specs.image.Image.{numberRecord}
 use borrow.Author.Needs.{needs}
-use Rattle.image_records.proofs.put_number.Statement.{statement}
-use Rattle.image_records.proofs.put_number.Tie as tie
+use Rattle.image_put.proofs.put_number.Statement.{statement}
+use Rattle.image_put.proofs.put_number.Tie as tie
 
 put1-requires : tie.Need-put1-requires
 put1-requires c κs = search needs
