@@ -10,11 +10,13 @@ mod calls;
 mod draws;
 mod lent;
 mod linked_changes;
+mod linked_questions;
 #[allow(dead_code)]
 mod list_operations;
 mod pair;
 #[allow(dead_code)]
 mod picker;
+mod questions;
 mod records;
 mod rng;
 mod states;
@@ -24,6 +26,7 @@ use draws::Draws;
 use oracle::image::{self, Fields};
 use oracle::piece_picker::PiecePicker;
 use pair::{Made, Pair, Spoilt};
+use questions::Questions;
 use rng::Rng;
 use states::{a_picker, Kind};
 use std::collections::BTreeMap;
@@ -84,7 +87,8 @@ fn a_start(rng: &mut Rng, kind: Kind, seen: &mut Seen) -> Fields {
 }
 
 /// One list of calls; an error says what differs after which of them.
-fn a_list(rng: &mut Rng, kind: Kind, many: usize, draws: &Draws, spoilt: Spoilt, seen: &mut Seen) -> Result<(), String> {
+fn a_list(rng: &mut Rng, kind: Kind, many: usize, draws: &Draws, spoilt: Spoilt, seen: &mut Seen,
+    questions: &mut Questions) -> Result<(), String> {
     let start = a_start(rng, kind, seen);
     let mut pair = Pair::new(rng, &start)?;
     let calls = Calls::new(rng, &pair.lent);
@@ -97,7 +101,10 @@ fn a_list(rng: &mut Rng, kind: Kind, many: usize, draws: &Draws, spoilt: Spoilt,
         let dirty = pair.lent.is_dirty();
         let spoilt = if k > 20 { spoilt } else { Spoilt::Nothing };
         match pair.change(&change, &words, spoilt).map_err(|what| format!("call {k}, {change:?}: {what}"))? {
-            Some(made) => note_made(seen, name_of(&format!("{change:?}")), &made, dirty),
+            Some(made) => {
+                note_made(seen, name_of(&format!("{change:?}")), &made, dirty);
+                questions.ask(&pair.rust, &pair.lent, &calls, &change).map_err(|what| format!("after call {k}, {change:?}: {what}"))?;
+            }
             None => note(seen, "refused"),
         }
     }
@@ -118,24 +125,40 @@ fn spoilt_by(name: Option<&str>) -> Spoilt {
         Some("word") => Spoilt::Word,
         Some("record") => Spoilt::Record,
         Some("beyond") => Spoilt::Beyond,
+        Some("reply" | "behind") => Spoilt::Nothing,
         Some(_) => panic!("no such value"),
     }
 }
 
+/// What is spoilt of the questions.
+fn spoilt_question(name: Option<&str>) -> questions::Spoilt {
+    match name {
+        Some("reply") => questions::Spoilt::Reply,
+        Some("behind") => questions::Spoilt::Behind,
+        _ => questions::Spoilt::Nothing,
+    }
+}
+
 fn main() {
-    let spoilt = spoilt_by(std::env::args().nth(1).as_deref());
+    let name = std::env::args().nth(1);
+    let spoilt = spoilt_by(name.as_deref());
+    let mut questions = Questions::new(SEED, spoilt_question(name.as_deref()));
     let mut rng = Rng::new(SEED);
     let (draws, mut seen) = (Draws::new(&mut rng), Seen::new());
     for (kind, lists, many) in PLAN {
         for list in 0..lists {
-            if let Err(what) = a_list(&mut rng, kind, many, &draws, spoilt, &mut seen) {
+            if let Err(what) = a_list(&mut rng, kind, many, &draws, spoilt, &mut seen, &mut questions) {
                 eprintln!("beside: list {list}, {what}");
                 exit(1);
             }
         }
     }
     let told: Vec<String> = seen.iter().map(|(name, many)| format!("{many} {name}")).collect();
-    println!("the Rust and the linked code agree: {}", told.join(", "));
+    let asked = questions.told().unwrap_or_else(|what| {
+        eprintln!("beside: {what}");
+        exit(2);
+    });
+    println!("the Rust and the linked code agree: {}, {asked} questions", told.join(", "));
     for (name, least) in LEAST {
         let many = seen.get(name).copied().unwrap_or(0);
         if many < least {

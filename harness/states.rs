@@ -26,6 +26,8 @@ pub enum Kind {
     Huge,
     /// 4,096 pieces of 256 blocks.
     Full,
+    /// For timing: so many pieces, blocks of a piece, and partials.
+    Sized([usize; 3]),
 }
 
 impl Kind {
@@ -43,6 +45,7 @@ impl Kind {
             Kind::Crowded => (rng.of(&[600, 1024, 1500]), 1),
             Kind::Huge => (rng.of(&[513, 600, 1024, 4096, 4096]), rng.of(&[1, 1, 2, 16]) * BLOCK),
             Kind::Full => (4096, 256 * BLOCK),
+            Kind::Sized([pieces, blocks, _]) => (pieces as i64, blocks as i64 * BLOCK),
         };
         let any = rng.between(1, size as u64) as i64;
         let last = rng.of(&[1, size, any]);
@@ -57,6 +60,7 @@ impl Kind {
             Kind::Crowded => rng.of(&[510, 511, 512, 512]),
             Kind::Huge => rng.of(&[0, 8, 64, 400, 512]),
             Kind::Full => rng.of(&[8, 64, 511]),
+            Kind::Sized([_, _, partials]) => partials,
         }
     }
 }

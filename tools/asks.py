@@ -1,5 +1,6 @@
 #!/usr/bin/env python3
-"""Writes the proofs of questions that hand on what one function below answers: they differ in names alone.
+"""Writes the proofs of questions that hand on what one function below answers, which differ in names alone, and the exports of all
+questions, which comparison and timing call (`ask_links`).
 
     tools/asks.py            writes them
     tools/asks.py --check    says which differ from what would be written, and fails where one does
@@ -8,6 +9,8 @@ The prover checks what is written here: nothing of this tool is trusted."""
 
 import pathlib
 import sys
+
+import ask_links
 
 ROOT = pathlib.Path(__file__).resolve().parent.parent
 
@@ -261,7 +264,7 @@ def files():
         names = ', '.join(n for n in ('inl', 'inr') if n in case)
         text = FLAG.format(fn=fn, weight=weight, case=case, names=names, kebab=kebab(fn))
         made[ROOT / 'crates/ask_partial/proofs/flags' / fn / 'Proof.antt'] = text
-    return made
+    return made | ask_links.files(ROOT)
 
 
 def main(args):

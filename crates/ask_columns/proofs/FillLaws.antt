@@ -7,17 +7,20 @@ use native.Mathlib.Omega.{arith}
 use lib.ListN.{length, getD, set, length-set}
 use lib.Seq.{getD-set-same, getD-set-other}
 use Rattle.model.specs.Lists.{each}
-use Rattle.model.specs.State.{Piece, Picker}
+use Rattle.model.specs.State.{Piece, Picker, pieceAt}
 use Rattle.model.specs.ask.Questions.{Reply, plain, listPicker, get-availability-vec, piece-priorities, availability}
 use Rattle.memory_records.specs.declared.record.DownloadingPiece.{DownloadingPiece as Record}
 use Rattle.memory_layout.specs.declared.shape.Shape.{Shape}
 use Rattle.memory_layout.specs.Tables.{tabulate, front}
 use Rattle.memory_layout.specs.Decode.{headWord, pieceCell, pieceHeld, piecesHeld, decode}
+use Rattle.model.proofs.sound.SoundLaws.{wellFormed-sound}
+use Rattle.model.proofs.sound.SoundBody.{piece-in}
 use Rattle.memory_layout.proofs.TableLaws.{tabulate-ext}
+use Rattle.memory_layout.proofs.Meanings.{pieces-number, peer-count-is, priority-is}
 use Rattle.memory_layout.proofs.BoundsLaws.{decode-at}
 use Rattle.memory_layout.specs.Standing.{StandsBeside}
 use Rattle.ask_picker.proofs.AskedLaws.{some-piece, peers-few}
-use Rattle.ask_columns.specs.Filled.{ColumnFilled, Told}
+use Rattle.ask_columns.specs.Filled.{ColumnFits, ColumnFilled, Told}
 
 -- ---- one after another
 pub filled-start : (cells : List ℕ) (n f more : ℕ) (out : List ℕ) → ColumnFilled cells n f more 0 out out
@@ -92,3 +95,23 @@ pub seeds-few : (s : Shape) (words cells : List ℕ) → StandsBeside s words ce
 seeds-few s words cells g =
     let some = some-piece s (g .records) words cells (g .stands) in
     omega (arith, peers-few s (g .records) words cells (g .stands) 0 (omega arith))
+
+-- their columns have room
+module _ (s : Shape) (words cells : List ℕ) (g : StandsBeside s words cells) where
+  pub availability-fits : ColumnFits cells (s .pieces) 0 (headWord words 2)
+  availability-fits i h = omega (
+    arith,
+    peers-few s (g .records) words cells (g .stands) i h,
+    peer-count-is s (g .records) words cells (g .stands .bounds) i h,
+  )
+
+  pub priorities-fit : ColumnFits cells (s .pieces) 2 0
+  priorities-fit i h =
+      let d = decode (g .records) words cells in
+      let w = wellFormed-sound d (g .stands .sound) in
+      let m = pieces-number s (g .records) words cells (g .stands .bounds) in
+      omega (
+        arith,
+        piece-in d i (pieceAt d i) (w .piece i (omega (arith, m))) .priority,
+        priority-is s (g .records) words cells (g .stands .bounds) i h,
+      )

@@ -1,10 +1,9 @@
 -- The least copies and how many have more, one piece after another, and what they are of the picker. Assumes nothing.
 use mathlib.Core.Path.{_≡_, refl, sym, ap, ap₂, _∙_}
-use mathlib.Core.Logic.{_≢_}
-use mathlib.Core.Bool.{Bool, cond}
+use mathlib.Core.Bool.{Bool}
 use mathlib.Core.List.{List, [], _∷_, _++_}
 use Prim.Native.Nat.{ℕ, zero, suc, _+_, _*_, _/_, _≤_, _<_}
-use native.Mathlib.Decide.{decLt, decLe}
+use native.Mathlib.Decide.{decLe, ℕ-discrete}
 use native.Mathlib.Omega.{arith}
 use lib.Dec.{ltb}
 use borrow.Author.Tests.{eq-eqb, ne-eqb, lt-ltb, le-ltb, le-leb, lt-leb}
@@ -17,17 +16,21 @@ use Rattle.memory_layout.specs.Tables.{tabulate}
 use Rattle.memory_layout.specs.Decode.{headWord, pieceCell, yes?, pieceHeld, piecesHeld}
 use Rattle.memory_layout.proofs.TableLaws.{tabulate-len, tabulate-more}
 use Rattle.memory_layout.proofs.BoundsLaws.{decode-at}
+use Rattle.memory_layout.specs.Standing.{StandsBeside}
+use Rattle.memory_layout.proofs.Meanings.{peer-count-is}
 use Rattle.ask_picker.specs.Telling.{BothSay}
+use Rattle.ask_picker.proofs.AskedLaws.{peers-few}
+use Rattle.ask_picker.proofs.TableParts.{tabulate-split}
 use Rattle.ask_columns.specs.declared.copies.Least.{Least}
 use Rattle.ask_columns.specs.declared.copies.DistributedCopies.{DistributedCopies}
-use Rattle.ask_columns.specs.Copies.{copiesHeld, leastOf, Lowered, LeastIn, copiesReply}
+use Rattle.ask_columns.specs.Copies.{copiesHeld, copiesFrom, leastOf, FewCopies, LeastIn, copiesReply}
 
 -- ---- the lesser of two
-least-lt : (a b : ℕ) → b < a → least a b ≡ b
+pub least-lt : (a b : ℕ) → b < a → least a b ≡ b
 unfolding least
 least-lt a b h = rw (lt-leb a b h)
 
-least-le : (a b : ℕ) → a ≤ b → least a b ≡ a
+pub least-le : (a b : ℕ) → a ≤ b → least a b ≡ a
 unfolding least
 least-le a b h = rw (le-leb a b h)
 
@@ -38,10 +41,10 @@ least-low a b = elim (decLe a b) [
 ]
 
 -- ---- of a list
-least-behind : (n x : ℕ) (xs : List ℕ) → leastOf n (xs ++ (x ∷ [])) ≡ least (leastOf n xs) x
+least-append : (n : ℕ) (xs ys : List ℕ) → leastOf n (xs ++ ys) ≡ leastOf (leastOf n xs) ys
 unfolding leastOf
-least-behind n x [] = refl
-least-behind n x (y ∷ ys) = least-behind (least n y) x ys
+least-append n [] ys = refl
+least-append n (x ∷ xs) ys = least-append (least n x) xs ys
 
 least-under : (n : ℕ) (xs : List ℕ) → leastOf n xs ≤ n
 unfolding leastOf
@@ -56,48 +59,60 @@ above-all c n (x ∷ xs) h =
     let l : c < x = omega (arith, least-under (least n x) xs, least-low n x .1) in
     omega (arith, ap bit (lt-ltb c x l), above-all c (least n x) xs h)
 
-count-behind : (t : ℕ → Bool) (x : ℕ) (xs : List ℕ) → count t (xs ++ (x ∷ [])) ≡ count t xs + bit (t x)
-unfolding count
-count-behind t x xs = count-append t xs (x ∷ []) ∙ omega arith
-
--- ---- one piece more
-module _ (at : Least) (passed c : ℕ) where
-  -- a new least
-  pub lowered-new : c < at .copies → Lowered at passed c (record { copies = c; more = passed })
-  lowered-new h = record { copies = sym (least-lt (at .copies) c h); more = rw (lt-ltb c (at .copies) h) refl }
-
-  -- one that has more
-  pub lowered-more : at .copies < c → Lowered at passed c (record { copies = at .copies; more = at .more + 1 })
-  lowered-more h =
-      let l : at .copies ≤ c = omega arith in
-      record { copies = sym (least-le (at .copies) c l); more = rw (le-ltb c (at .copies) l, lt-ltb (at .copies) c h) refl }
-
-  -- one that has as many
-  pub lowered-same : at .copies ≤ c → c ≤ at .copies → Lowered at passed c at
-  lowered-same l h = record {
-    copies = sym (least-le (at .copies) c l);
-    more = rw (le-ltb c (at .copies) l, le-ltb (at .copies) c h) (omega arith);
-  }
-
 -- ---- of one piece
-module _ (cells : List ℕ) (n i peers flushed : ℕ) (e : peers ≡ pieceCell cells n 0 i) (o : flushed ≡ pieceCell cells n 3 i) where
-  -- a flushed one
-  pub copies-flushed : flushed ≡ 1 → peers + 1 ≡ copiesHeld cells n i
-  unfolding copiesHeld yes?
-  copies-flushed h = ap₂ (λ (x y : ℕ). x + y) e (sym (ap bit (eq-eqb (pieceCell cells n 3 i) 1 (sym o ∙ h))))
+module _ (cells : List ℕ) (n : ℕ) (few : FewCopies cells n) (i : ℕ) (h : i < n) where
+  -- what is 0 or 1 is its own bit
+  flag-bit : (x : ℕ) → x ≤ 1 → x ≡ bit (yes? x)
+  unfolding yes?
+  flag-bit x l = elim (ℕ-discrete x 1) [
+    | yes e ↦ e ∙ sym (ap bit (eq-eqb x 1 e))
+    | no d ↦ omega (arith, d, ap bit (ne-eqb x 1 d))
+  ]
 
-  -- any other
-  pub copies-plain : flushed ≢ 1 → peers ≡ copiesHeld cells n i
-  unfolding copiesHeld yes?
-  copies-plain h = omega (arith, e, ap bit (ne-eqb (pieceCell cells n 3 i) 1 (λ q. h (o ∙ q))))
+  -- the two cells added
+  pub copies-sum : (peers flushed : ℕ) → peers ≡ pieceCell cells n 0 i → flushed ≡ pieceCell cells n 3 i
+      → peers + flushed ≡ copiesHeld cells n i
+  unfolding copiesHeld
+  copies-sum peers flushed e o =
+      ap₂ (λ (x y : ℕ). x + y) e (o ∙ flag-bit (pieceCell cells n 3 i) (few .flushed i h))
+
+  -- which have room
+  pub copies-low : (peers flushed : ℕ) → peers ≡ pieceCell cells n 0 i → flushed ≡ pieceCell cells n 3 i → peers + flushed < 65536
+  copies-low peers flushed e o = omega (arith, e, o, few .peers i h, few .flushed i h)
+
+-- ---- a stretch
+module _ (cells : List ℕ) (n i : ℕ) where
+  stretch-more : (k : ℕ) → copiesFrom cells n i (k + 1) ≡ copiesFrom cells n i k ++ (copiesHeld cells n (i + k) ∷ [])
+  unfolding copiesFrom
+  stretch-more k =
+      let e : k + 1 ≡ suc k = omega arith in
+      ap (λ (m : ℕ). tabulate m (λ j. copiesHeld cells n (i + j))) e ∙ tabulate-more k (λ j. copiesHeld cells n (i + j))
+
+  pub stretch-len : (k : ℕ) → len (copiesFrom cells n i k) ≡ k
+  unfolding copiesFrom
+  stretch-len k = tabulate-len k (λ j. copiesHeld cells n (i + j))
+
+  -- one piece more
+  pub least-next : (start k x c : ℕ) → x ≡ leastOf start (copiesFrom cells n i k) → c ≡ copiesHeld cells n (i + k)
+      → least x c ≡ leastOf start (copiesFrom cells n i (k + 1))
+  unfolding leastOf
+  least-next start k x c e o =
+      ap₂ least e o ∙ sym (ap (leastOf start) (stretch-more k) ∙ least-append start (copiesFrom cells n i k) (copiesHeld cells n (i + k) ∷ []))
+
+  pub more-next : (l k x c : ℕ) → x ≡ count (ltb l) (copiesFrom cells n i k) → c ≡ copiesHeld cells n (i + k)
+      → x + bit (ltb l c) ≡ count (ltb l) (copiesFrom cells n i (k + 1))
+  unfolding count
+  more-next l k x c e o =
+      let m = ap (count (ltb l)) (stretch-more k) ∙ count-append (ltb l) (copiesFrom cells n i k) (copiesHeld cells n (i + k) ∷ []) in
+      omega (arith, m, e, ap (λ (y : ℕ). bit (ltb l y)) o)
+
+  -- no more than there are
+  pub more-few : (l k : ℕ) → count (ltb l) (copiesFrom cells n i k) ≤ k
+  unfolding len
+  more-few l k = omega (arith, count-le (ltb l) (copiesFrom cells n i k), stretch-len k)
 
 -- ---- the pass
 module _ (cells : List ℕ) (n : ℕ) where
-  table-more : (i : ℕ) → tabulate (i + 1) (copiesHeld cells n) ≡ tabulate i (copiesHeld cells n) ++ (copiesHeld cells n i ∷ [])
-  table-more i =
-      let e : i + 1 ≡ suc i = omega arith in
-      ap (λ (k : ℕ). tabulate k (copiesHeld cells n)) e ∙ tabulate-more i (copiesHeld cells n)
-
   pub least-start : LeastIn cells n 0 (record { copies = 65535; more = 0 })
   unfolding tabulate leastOf count
   least-start = record { copies = refl; more = refl }
@@ -113,33 +128,47 @@ module _ (cells : List ℕ) (n : ℕ) where
   pub least-most : (i : ℕ) (r : Least) → LeastIn cells n i r → r .copies ≤ 65535
   least-most i r g = omega (arith, g .copies, least-under maxPeerCount (tabulate i (copiesHeld cells n)))
 
-  pub least-next : (i : ℕ) (at r : Least) (passed c : ℕ) → LeastIn cells n i at → passed ≡ i → c ≡ copiesHeld cells n i
-      → Lowered at passed c r → LeastIn cells n (i + 1) r
-  least-next i at r passed c g e o v =
-      let f = copiesHeld cells n in
-      let m = ap (count (ltb (r .copies))) (table-more i) ∙ count-behind (ltb (r .copies)) (f i) (tabulate i f) in
-      record {
-        copies = v .copies ∙ ap₂ least (g .copies) o ∙ sym (least-behind maxPeerCount (f i) (tabulate i f))
-            ∙ ap (leastOf maxPeerCount) (sym (table-more i));
-        more = elim (decLt c (at .copies)) [
-          | yes h ↦ (
-              let q : r .copies ≡ c = v .copies ∙ least-lt (at .copies) c h in
-              let a : r .more ≡ passed = v .more ∙ ap (λ (t : Bool). cond t passed (at .more + bit (ltb (at .copies) c))) (lt-ltb c _ h) in
-              let b : count (ltb (r .copies)) (tabulate i f) ≡ len (tabulate i f) =
-              above-all (r .copies) maxPeerCount (tabulate i f) (omega (arith, g .copies)) in
-              let z : bit (ltb (r .copies) (f i)) ≡ 0 = ap bit (le-ltb (r .copies) (f i) (omega (arith, o))) in
-              omega (arith, m, a, b, z, tabulate-len i f)
-              )
-          | no h ↦ (
-              let l : at .copies ≤ c = omega (arith, h) in
-              let q : r .copies ≡ at .copies = v .copies ∙ least-le (at .copies) c l in
-              let a : r .more ≡ at .more + bit (ltb (at .copies) c) =
-              v .more ∙ ap (λ (t : Bool). cond t passed (at .more + bit (ltb (at .copies) c))) (le-ltb c (at .copies) l) in
-              a ∙ ap₂ (λ (x y : ℕ). x + y) (g .more ∙ ap (λ (k : ℕ). count (ltb k) (tabulate i f)) (sym q))
-              (ap₂ (λ (k y : ℕ). bit (ltb k y)) (sym q) o) ∙ sym m
-              )
-        ];
-      }
+  module _ (i many : ℕ) (at : Least) (g : LeastIn cells n i at) (low a : ℕ) (e : low ≡ leastOf (at .copies) (copiesFrom cells n i many))
+      (o : a ≡ count (ltb low) (copiesFrom cells n i many)) where
+    whole : tabulate (i + many) (copiesHeld cells n) ≡ tabulate i (copiesHeld cells n) ++ copiesFrom cells n i many
+    unfolding copiesFrom
+    whole = tabulate-split i many (copiesHeld cells n)
+
+    lowest-whole : low ≡ leastOf maxPeerCount (tabulate (i + many) (copiesHeld cells n))
+    lowest-whole =
+        let f = copiesHeld cells n in
+        e ∙ ap (λ (x : ℕ). leastOf x (copiesFrom cells n i many)) (g .copies)
+        ∙ sym (ap (leastOf maxPeerCount) whole ∙ least-append maxPeerCount (tabulate i f) (copiesFrom cells n i many))
+
+    more-whole : count (ltb low) (tabulate (i + many) (copiesHeld cells n)) ≡ count (ltb low) (tabulate i (copiesHeld cells n)) + a
+    more-whole =
+        let f = copiesHeld cells n in
+        ap (count (ltb low)) whole ∙ count-append (ltb low) (tabulate i f) (copiesFrom cells n i many)
+        ∙ ap (λ (x : ℕ). count (ltb low) (tabulate i f) + x) (sym o)
+
+    -- a new least: all before it have more
+    pub lowered-new : low < at .copies → LeastIn cells n (i + many) (record { copies = low; more = i + a })
+    lowered-new h =
+        let f = copiesHeld cells n in
+        record {
+          copies = lowest-whole;
+          more = omega (
+            arith,
+            more-whole,
+            above-all low maxPeerCount (tabulate i f) (omega (arith, g .copies)),
+            tabulate-len i f,
+          );
+        }
+
+    -- the same least
+    pub lowered-same : at .copies ≤ low → LeastIn cells n (i + many) (record { copies = low; more = at .more + a })
+    lowered-same h =
+        let f = copiesHeld cells n in
+        let q : at .copies ≡ low = omega (arith, e, least-under (at .copies) (copiesFrom cells n i many)) in
+        record {
+          copies = lowest-whole;
+          more = omega (arith, more-whole, g .more, ap (λ (x : ℕ). count (ltb x) (tabulate i f)) q);
+        }
 
 -- ---- of the picker
 module _ (words cells : List ℕ) (n : ℕ) where
@@ -177,4 +206,15 @@ copies-told s words cells at g r a b = record {
       ap₂ (λ (x y : ℕ). plain (x ∷ y ∷ [])) (a ∙ ap (λ (x : ℕ). x + headWord words 2) k)
       (b ∙ ap₂ (λ (x y : ℕ). x * 1000 / y) m (sym (tabulate-len n p)))
       ∙ ap (λ (d : Picker). replyPicker d distributed-copies) (sym (decode-at s records words cells q));
+}
+
+-- ---- of a picker that stands
+pub few-copies : (s : Shape) (words cells : List ℕ) → StandsBeside s words cells → FewCopies cells (s .pieces)
+few-copies s words cells g = record {
+  peers = λ i h. omega (
+    arith,
+    peers-few s (g .records) words cells (g .stands) i h,
+    peer-count-is s (g .records) words cells (g .stands .bounds) i h,
+  );
+  flushed = g .stands .plain .pieces .flushed;
 }

@@ -11,6 +11,10 @@ use Rattle.memory_layout.specs.Tables.{front}
 use Rattle.memory_layout.specs.Decode.{pieceCell, decode}
 use Rattle.memory_layout.specs.Bounds.{InBounds}
 
+-- the numbers of cell column f have room in 16 bits with a number added
+abbrev pub ColumnFits : (cells : List ℕ) (n f more : ℕ) → Type 0
+ColumnFits cells n f more = (k : ℕ) → k < n → pieceCell cells n f k + more < 65536
+
 -- the first i places are cell column f with a number added, and the others as they were
 pub record ColumnFilled (cells : List ℕ) (n f more i : ℕ) (entry exit : List ℕ) : Type 0 where
   pub long : length exit ≡ length entry

@@ -22,6 +22,7 @@ ghost use Rattle.ask_picker.specs.Telling.{BothSay};
 ghost use Rattle.ask_partial.specs.Info.{infoNumbers, infoReply, InfoSays, AskedCounts};
 
 // A partial as it is told: its piece, how many of its blocks are in each state, and its flags. No answer shows the place of its blocks.
+#[repr(C)]
 pub struct PieceInfo {
     pub index: usize,
     pub finished: u16,

@@ -1,2 +1,3 @@
 pub mod AskedLaws
 pub mod RecordRows
+pub mod TableParts

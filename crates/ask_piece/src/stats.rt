@@ -13,6 +13,7 @@ ghost use Rattle.ask_picker.specs.Telling.{BothSay};
 ghost use Rattle.ask_piece.specs.Stats.{statsReply};
 
 // Peers with the seeds; whether the piece has a bucket, and which; whether it is flushed and whether it is in a queue.
+#[repr(C)]
 pub struct PieceStats {
     pub peer_count: u64,
     pub listed: bool,

@@ -11,6 +11,7 @@ ghost use Rattle.ask_picker.specs.Asked.{Asked};
 ghost use Rattle.ask_progress.specs.Sizes.{sizesReply};
 
 // How many partials each queue has.
+#[repr(C)]
 pub struct QueueSizes {
     pub downloading: usize,
     pub full: usize,

@@ -27,6 +27,7 @@ use Rattle.memory_queues.proofs.EnterLaws.{size-is, size-few, place-is}
 use Rattle.ask_partial.specs.declared.info.PieceInfo.{PieceInfo}
 use Rattle.ask_partial.specs.Info.{infoNumbers, InfoSays, AskedCounts}
 use Rattle.ask_picker.proofs.AskedLaws.{asked-rows, asked-queues}
+use Rattle.ask_picker.proofs.TableParts.{tabulate-split}
 use Rattle.ask_records.specs.Records.{wordsAt, told, WordsPut, Written}
 use Rattle.ask_records.proofs.RecordLaws.{row-words, older-words, concat-ext}
 use Rattle.ask_queue.specs.Infos.{infosTold, InfosPut, PlacesLow}
@@ -72,18 +73,6 @@ unfolding concatMap
 concat-append f [] ys = refl
 concat-append {B = B} f (x ∷ xs) ys =
     ap (λ (l : List B). f x ++ l) (concat-append f xs ys) ∙ sym (append-assoc (f x) (concatMap f xs) (concatMap f ys))
-
-tabulate-split : {A : Type 0} (n m : ℕ) (f : ℕ → A) → tabulate (n + m) f ≡ tabulate n f ++ tabulate m (λ j. f (n + j))
-unfolding tabulate
-tabulate-split {A = A} zero m f =
-    let e : 0 + m ≡ m = omega arith in
-    ap (λ (k : ℕ). tabulate k f) e ∙ tabulate-ext m f (λ j. f (0 + j)) (λ j h. ap f (omega arith))
-tabulate-split {A = A} (suc n) m f =
-    let e : suc n + m ≡ suc (n + m) = omega arith in
-    ap (λ (k : ℕ). tabulate k f) e
-    ∙ ap (λ (l : List A). f zero ∷ l) (tabulate-split n m (λ k. f (suc k))
-    ∙ ap (λ (l : List A). tabulate n (λ k. f (suc k)) ++ l)
-    (tabulate-ext m (λ j. f (suc (n + j))) (λ j. f (suc n + j)) (λ j h. ap f (omega arith))))
 
 -- ---- the queues hold no partial twice
 one-queue : (q : DownloadQueue)

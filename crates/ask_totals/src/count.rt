@@ -26,6 +26,7 @@ pub enum Which {
 }
 
 // Pieces, their pad bytes, and whether the last piece is among them.
+#[repr(C)]
 pub struct PieceCount {
     pub num_pieces: u64,
     pub pad_bytes: u64,

@@ -62,7 +62,20 @@ pub fn mark_as_downloading(
         return open_mark(words, cells, rows, live, s, i, q, affinity, j, x, draws);
     };
     let d = standing_in(words, rows, counts, s, k, i);
-    let m = request_block(words, cells, s, i, d.place, j, back, has_peer, peer, d.tally, draws, 0);
+    let m = request_block(
+        words,
+        cells,
+        s,
+        i,
+        d.place,
+        j,
+        back,
+        has_peer,
+        peer,
+        d.tally,
+        draws,
+        0,
+    );
     Marking {
         answer: m.answer,
         edit: Edit::Keep,

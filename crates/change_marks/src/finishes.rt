@@ -59,5 +59,19 @@ pub fn mark_as_finished(
         };
     };
     let d = standing_in(words, rows, counts, s, k, i);
-    finish_block(words, cells, s, i, d.place, j, has_peer, peer, d.tally, d.flags, d.finished, draws, 0)
+    finish_block(
+        words,
+        cells,
+        s,
+        i,
+        d.place,
+        j,
+        has_peer,
+        peer,
+        d.tally,
+        d.flags,
+        d.finished,
+        draws,
+        0,
+    )
 }

@@ -91,5 +91,17 @@ pub fn open_arrived(
             used: 0,
         };
     }
-    open_mark(words, cells, rows, live, s, i, DownloadQueue::Downloading, false, j, x, draws)
+    open_mark(
+        words,
+        cells,
+        rows,
+        live,
+        s,
+        i,
+        DownloadQueue::Downloading,
+        false,
+        j,
+        x,
+        draws,
+    )
 }

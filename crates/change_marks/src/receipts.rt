@@ -55,7 +55,19 @@ pub fn mark_as_writing(
         return open_arrived(words, cells, rows, live, s, i, j, x, draws);
     };
     let d = standing_in(words, rows, counts, s, k, i);
-    let m = write_block(words, cells, s, i, d.place, j, has_peer, peer, d.tally, draws, 0);
+    let m = write_block(
+        words,
+        cells,
+        s,
+        i,
+        d.place,
+        j,
+        has_peer,
+        peer,
+        d.tally,
+        draws,
+        0,
+    );
     Marking {
         answer: m.answer,
         edit: Edit::Keep,

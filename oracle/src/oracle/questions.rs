@@ -29,6 +29,7 @@ pub enum Room {
     BlocksPerPiece,
 }
 
+#[derive(Debug, PartialEq)]
 pub enum Reply {
     Numbers(Vec<i128>),
     Nothing,

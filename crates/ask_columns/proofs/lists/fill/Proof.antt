@@ -1,5 +1,5 @@
 -- `fill` meets its contract: after i turns the first i places are filled. Assumes nothing.
-use mathlib.Core.Path.{_≡_, refl, subst, _∙_}
+use mathlib.Core.Path.{_≡_, refl, subst}
 use Prim.Native.Nat.{ℕ, _≤_, _-_}
 use native.Mathlib.Omega.{arith}
 use borrow.Author.Needs.{needs}
@@ -20,11 +20,11 @@ loop-holds c = (omega arith, filled-start _ _ _ _ _)
 piece-cell-requires : tie.Need-piece-cell-requires Inv-loop μ-loop
 piece-cell-requires c κs = search needs
 
-u16-to-u64-requires : tie.Need-u16-to-u64-requires Inv-loop μ-loop
-u16-to-u64-requires c κs = search needs
-
 add-out : tie.Need-add-out Inv-loop μ-loop
-add-out c = search needs
+add-out c =
+    let l = c .before .before .before .loop in
+    let p = c .before .before .before .before .before .before .pre in
+    omega (arith, c .piece-cell .ensures, p .1 .1 (l .i) (omega (arith, c .before .if1 .taken)))
 
 mul-out : tie.Need-mul-out Inv-loop μ-loop
 mul-out c = search needs
@@ -40,11 +40,10 @@ loop-less c = search needs
 
 loop-again : tie.Need-loop-again Inv-loop μ-loop
 loop-again c =
-    let c7 = c .before .before .before .before .before .before .before in
-    let l = c .before .before .before .before .loop in (
+    let c6 = c .before .before .before .before .before .before in
+    let l = c .before .before .before .loop in (
       omega arith,
-      filled-next _ _ _ _ (l .i) _ (l .out) (l .inv .1) (omega (arith, c7 .pre .1 .2)) _ _ refl
-          (c .u16-to-u64 .ensures ∙ c .before .piece-cell .ensures),
+      filled-next _ _ _ _ (l .i) _ (l .out) (l .inv .1) (omega (arith, c6 .pre .1 .0 .1)) _ _ refl (c .piece-cell .ensures),
     )
 
 same-length : tie.Need-same-length Inv-loop μ-loop
@@ -65,7 +64,6 @@ fill-spec =
     μ-loop
     loop-holds
     piece-cell-requires
-    u16-to-u64-requires
     add-out
     mul-out
     slice-write-out
