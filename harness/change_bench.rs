@@ -31,7 +31,7 @@ use std::hint::black_box;
 use std::time::Instant;
 use timing::{counts, least, since, spread};
 
-const ROUNDS: usize = 400;
+const ROUNDS: usize = 2000;
 const PEER: Option<u64> = Some(2);
 /// Pieces, blocks of a piece, partials.
 const SIZES: [(usize, usize, usize); 8] =
@@ -230,7 +230,10 @@ struct Proved {
 
 impl Proved {
     fn new(fields: &Fields) -> Proved {
-        let mut lent = Lent::laid_out(&mut Rng::new(1), fields);
+        // the lowest places, as they are taken, by no order of the pieces
+        let (mut rng, mut places) = (Rng::new(1), (0..fields.partials.len()).collect::<Vec<_>>());
+        rng.shuffle(&mut places);
+        let mut lent = Lent::laid_out_at(&mut rng, fields, &places);
         assert_eq!(lent.test(), 0, "a picker stands in the buffers");
         Proved { geometry: lent.geometry(), lent, table: [WORDS, WORDS].concat(), next: 0 }
     }
@@ -337,7 +340,7 @@ fn marked(size: Size, clock: &Clock) -> [Best; 5] {
         sides.round::<Close>(&mut best[3]);
     }
     sides.check();
-    for _ in 0..ROUNDS / 10 {
+    for _ in 0..ROUNDS / 40 {
         let mut sides = Sides::new(size, clock, &size.begun_pieces());
         sides.round::<Passed>(&mut best[4]);
         sides.check();

@@ -34,8 +34,15 @@ pub struct Lent {
 }
 
 impl Lent {
-    /// The picker of these fields, tested. What is not read is random, and so are the places of the partials.
+    /// The picker of these fields. What is not read is random, and so are the places of the partials.
     pub fn laid_out(rng: &mut Rng, fields: &Fields) -> Lent {
+        let mut places: Vec<usize> = (0..fields.head.geometry.partials_need() as usize).collect();
+        rng.shuffle(&mut places);
+        Lent::laid_out_at(rng, fields, &places)
+    }
+
+    /// The same with a place for each partial.
+    pub fn laid_out_at(rng: &mut Rng, fields: &Fields, places: &[usize]) -> Lent {
         let g = &fields.head.geometry;
         let needs = [g.words_need(), g.cells_need(), g.partials_need()].map(|need| need as usize);
         let [words, cells, partials] = needs.map(|need| need + rng.place(g.blocks_per_piece as usize + 3));
@@ -51,8 +58,6 @@ impl Lent {
         lent.beyond = (lent.words[needs[0]..].to_vec(), lent.cells[needs[1]..].to_vec(), lent.partials[needs[2]..].to_vec());
         lent.put_head(fields);
         lent.put_pieces(fields);
-        let mut places: Vec<usize> = (0..needs[2]).collect();
-        rng.shuffle(&mut places);
         for (k, partial) in fields.partials.iter().enumerate() {
             lent.put_partial(k, partial, places[k]);
         }

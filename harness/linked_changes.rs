@@ -2,7 +2,7 @@
 //! is made by `Outcome::edit`.
 
 use crate::list_operations::Geometry;
-use crate::records::{DownloadingPiece, ROWS};
+use crate::records::{self, DownloadingPiece, ROWS};
 use oracle::script::Change;
 
 /// What a change answers. The edit: 0 none, 1 a record replaced, 2 one put in, 3 that of a piece taken out.
@@ -139,22 +139,15 @@ fn without_edit(used: usize) -> Outcome {
 
 impl Outcome {
     /// Makes the edit among the first `live` records, as many as there were before the change. False where it does not fit.
-    #[inline]
+    #[inline(always)]
     pub fn edit(&self, partials: &mut [DownloadingPiece], live: usize) -> bool {
-        if self.kind == 0 {
-            return true;
-        }
         let d = DownloadingPiece { index: self.index, info_idx: self.info_idx, flags: self.flags };
-        let found = partials[..live].binary_search_by_key(&d.index, |d| d.index);
-        match (self.kind, found) {
-            (1, Ok(k)) => partials[k] = d,
-            (2, Err(k)) if live < partials.len() => {
-                partials.copy_within(k..live, k + 1);
-                partials[k] = d;
-            }
-            (3, Ok(k)) => partials.copy_within(k + 1..live, k),
-            _ => return false,
+        match self.kind {
+            0 => true,
+            1 => records::replace(&mut partials[..live], d),
+            2 => live < partials.len() && records::insert(&mut partials[..live + 1], d),
+            3 => records::remove(&mut partials[..live], d.index),
+            _ => false,
         }
-        true
     }
 }

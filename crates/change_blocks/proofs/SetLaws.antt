@@ -1,5 +1,5 @@
 -- A block stored at the place of a standing partial, then the piece's state made that of its blocks. Assumes nothing.
-use mathlib.Core.Path.{_≡_, refl, sym, ap, _∙_, subst}
+use mathlib.Core.Path.{_≡_, refl, ap, _∙_}
 use mathlib.Core.Option.{some}
 use mathlib.Core.List.{List}
 use Prim.Native.Nat.{ℕ, _<_}
@@ -12,17 +12,17 @@ use Rattle.model.specs.change.Changes.{setBlock}
 use Rattle.model.proofs.sound.PartialLaws.{findDlPiece-piece, partialOf-put-same}
 use Rattle.memory_records.specs.declared.record.DownloadingPiece.{DownloadingPiece as Record}
 use Rattle.memory_layout.specs.declared.shape.Shape.{Shape}
-use Rattle.memory_layout.specs.Decode.{headWord, decode}
-use Rattle.memory_layout.specs.Changes.{partialIn, withPartial, withBlock}
+use Rattle.memory_layout.specs.Decode.{decode}
+use Rattle.memory_layout.specs.Changes.{partialIn}
 use Rattle.memory_layout.proofs.BoundsLaws.{blocks-within}
 use Rattle.memory_blocks.specs.declared.info.BlockInfo.{BlockInfo}
 use Rattle.memory_blocks.specs.Blocks.{blockOf, BlockStored}
 use Rattle.memory_partials.proofs.MarkLaws.{Standing, standing-found, block-replaced}
-use Rattle.change_steps.specs.Working.{Works, WorksBeside, Went}
+use Rattle.change_steps.specs.Working.{WorksBeside, Went}
 use Rattle.change_steps.proofs.WorkLaws.{went-then, went-named}
 use Rattle.change_steps.proofs.BesideLaws.{SameList, beside-went}
 use Rattle.change_state.specs.declared.states.Tally.{Tally}
-use Rattle.change_state.specs.Numbers.{IsTally, StateUpdated}
+use Rattle.change_state.specs.Numbers.{StateUpdated}
 use Rattle.change_blocks.specs.Replacing.{withBlockAt, PartialAt, PartialBeside, BlockSet}
 
 -- a block replaced leaves the pieces, the seeds and the list

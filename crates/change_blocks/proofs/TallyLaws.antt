@@ -1,6 +1,6 @@
 -- The numbers of a partial's blocks after one of them is replaced. Assumes nothing.
 use mathlib.Core.Path.{_≡_, refl, sym, ap, _∙_}
-use mathlib.Core.Bool.{Bool, true, false, not}
+use mathlib.Core.Bool.{Bool, true, false}
 use mathlib.Core.List.{List, [], _∷_}
 use Prim.Native.Nat.{ℕ, zero, suc, _+_, _-_, _≤_, _<_}
 use native.Mathlib.Omega.{arith}
@@ -13,7 +13,6 @@ use Rattle.model.specs.Lists.{bit, count, len, nth, setNth}
 use Rattle.model.specs.State.{Block, DownloadingPiece, noBlock, sameBlockState, withBlocks}
 use Rattle.model.specs.change.Partials.{blockAt, blocksInState, progress}
 use Rattle.change_state.specs.declared.states.Tally.{Tally}
-use Rattle.change_state.specs.Numbers.{IsTally}
 use Rattle.change_blocks.specs.Replacing.{withBlockAt, Retallied}
 
 -- a test passes once at most
@@ -31,7 +30,8 @@ module _ {A : Type 0} (test : A → Bool) (none : A) where
   counted-once (x ∷ xs) (suc j) h = omega (arith, counted-once xs j (le-of-suc-le-suc h))
 
   -- the others count as before
-  pub count-set : (l : List A) (j : ℕ) (y : A) → j < len l → count test (setNth j y l) + bit (test (nth none l j)) ≡ count test l + bit (test y)
+  pub count-set : (l : List A) (j : ℕ) (y : A) → j < len l
+      → count test (setNth j y l) + bit (test (nth none l j)) ≡ count test l + bit (test y)
   unfolding count nth setNth len
   count-set [] j y h = absurd (not-suc-le-zero h)
   count-set (x ∷ xs) zero y h = omega arith

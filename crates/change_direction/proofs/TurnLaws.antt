@@ -1,16 +1,15 @@
 -- A piece turned reverse or back: the list is given up where the piece gets a bucket, and mended where not. Assumes nothing.
-use mathlib.Core.Path.{_≡_, refl, sym, ap, ap₂, _∙_}
+use mathlib.Core.Path.{_≡_, ap, ap₂, _∙_}
 use mathlib.Core.Bool.{Bool, true, false, not, _&&_, and-assoc}
 use mathlib.Core.List.{List}
 use Prim.Native.Nat.{ℕ, _<_}
 use lib.Dec.{eqb, ltb}
 use Rattle.types.specs.declared.queue.DownloadQueue.{DownloadQueue}
-use Rattle.types.specs.declared.block.BlockState.the-variants.{Requested}
 use Rattle.types.specs.Queue.{queueNumber, unreverse, makeReverse, isReverse}
 use Rattle.model.specs.Lists.{when}
-use Rattle.model.specs.State.{Picker, DownloadingPiece, pieceAt, withPiece, withState, markDirty}
-use Rattle.model.specs.list.Order.{Draws, Drawing, drawing, noDraw, rank, update}
-use Rattle.model.specs.change.Partials.{blocksInState, setState}
+use Rattle.model.specs.State.{Picker, pieceAt, withPiece, withState, markDirty}
+use Rattle.model.specs.list.Order.{Draws, drawing, noDraw, rank, update}
+use Rattle.model.specs.change.Partials.{setState}
 use Rattle.model.specs.change.Changes.{setDirection, makePieceReverse, unreversePiece}
 use Rattle.memory_records.specs.declared.record.DownloadingPiece.{DownloadingPiece as Record}
 use Rattle.memory_layout.specs.declared.shape.Shape.{Shape}

@@ -14,7 +14,6 @@ use Rattle.model.proofs.base.Phases.{cond-arms}
 use Rattle.model.proofs.keep.KeepClose.{eraseDownloadPiece-alone, flushed-rank}
 use Rattle.model.proofs.list.ListingLaws.{ok-same}
 use Rattle.model.proofs.list.RankLaws.{rank-same, rank-other, rank-changed, piecesIn-withPiece}
-use Rattle.memory_records.specs.declared.record.DownloadingPiece.{DownloadingPiece as Record}
 use Rattle.memory_layout.specs.declared.shape.Shape.{Shape}
 use Rattle.memory_layout.specs.Decode.{decode}
 use Rattle.memory_layout.specs.Stores.{CellsBecame}

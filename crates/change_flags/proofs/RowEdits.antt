@@ -22,7 +22,7 @@ use Rattle.memory_records.specs.Rows.{rowAt, recordsIn}
 use Rattle.memory_records.proofs.laws.RowLaws.{length-records, records-at}
 use Rattle.memory_layout.specs.declared.shape.Shape.{Shape}
 use Rattle.memory_layout.specs.Decode.{headWord, recordAt, piecesOn, blocksOn, partialHeld, decode}
-use Rattle.memory_layout.specs.Standing.{Changed, editRecords}
+use Rattle.memory_layout.specs.Standing.{Stands, Changed, editRecords}
 use Rattle.memory_layout.specs.Changes.{partialIn}
 use Rattle.memory_layout.proofs.BoundsLaws.{words-kept-none, cells-kept-none}
 use Rattle.memory_layout.proofs.EditedRecords.{edited-at, changed-live, live-rise, replace-number}
@@ -35,9 +35,10 @@ use Rattle.memory_partials.proofs.RisingLaws.{held-piece, held-each}
 use Rattle.memory_rows.specs.Lookup.{LiveRows, FoundIn}
 use Rattle.change_steps.proofs.MendLaws.{stands-works}
 use Rattle.change_flags.specs.Closing.{HasPartial, without}
-use Rattle.change_flags.specs.Flagging.{RowsStand, RowsChanged}
+use Rattle.change_flags.specs.Flagging.{RowsChanged}
 
-module _ (s : Shape) (live : ℕ) (rows words cells : List ℕ) (g : RowsStand s live rows words cells) where
+module _ (s : Shape) (live : ℕ) (rows words cells : List ℕ) (g : Stands s (recordsIn live rows) words cells)
+    (many : live ≡ headWord words 7) where
   abbrev rs : List Record
   rs = recordsIn live rows
 
@@ -48,20 +49,20 @@ module _ (s : Shape) (live : ℕ) (rows words cells : List ℕ) (g : RowsStand s
   -- all of them are live
   whole : take (headWord words 7) rs ≡ rs
   whole =
-      let e = g .many in
+      let e = many in
       let m = length-records live rows in
       take-all (headWord words 7) rs (omega arith)
 
   pub rows-rising : risingFrom 0 rs ≡ true
-  rows-rising = subst (λ (l : List Record). risingFrom 0 l ≡ true) whole (live-rise s rs words cells (g .stands))
+  rows-rising = subst (λ (l : List Record). risingFrom 0 l ≡ true) whole (live-rise s rs words cells g)
 
   pub rows-live : LiveRows s live rows words cells
-  rows-live = record { bounds = g .stands .bounds; many = g .many }
+  rows-live = record { bounds = g .bounds; many = many }
 
   pub rows-few : live ≤ 512
   rows-few =
-      let b = g .stands .bounds in
-      omega (arith, g .many, b .partials, b .spans .inWords .sizes .places ∙ places-min (s .pieces))
+      let b = g .bounds in
+      omega (arith, many, b .partials, b .spans .inWords .sizes .places ∙ places-min (s .pieces))
 
   -- ---- from the lent records to the live ones
   pub rows-edited : (change : Picker → Picker) (edit : Edit) → EditFits (headWord words 7) edit rs → (words′ cells′ : List ℕ)
@@ -72,7 +73,7 @@ module _ (s : Shape) (live : ℕ) (rows words cells : List ℕ) (g : RowsStand s
       let n = headWord words 7 in
       let same : (k : ℕ) → k < headWord words′ 7 → recordAt (editRecords edit rs) k ≡ recordAt (edited n edit rs) k = λ k h.
       ap (λ (l : List Record). recordAt (editRecords edit l) k) (sym whole)
-      ∙ sym (edited-at n rs (live-rise s rs words cells (g .stands)) s edit fits words′ cells′
+      ∙ sym (edited-at n rs (live-rise s rs words cells g) s edit fits words′ cells′
       (subst (λ (l : List Record). headWord words′ 7 ≤ length (editRecords edit l)) (sym whole) few) k h) in
       changed-live s (edited n edit rs) (editRecords edit rs) words′ cells′ same (change d) words cells few c
 
@@ -80,12 +81,11 @@ module _ (s : Shape) (live : ℕ) (rows words cells : List ℕ) (g : RowsStand s
   pub rows-kept : (change : Picker → Picker) → change d ≡ d → RowsChanged s change live rows words cells Keep words cells
   unfolding editRecords
   rows-kept change e =
-      let t = g .stands in
       record {
         is = sym e;
-        bounds = t .bounds;
-        plain = t .plain;
-        ranks = t .ranks;
+        bounds = g .bounds;
+        plain = g .plain;
+        ranks = g .ranks;
         wordsKept = words-kept-none s words;
         cellsKept = cells-kept-none s cells;
       }
@@ -93,7 +93,7 @@ module _ (s : Shape) (live : ℕ) (rows words cells : List ℕ) (g : RowsStand s
   -- ---- the partial of piece i is number k
   module _ (i k : ℕ) (f : FoundIn live rows i (At k)) where
     pub low : k < headWord words 7
-    low = omega (arith, f .row .0, g .many)
+    low = omega (arith, f .row .0, many)
 
     -- it has a row
     pub row-there : k < 512
@@ -105,8 +105,8 @@ module _ (s : Shape) (live : ℕ) (rows words cells : List ℕ) (g : RowsStand s
     pub has-partial : HasPartial s i rs words cells
     has-partial =
         record {
-          works = stands-works s rs words cells (g .stands);
-          rising = wellFormed-sound d (g .stands .sound) .rising;
+          works = stands-works s rs words cells g;
+          rising = wellFormed-sound d (g .sound) .rising;
           partial = partialIn d k;
           found = found-is;
         }
@@ -120,17 +120,16 @@ module _ (s : Shape) (live : ℕ) (rows words cells : List ℕ) (g : RowsStand s
         → replacePartial (withFlags passed locked (partialIn d k)) d ≡ change d
         → RowsChanged s change live rows words cells (Replace r) words cells
     rows-flagged passed locked r x change e =
-        let t = g .stands in
         let n = headWord words 7 in
-        let v = x .became s rs words cells (t .bounds) (wellFormed-sound d (t .sound) .rising) k low row-is in
+        let v = x .became s rs words cells (g .bounds) (wellFormed-sound d (g .sound) .rising) k low row-is in
         let few : n ≤ length (editRecords (Replace r) rs) =
         subst (λ (l : List Record). n ≤ length (editRecords (Replace r) l)) whole
-        (omega (arith, replace-number n rs (live-rise s rs words cells t) r (t .bounds .live))) in
-        rows-edited change (Replace r) (t .bounds .live) words cells few (record {
+        (omega (arith, replace-number n rs (live-rise s rs words cells g) r (g .bounds .live))) in
+        rows-edited change (Replace r) (g .bounds .live) words cells few (record {
           is = v .is ∙ e;
           bounds = v .bounds;
-          plain = v .plain (t .plain);
-          ranks = ranks-right s rs words cells (t .ranks) (edited n (Replace r) rs);
+          plain = v .plain (g .plain);
+          ranks = ranks-right s rs words cells (g .ranks) (edited n (Replace r) rs);
           wordsKept = words-kept-none s words;
           cellsKept = cells-kept-none s cells;
         })
@@ -144,10 +143,10 @@ module _ (s : Shape) (live : ℕ) (rows words cells : List ℕ) (g : RowsStand s
         let n = headWord words 7 in
         let h = partialHeld words cells (piecesOn words) (blocksOn words) in
         let a : d .partials ≡ each h rs =
-        held-each rs words cells (piecesOn words) (blocksOn words) (g .stands .bounds .live) ∙ ap (each h) whole in
+        held-each rs words cells (piecesOn words) (blocksOn words) (g .bounds .live) ∙ ap (each h) whole in
         let b : decode (without i words rs) words′ cells′ .partials ≡ each h (withoutRecord i rs) =
         ap (λ (p : Picker). p .partials) (c .is) ∙ e ∙ ap (filter (λ x. not (eqb (x .piece) i))) a
         ∙ sym (without-each h (held-piece words cells (piecesOn words) (blocksOn words)) i rs) in
         let m : headWord words′ 7 ≡ length (withoutRecord i rs) =
         sym (partials-number s (without i words rs) words′ cells′ (c .bounds)) ∙ ap len b ∙ size-each h (withoutRecord i rs) in
-        rows-edited change (Remove i) (g .stands .bounds .live) words′ cells′ (omega (arith, m)) c
+        rows-edited change (Remove i) (g .bounds .live) words′ cells′ (omega (arith, m)) c

@@ -9,18 +9,13 @@ use Rattle.memory_layout.specs.declared.shape.Shape.{Shape}
 use Rattle.memory_layout.specs.Decode.{headWord, decode}
 use Rattle.memory_layout.specs.Standing.{Stands, Changed, editRecords}
 
--- a picker stands in words and cells with the live rows for its records
-pub record RowsStand (s : Shape) (live : ℕ) (rows words cells : List ℕ) : Type 0 where
-  pub stands : Stands s (recordsIn live rows) words cells
-  pub many : live ≡ headWord words 7
-
 -- the picker of the rows is changed so once the edit is made
 abbrev pub RowsChanged : (s : Shape) (change : Picker → Picker) (live : ℕ) (rows words cells : List ℕ) (edit : Edit)
     (words′ cells′ : List ℕ) → Type 0
 RowsChanged s change live rows words cells edit words′ cells′ =
     Changed s (change (decode (recordsIn live rows) words cells)) words cells (editRecords edit (recordsIn live rows)) words′ cells′
 
--- and that beside any words and cells, which stay
+-- and that beside any words and cells that a picker stands in with the live rows, which stay
 pub record EditAlone (change : Picker → Picker) (live : ℕ) (rows : List ℕ) (edit : Edit) : Type 0 where
-  pub changed : (s : Shape) (words cells : List ℕ) → RowsStand s live rows words cells
+  pub changed : (s : Shape) (words cells : List ℕ) → Stands s (recordsIn live rows) words cells → live ≡ headWord words 7
       → RowsChanged s change live rows words cells edit words cells

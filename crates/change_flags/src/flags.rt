@@ -18,9 +18,8 @@ ghost use Rattle.model.specs.Bep3.{bitOf};
 ghost use Rattle.model.specs.change.Changes.{lockPiece, piecePassed};
 ghost use Rattle.memory_records.specs.Records.{risingFrom};
 ghost use Rattle.memory_records.specs.Rows.{recordsIn};
-ghost use Rattle.memory_layout.specs.Decode.{decode};
-ghost use Rattle.check_partials.specs.Records.{CountsHeld};
-ghost use Rattle.change_flags.specs.Flagging.{RowsStand, RowsChanged, EditAlone};
+ghost use Rattle.change_tally.specs.RowsStanding.{RowsStand};
+ghost use Rattle.change_flags.specs.Flagging.{RowsChanged, EditAlone};
 
 // No block of the piece is picked, and its hash check counts no more. Nothing where no partial stands.
 pub fn lock_piece(rows: &[u32], live: usize, i: usize) -> Edit
@@ -53,9 +52,7 @@ pub fn piece_passed(
     s: Shape,
     i: usize,
 ) -> Edit
-    requires { ⌜ RowsStand s live (now rows) (now words) (now cells) ⌝ }
-    requires { ⌜ (length (now rows) ≡ 1536) × (length (now counts) ≡ 1536) ⌝ }
-    requires { ⌜ CountsHeld (decode (recordsIn live (now rows)) (now words) (now cells)) live (now counts) ⌝ }
+    requires { ⌜ RowsStand s live (now rows) (now counts) (now words) (now cells) ⌝ }
     requires { ⌜ i < s .pieces ⌝ }
     ensures { λ r. ⌜ RowsChanged s (piecePassed i) live (now (rows .entry)) (now (words .entry)) (now (cells .entry)) r
         (now (words .exit)) (now (cells .exit)) ⌝ }

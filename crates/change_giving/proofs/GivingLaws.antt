@@ -7,7 +7,6 @@ use mathlib.Core.Option.{Option, some}
 use Prim.Native.Nat.{ℕ, _≤_, _<_}
 use lib.Dec.{eqb, ltb}
 use borrow.Author.Tests.{eq-eqb, ne-eqb, lt-ltb, le-ltb}
-use Rattle.types.specs.declared.block.BlockState.the-variants.{Requested, Writing, Finished}
 use Rattle.model.specs.Lists.{nth}
 use Rattle.model.specs.State.{Block, DownloadingPiece, Picker, sameBlockState, withListing, withPeer, withPiece, withPieces}
 use Rattle.model.specs.list.Order.{Draws, Drawing, drawing, noDraw}
@@ -145,7 +144,8 @@ module _ (s : Shape) (words cells : List ℕ) (i p j : ℕ) (t : Tally) where
     -- a requester less
     pub release-nothing : x .state ≢ 1 → Gave s abort i p j t words cells words cells Keep 0
     release-nothing n =
-        gave-nothing draws abort (λ records k a. abort-other draws i _ j (namedPeer has peer) _ x (block-there s words cells i p j t x r records k a) n)
+        gave-nothing draws abort
+        (λ records k a. abort-other draws i _ j (namedPeer has peer) _ x (block-there s words cells i p j t x r records k a) n)
 
     pub release-put : x .state ≡ 1 → 1 < x .«num_peers» → (y : BlockInfo) → blockOf y ≡ released (namedPeer has peer) (blockOf x)
         → (words′ cells′ : List ℕ) → BlockStored s words cells words′ cells′ p j y
@@ -167,7 +167,8 @@ module _ (s : Shape) (words cells : List ℕ) (i p j : ℕ) (t : Tally) where
     -- a write that failed
     pub cancel-nothing : x .state ≡ 3 → Gave s cancel i p j t words cells words cells Keep 0
     cancel-nothing e =
-        gave-nothing draws cancel (λ records k a. cancel-finished draws i _ j (namedPeer has peer) _ x (block-there s words cells i p j t x r records k a) e)
+        gave-nothing draws cancel
+        (λ records k a. cancel-finished draws i _ j (namedPeer has peer) _ x (block-there s words cells i p j t x r records k a) e)
 
     pub cancel-free : x .state ≢ 3 → x .state ≡ 2 → (words′ cells′ : List ℕ) (edit : Edit) (next : ℕ)
         → BlockFreed s draws i p j 2 (record { state = 0; «num_peers» = x .«num_peers»; «has_peer» = has; peer = peer }) t words cells 0

@@ -2,16 +2,15 @@
 use mathlib.Core.Path.{_≡_, refl, sym, ap, _∙_}
 use mathlib.Core.Bool.{Bool, true, false, not, _&&_}
 use mathlib.Core.Option.{Option, some}
-use Prim.Native.Nat.{ℕ, _+_, _^_, _≤_, _<_}
+use Prim.Native.Nat.{ℕ, _+_, _^_, _<_}
 use native.Mathlib.Omega.{arith}
 use lib.Dec.{leb}
 use borrow.Author.Tests.{lt-ltb}
 use Rattle.types.specs.declared.block.BlockState.the-variants.{Writing, Finished}
-use Rattle.model.specs.Lists.{bit, len, nth, setNth, when}
-use Rattle.model.specs.State.{Block, DownloadingPiece, Picker, noBlock, maxPeers, sameBlockState, hasPeer, withBlocks, withPartials, blocksInPiece}
-use Rattle.model.specs.list.Order.{Draws, Drawing, drawing, noDraw, rank}
+use Rattle.model.specs.Lists.{bit, len, when}
+use Rattle.model.specs.State.{Block, DownloadingPiece, Picker, noBlock, maxPeers, sameBlockState, hasPeer, withBlocks, withPartials}
+use Rattle.model.specs.list.Order.{Draws, drawing, noDraw, rank}
 use Rattle.model.specs.change.Partials.{findDlPiece, partialOf, blockAt, blocksInState, replaceIn, replacePartial, replaceBlock}
-use Rattle.model.specs.change.Partials.{updatePieceState}
 use Rattle.model.specs.change.Changes.{setBlock, finishedBy, finishedPeer, allFinished, flushIf, flushDone, pieceFlushed}
 use Rattle.model.specs.image.WellFormed.{peerOk, blockOk}
 use Rattle.model.specs.image.Sound.{Sound}
@@ -20,9 +19,9 @@ use Rattle.model.proofs.base.Truths.{both-true, true-both}
 use Rattle.model.proofs.keep.KeepBlocks.{block-in, setBlock-keeps}
 use Rattle.model.proofs.keep.KeepClose.{finished-rank}
 use Rattle.model.proofs.sound.PartialLaws.{findDlPiece-piece, partialOf-put-same, size-put}
+use Rattle.change_state.proofs.KeptLaws.{update-same}
 use Rattle.change_blocks.specs.Replacing.{withBlockAt, namedPeer}
 use Rattle.change_blocks.proofs.TallyLaws.{count-set}
-use Rattle.change_marking.proofs.TurnedLaws.{update-partials}
 
 -- ---- the block
 pub peer-fits : (has : Bool) (peer : ℕ) → peer < 18446744073709551616 → peerOk (namedPeer has peer) ≡ true
@@ -53,7 +52,7 @@ module _ (draws : Draws) (i : ℕ) (d : Picker) (q : DownloadingPiece) (j : ℕ)
   -- the partials
   pub set-partials-are : setBlock draws i q j b (drawing used d) .picker .partials ≡ replaceIn (withBlockAt j b q) (d .partials)
   unfolding setBlock noDraw drawing replaceBlock replacePartial withPartials withBlockAt
-  set-partials-are = update-partials draws i (noDraw (replaceBlock q j b) (drawing used d))
+  set-partials-are = update-same draws i (noDraw (replaceBlock q j b) (drawing used d)) .partials
 
   pub set-many : len (setBlock draws i q j b (drawing used d) .picker .partials) ≡ len (d .partials)
   set-many = ap len set-partials-are ∙ size-put (withBlockAt j b q) (d .partials)
@@ -70,7 +69,8 @@ module _ (draws : Draws) (i : ℕ) (d : Picker) (q : DownloadingPiece) (j : ℕ)
   abbrev c : Block
   c = finishedBy (finishedPeer peer (blockAt q j)) (blockAt q j .numPeers)
 
-  pub set-sound : Sound (setBlock draws i q j (finishedBy (finishedPeer peer (blockAt q j)) (blockAt q j .numPeers)) (drawing used d) .picker)
+  pub set-sound : Sound
+      (setBlock draws i q j (finishedBy (finishedPeer peer (blockAt q j)) (blockAt q j .numPeers)) (drawing used d) .picker)
   unfolding drawing
   set-sound =
       setBlock-keeps draws i q j c (drawing used d) f (finished-ok peer (blockAt q j) p (block-in d i j q (v .partial i q f))) v

@@ -3,17 +3,16 @@ use mathlib.Core.Path.{_≡_, refl, sym, ap, ap₂, _∙_, subst}
 use mathlib.Core.Bool.{Bool, true, false, not, _&&_, true≢false}
 use mathlib.Core.Logic.{_≢_}
 use mathlib.Core.List.{List}
-use mathlib.Core.Option.{Option, none, some}
-use Prim.Native.Nat.{ℕ, zero, suc, _+_, _/_, _%_, _≤_, _<_}
+use mathlib.Core.Option.{some}
+use Prim.Native.Nat.{ℕ, zero, suc, _+_, _/_, _%_, _≤_}
 use native.Mathlib.Omega.{arith}
 use lib.Dec.{eqb, leb}
 use borrow.Author.Tests.{eq-eqb, ne-eqb}
 use Rattle.types.specs.declared.block.BlockState.the-variants.{Writing, Finished}
-use Rattle.types.specs.Block.{blockStateNumber}
 use Rattle.model.specs.Lists.{len, nth, when, filter}
 use Rattle.model.specs.Bep3.{bitOf, pieceBlocks}
 use Rattle.model.specs.State.{Block, DownloadingPiece, Picker, sameBlockState, hasPeer, withBlocks, withPartials, blocksInPiece}
-use Rattle.model.specs.list.Order.{Draws, Drawing, drawing, noDraw, rank}
+use Rattle.model.specs.list.Order.{Draws, Drawing, drawing, noDraw}
 use Rattle.model.specs.change.Partials.{partialOf, blockAt, blocksInState, dropPartial}
 use Rattle.model.specs.change.Changes.{setBlock, finishedBy, finishedPeer, allFinished, flushDone, pieceFlushed, markFinishedIn}
 use Rattle.model.specs.image.WellFormed.{peerOk}
@@ -141,7 +140,8 @@ module _ (s : Shape) (draws : Draws) (i p j : ℕ) (t : Tally) (flags finished :
       found : partialOf d i ≡ some q
       found =
           let u = a .there .stands in
-          standing-found s records words cells i p k (record { low = u .low; index = u .index; place = u .place }) (u .works .bounds) (u .rising)
+          standing-found s records words cells i p k (record { low = u .low; index = u .index; place = u .place }) (u .works .bounds)
+          (u .rising)
 
       block-is : blockOf x ≡ finishedBy (finishedPeer (namedPeer has peer) (blockAt q j)) (blockAt q j .numPeers)
       block-is = z .is (blockAt q j) (block-there s words cells i p j t b r records k (a .there) .is)
@@ -211,7 +211,8 @@ module _ (s : Shape) (draws : Draws) (i p j : ℕ) (t : Tally) (flags finished :
 
       -- the whole step, by what the flush makes of the picker
       named : (h : Picker → Picker) → flushDone i d₁ ≡ h d₁
-          → noDraw h (setBlock draws i q j (blockOf x) (drawing used d)) ≡ markFinishedIn draws i (some q) j (namedPeer has peer) (drawing used d)
+          → noDraw h (setBlock draws i q j (blockOf x) (drawing used d))
+          ≡ markFinishedIn draws i (some q) j (namedPeer has peer) (drawing used d)
       unfolding markFinishedIn noDraw drawing
       named h e =
           rw (finished-test false (ne-eqb (b .state) 3 o) records k (a .there))
@@ -238,8 +239,8 @@ module _ (s : Shape) (draws : Draws) (i p j : ℕ) (t : Tally) (flags finished :
           (went-named s records words cells used (edited (headWord words₁ 7) (Remove i) records) words₂ cells₂ next
           (λ v. noDraw (pieceFlushed i) (setBlock draws i q j (blockOf x) v)) (markFinishedIn draws i (some q) j (namedPeer has peer))
           (named (pieceFlushed i) (flush-is i d₁ (withBlockAt j (blockOf x) q) true found-after (done-is true e)))
-          (went-then s records words cells used records words₁ cells₁ next (setBlock draws i q j (blockOf x)) (noDraw (pieceFlushed i)) set-went
-          (edited (headWord words₁ 7) (Remove i) records) words₂ cells₂ next (w .went records has-after n next)))
+          (went-then s records words cells used records words₁ cells₁ next (setBlock draws i q j (blockOf x)) (noDraw (pieceFlushed i))
+          set-went (edited (headWord words₁ 7) (Remove i) records) words₂ cells₂ next (w .went records has-after n next)))
 
       -- the other partials after the flush
       flushed-others : true ≡ (leb (t .blocks) (finished + 1) && (bitOf flags 0 && (not (bitOf flags 2) && not (bitOf flags 1))))
@@ -271,7 +272,8 @@ module _ (s : Shape) (draws : Draws) (i p j : ℕ) (t : Tally) (flags finished :
       closed = true;
       edits = ap Remove en;
       went = λ records k a.
-          subst (λ (m : ℕ). Went s (markFinishedIn draws i (some (partialIn (decode records words cells) k)) j (namedPeer has peer)) records words
-          cells used (edited (headWord words 7) (Remove m) records) words₂ cells₂ next) (sym en) (flushed-went records k a e words₂ cells₂ w);
+          subst (λ (m : ℕ). Went s (markFinishedIn draws i (some (partialIn (decode records words cells) k)) j (namedPeer has peer))
+          records words cells used (edited (headWord words 7) (Remove m) records) words₂ cells₂ next) (sym en)
+          (flushed-went records k a e words₂ cells₂ w);
       others = λ f records k a. flushed-others records k a e;
     }

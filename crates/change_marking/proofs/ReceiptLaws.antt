@@ -1,5 +1,5 @@
 -- A block of a standing partial that a peer brought: only its peer changes where it was received before. Assumes nothing.
-use mathlib.Core.Path.{_≡_, refl, sym, ap, subst}
+use mathlib.Core.Path.{_≡_, refl, ap, subst}
 use mathlib.Core.Bool.{true, false}
 use mathlib.Core.List.{List}
 use mathlib.Core.Option.{some}
@@ -10,7 +10,6 @@ use Rattle.model.specs.State.{Block, withPeer}
 use Rattle.model.specs.list.Order.{Draws, drawing, noDraw}
 use Rattle.model.specs.change.Partials.{blockAt, replaceBlock}
 use Rattle.model.specs.change.Changes.{saying, setBlock, writtenBy, markWritingIn}
-use Rattle.memory_records.specs.declared.record.DownloadingPiece.{DownloadingPiece as Record}
 use Rattle.memory_layout.specs.declared.shape.Shape.{Shape}
 use Rattle.memory_layout.specs.Decode.{decode, stateFrom}
 use Rattle.memory_layout.specs.Changes.{partialIn}
@@ -22,7 +21,7 @@ use Rattle.change_blocks.specs.Replacing.{Retallied, namedPeer, BlockSet}
 use Rattle.change_blocks.proofs.SetLaws.{put-went}
 use Rattle.change_blocks.proofs.StandingLaws.{block-there, set-there}
 use Rattle.change_marking.specs.Marking.{Written}
-use Rattle.change_marking.proofs.BlockLaws.{received-high, received-low}
+use Rattle.change_marking.proofs.BlockLaws.{was-received, not-received}
 
 -- the block of the numbers that are stored
 kept-is : (x b : BlockInfo) (y : Block) → x .state ≡ b .state → x .«num_peers» ≡ b .«num_peers» → blockOf b ≡ y
@@ -48,12 +47,10 @@ module _ (s : Shape) (draws : Draws) (i p j : ℕ) (t : Tally) (words cells : Li
           let z = block-there s words cells i p j t b r records k a in
           went-named s records words cells used records words′ cells′ used (noDraw (λ q. replaceBlock (partialIn q k) j (blockOf x) q))
           (λ w. markWritingIn draws i (some d) j (namedPeer (x .«has_peer») (x .peer)) w .after)
-          (rw (received-high (blockAt d j) (b .state) (z .state) h)
+          (rw (was-received s words cells i p j t b r records k a h)
           (ap (λ (q : Block). drawing used (replaceBlock d j q (decode records words cells))) (kept-is x b (blockAt d j) e f (z .is))))
           (put-went s i p j x words cells words′ cells′ g records k (a .stands) used);
-      answer = λ records k a.
-          let d = partialIn (decode records words cells) k in
-          rw (received-high (blockAt d j) (b .state) (block-there s words cells i p j t b r records k a .state) h) refl;
+      answer = λ records k a. rw (was-received s words cells i p j t b r records k a h) refl;
     };
   }
 
@@ -68,11 +65,9 @@ module _ (s : Shape) (draws : Draws) (i p j : ℕ) (t : Tally) (words cells : Li
           let d = partialIn (decode records words cells) k in
           went-named s records words cells used records words′ cells′ next (setBlock draws i d j (blockOf x))
           (λ w. markWritingIn draws i (some d) j (namedPeer (x .«has_peer») (x .peer)) w .after)
-          (rw (received-low (blockAt d j) (b .state) (block-there s words cells i p j t b r records k a .state) h)
+          (rw (not-received s words cells i p j t b r records k a h)
           (ap (λ (q : Block). setBlock draws i d j q (drawing used (decode records words cells))) (written-is x e f)))
           (set-there s words cells i p j t b r draws used 2 (omega arith) after y x e words′ cells′ next g records k a);
-      answer = λ records k a.
-          let d = partialIn (decode records words cells) k in
-          rw (received-low (blockAt d j) (b .state) (block-there s words cells i p j t b r records k a .state) h) refl;
+      answer = λ records k a. rw (not-received s words cells i p j t b r records k a h) refl;
     };
   }

@@ -1,16 +1,15 @@
 -- A block of a standing partial asked for once more: left where it was received, else turned, replaced and turned back. Assumes nothing.
-use mathlib.Core.Path.{_≡_, refl, sym, ap, ap₂, _∙_, subst}
+use mathlib.Core.Path.{_≡_, refl, sym, ap, _∙_, subst}
 use mathlib.Core.Bool.{Bool, true, false}
 use mathlib.Core.List.{List}
 use mathlib.Core.Option.{some}
 use Prim.Native.Nat.{ℕ, suc, _+_, _≤_, _<_}
 use native.Mathlib.Omega.{arith}
-use Rattle.types.specs.Block.{blockStateNumber}
 use Rattle.model.specs.Lists.{nth}
 use Rattle.model.specs.State.{Block, DownloadingPiece}
 use Rattle.model.specs.list.Order.{Draws, Drawing, drawing}
 use Rattle.model.specs.change.Partials.{blockAt}
-use Rattle.model.specs.change.Changes.{saying, setBlock, makePieceReverse, unreversePiece, requestedBy, request, reverseAsked}
+use Rattle.model.specs.change.Changes.{saying, setBlock, makePieceReverse, unreversePiece, requestedBy, request}
 use Rattle.model.specs.change.Changes.{markDownloadingIn}
 use Rattle.memory_records.specs.declared.record.DownloadingPiece.{DownloadingPiece as Record}
 use Rattle.memory_layout.specs.declared.shape.Shape.{Shape}
@@ -26,8 +25,8 @@ use Rattle.change_direction.specs.Turning.{MadeReverse}
 use Rattle.change_blocks.specs.Replacing.{withBlockAt, Retallied, PartialAt, PartialBeside, TallyAt, TallyBeside, namedPeer, BlockSet}
 use Rattle.change_blocks.proofs.StandingLaws.{block-there, block-within}
 use Rattle.change_marking.specs.Marking.{RequestBeside, Requested}
-use Rattle.change_marking.proofs.BlockLaws.{received-high, received-low}
-use Rattle.change_marking.proofs.TurnedLaws.{reverse-few, reverse-partials, block-few, next-is, partial-same, stands-on}
+use Rattle.change_marking.proofs.BlockLaws.{was-received, not-received}
+use Rattle.change_marking.proofs.TurnedLaws.{reverse-same, block-few, next-is, partial-same, stands-on}
 
 -- the block of the numbers that are stored
 requested-is : (x : BlockInfo) (n : ℕ) → x .state ≡ 1 → x .«num_peers» ≡ suc n
@@ -56,17 +55,16 @@ module _ (s : Shape) (draws : Draws) (i p j : ℕ) (back : Bool) (t : Tally) (wo
       went = λ records k a.
           let d = partialIn (decode records words cells) k in
           went-nowhere s records words cells used (λ w. markDownloadingIn draws i (some d) j (namedPeer has peer) options w .after)
-          (a .stands .works) (rw (received-high (blockAt d j) (b .state) (block-there s words cells i p j t b r records k a .state) h) refl);
-      answer = λ records k a.
-          let d = partialIn (decode records words cells) k in
-          rw (received-high (blockAt d j) (b .state) (block-there s words cells i p j t b r records k a .state) h) refl;
+          (a .stands .works) (rw (was-received s words cells i p j t b r records k a h) refl);
+      answer = λ records k a. rw (was-received s words cells i p j t b r records k a h) refl;
     };
   }
 
   -- ---- turned
   module _ (words₁ cells₁ : List ℕ) (turned : ℕ) (m : MadeReverse s draws i back (t .requested) words cells used words₁ cells₁ turned) where
     turned-went : (records : List Record) (k : ℕ) → TallyAt s records words cells i p j t k
-        → Went s (makePieceReverse draws i back (partialIn (decode records words cells) k)) records words cells used records words₁ cells₁ turned
+        → Went s (makePieceReverse draws i back (partialIn (decode records words cells) k)) records words cells used
+        records words₁ cells₁ turned
     turned-went records k a =
         m .went records (a .stands .works) (partialIn (decode records words cells) k) (a .tally .requested)
 
@@ -75,7 +73,7 @@ module _ (s : Shape) (draws : Draws) (i p j : ℕ) (back : Bool) (t : Tally) (wo
     turned-stands records k a =
         let d = partialIn (decode records words cells) k in
         stands-on s (makePieceReverse draws i back d) records words cells used words₁ cells₁ turned (turned-went records k a)
-        (reverse-partials draws i back d (drawing used (decode records words cells))) i p j k (a .stands)
+        (reverse-same draws i back d (drawing used (decode records words cells)) .partials) i p j k (a .stands)
 
     turned-few : (records : List Record) (k : ℕ) → TallyAt s records words cells i p j t k → turned ≤ used + 1
     unfolding drawing
@@ -83,8 +81,8 @@ module _ (s : Shape) (draws : Draws) (i p j : ℕ) (back : Bool) (t : Tally) (wo
         let d = partialIn (decode records words cells) k in
         let w = drawing used (decode records words cells) in
         let e = next-is s (makePieceReverse draws i back d) records words cells used words₁ cells₁ turned (turned-went records k a)
-        (reverse-partials draws i back d w) in
-        omega (arith, e, reverse-few draws i back d w)
+        (reverse-same draws i back d w .partials) in
+        omega (arith, e, reverse-same draws i back d w .draws)
 
     pub turned-asks : TallyBeside s words cells i p j t → PartialBeside s words₁ cells₁ i p j × (turned ≤ used + 1)
     turned-asks a = (
@@ -97,15 +95,18 @@ module _ (s : Shape) (draws : Draws) (i p j : ℕ) (back : Bool) (t : Tally) (wo
         (en : x .«num_peers» ≡ b .«num_peers» + 1) (words₂ cells₂ : List ℕ) (next : ℕ)
         (g : BlockSet s draws i p j x after words₁ cells₁ turned words₂ cells₂ next) where
       set-went : (records : List Record) (k : ℕ) → TallyAt s records words cells i p j t k
-          → Went s (setBlock draws i (partialIn (decode records words cells) k) j (blockOf x)) records words₁ cells₁ turned records words₂ cells₂ next
+          → Went s (setBlock draws i (partialIn (decode records words cells) k) j (blockOf x)) records words₁ cells₁ turned
+          records words₂ cells₂ next
       unfolding blockOf stateFrom nth drawing
       set-went records k a =
           let d = partialIn (decode records words cells) k in
-          let same = partial-same s (makePieceReverse draws i back d) records words cells used words₁ cells₁ turned (turned-went records k a)
-          (reverse-partials draws i back d (drawing used (decode records words cells))) k in
-          let c : IsTally after (withBlockAt j (blockOf x) d) = y .is d j (blockOf x) (a .tally) (block-within s words cells i p j t records k a)
+          let same = partial-same s (makePieceReverse draws i back d) records words cells used words₁ cells₁ turned
+          (turned-went records k a) (reverse-same draws i back d (drawing used (decode records words cells)) .partials) k in
+          let c : IsTally after (withBlockAt j (blockOf x) d) =
+          y .is d j (blockOf x) (a .tally) (block-within s words cells i p j t records k a)
           (block-there s words cells i p j t b r records k a .state) (rw ex refl) in
-          subst (λ (q : DownloadingPiece). Went s (setBlock draws i q j (blockOf x)) records words₁ cells₁ turned records words₂ cells₂ next) same
+          subst (λ (q : DownloadingPiece). Went s (setBlock draws i q j (blockOf x)) records words₁ cells₁ turned
+          records words₂ cells₂ next) same
           (g .went records k (turned-stands records k a)
           (subst (λ (q : DownloadingPiece). IsTally after (withBlockAt j (blockOf x) q)) (sym same) c))
 
@@ -134,12 +135,11 @@ module _ (s : Shape) (draws : Draws) (i p j : ℕ) (back : Bool) (t : Tally) (wo
         marks = λ options e. record {
           went = λ records k a.
               let d = partialIn (decode records words cells) k in
-              let z = block-there s words cells i p j t b r records k a in
               let w = set-went records k a in
               went-named s records words cells used records words₃ cells₃ last
               (λ v. unreversePiece draws i back (setBlock draws i d j (blockOf x) (makePieceReverse draws i back d v)))
               (λ v. markDownloadingIn draws i (some d) j (namedPeer (x .«has_peer») (x .peer)) options v .after)
-              (rw (received-low (blockAt d j) (b .state) (z .state) h, ← e)
+              (rw (not-received s words cells i p j t b r records k a h, ← e)
               (ap (λ (q : Block). unreversePiece draws i back (setBlock draws i d j q (makePieceReverse draws i back d
               (drawing used (decode records words cells)))))
               (requested-is x (blockAt d j .numPeers) ex (en ∙ peers (b .«num_peers») (blockAt d j .numPeers) (count-is records k a)))))
@@ -148,9 +148,7 @@ module _ (s : Shape) (draws : Draws) (i p j : ℕ) (back : Bool) (t : Tally) (wo
               (went-then s records words cells used records words₁ cells₁ turned (makePieceReverse draws i back d)
               (setBlock draws i d j (blockOf x)) (turned-went records k a) records words₂ cells₂ next w)
               records words₃ cells₃ last (u .went records (w .works)));
-          answer = λ records k a.
-              let d = partialIn (decode records words cells) k in
-              rw (received-low (blockAt d j) (b .state) (block-there s words cells i p j t b r records k a .state) h) refl;
+          answer = λ records k a. rw (not-received s words cells i p j t b r records k a h) refl;
         };
       }
         where

@@ -64,8 +64,8 @@ pub fn finish_block(
     requires { ⌜ FinishBeside s (now words) (now cells) i p j t flags finished ⌝ }
     requires { ⌜ i < s .pieces ⌝ }
     requires { ⌜ used ≤ length (now draws) ⌝ }
-    ensures { λ r. ⌜ BlockFinished s (now (draws .entry)) i p j «has_peer» peer t flags finished (now (words .entry)) (now (cells .entry)) used
-        (now (words .exit)) (now (cells .exit)) (r .edit) (r .used) ⌝ }
+    ensures { λ r. ⌜ BlockFinished s (now (draws .entry)) i p j «has_peer» peer t flags finished (now (words .entry)) (now (cells .entry))
+        used (now (words .exit)) (now (cells .exit)) (r .edit) (r .used) ⌝ }
 {
     let b = get_block(words, cells, s, p, j);
     if b.state == 3 {

@@ -10,6 +10,7 @@ use Rattle.model.specs.State.{Picker}
 use Rattle.model.specs.list.Order.{Draws, Drawing, drawing}
 use Rattle.model.specs.change.Partials.{partialOf}
 use Rattle.model.specs.change.Changes.{markOpening}
+use Rattle.model.proofs.sound.SoundLaws.{wellFormed-sound}
 use Rattle.memory_records.specs.declared.record.DownloadingPiece.{DownloadingPiece as Record}
 use Rattle.memory_records.specs.declared.edits.Edit.the-variants.{Insert}
 use Rattle.memory_records.specs.Records.{edited, risingFrom}
@@ -22,12 +23,10 @@ use Rattle.memory_layout.specs.Standing.{Stands, Changed, editRecords}
 use Rattle.memory_layout.proofs.EditedRecords.{decode-live, stands-live, changed-live, live-rise, insert-number, edited-at}
 use Rattle.memory_blocks.specs.declared.info.BlockInfo.{BlockInfo}
 use Rattle.memory_blocks.specs.Blocks.{blockOf}
-use Rattle.change_steps.specs.Whole.{Done}
-use Rattle.change_steps.proofs.MendLaws.{went-changed}
+use Rattle.change_steps.proofs.MendLaws.{stands-works, went-changed}
 use Rattle.change_opening.specs.declared.marks.Marked.{Marked}
 use Rattle.change_opening.specs.Adding.{Vacant, VacantBeside}
 use Rattle.change_opening.specs.Marking.{OpeningMarked}
-use Rattle.change_opening.proofs.RoomLaws.{stands-vacant, stands-beside}
 use Rattle.change_marks.specs.Marks.{RowsVacant, MarkDone}
 
 front-rows : (n k : ℕ) (rows : List ℕ) → take n (recordsFrom (suc n) k rows) ≡ recordsFrom n k rows
@@ -63,14 +62,20 @@ module _ (s : Shape) (live : ℕ) (rows words cells : List ℕ) (i : ℕ) (g : R
   fits = omega (arith, length-records (suc live) rows)
 
   room : Vacant s i live rows more words cells
-  room =
-      stands-vacant s i live rows more words cells more-stands (ap (λ (d : Picker). partialOf d i) same ∙ g .vacant) (g .many) front fits
+  room = record {
+    works = stands-works s more words cells more-stands;
+    rising = wellFormed-sound (decode more words cells) (more-stands .sound) .rising;
+    vacant = ap (λ (d : Picker). partialOf d i) same ∙ g .vacant;
+    count = g .many;
+    rowsAre = front;
+    fits = fits;
+  }
 
   rises : risingFrom 0 (take live more) ≡ true
   rises = subst (λ (n : ℕ). risingFrom 0 (take n more) ≡ true) (sym (g .many)) (live-rise s more words cells more-stands)
 
   pub room-beside : VacantBeside s i live rows words cells
-  room-beside = stands-beside s i live rows words cells (g .stands) (g .many) (g .vacant)
+  room-beside = record { records = more; stands = room }
 
   module _ (draws : Draws) (q : DownloadQueue) (affinity : Bool) (j : ℕ) (x : BlockInfo) (words′ cells′ : List ℕ) (m : Marked)
       (o : OpeningMarked s draws i q affinity j x live rows words cells 0 words′ cells′ m) where
@@ -102,8 +107,8 @@ module _ (s : Shape) (live : ℕ) (rows words cells : List ℕ) (i : ℕ) (g : R
         record {
           done = record {
             changed = live-alone (step (drawing 0 (decode rs words cells)) .picker)
-                (subst (λ (d : Picker). Changed s (step (drawing 0 d) .picker) words cells (edited live (Insert (m .partial)) more) words′ cells′)
-                same (c .0));
+                (subst (λ (d : Picker). Changed s (step (drawing 0 d) .picker) words cells (edited live (Insert (m .partial)) more)
+                words′ cells′) same (c .0));
             draws = c .1 ∙ ap (λ (d : Picker). step (drawing 0 d) .used) same;
           };
           says = ap (λ (d : Picker). markOpening draws i q affinity j (blockOf x) (drawing 0 d) .answer) (sym same) ∙ o .answer more room;

@@ -2,8 +2,8 @@
 use mathlib.Core.Path.{_≡_, refl, sym, ap, subst, _∙_}
 use mathlib.Core.Bool.{Bool, true, false, cond}
 use mathlib.Core.List.{List}
-use mathlib.Core.Option.{Option, none, some}
-use Prim.Native.Nat.{ℕ, _≤_, _<_}
+use mathlib.Core.Option.{Option, some}
+use Prim.Native.Nat.{ℕ, _<_}
 use native.Mathlib.Omega.{arith}
 use borrow.Author.Tests.{leb-true}
 use lib.Dec.{leb}
@@ -48,7 +48,7 @@ use Rattle.change_marks.specs.Marks.{RowsVacant, MarkDone, markArrived}
 use Rattle.change_marks.proofs.RoomLaws.{one-without, not-all}
 
 -- ---- by another name
-pub done-named : (s : Shape) (step other : (w : Drawing) → Drawing) (records : List Record) (words cells : List ℕ) (records′ : List Record)
+done-named : (s : Shape) (step other : (w : Drawing) → Drawing) (records : List Record) (words cells : List ℕ) (records′ : List Record)
     (words′ cells′ : List ℕ) (used : ℕ) → step (drawing 0 (decode records words cells)) ≡ other (drawing 0 (decode records words cells))
     → Done s step records words cells records′ words′ cells′ used → Done s other records words cells records′ words′ cells′ used
 done-named s step other records words cells records′ words′ cells′ used e m = record {
@@ -56,7 +56,7 @@ done-named s step other records words cells records′ words′ cells′ used e 
   draws = m .draws ∙ ap (λ (w : Drawing). w .used) e;
 }
 
-pub mark-named : (s : Shape) (mark other : (w : Drawing) → Change) (records : List Record) (words cells : List ℕ) (records′ : List Record)
+mark-named : (s : Shape) (mark other : (w : Drawing) → Change) (records : List Record) (words cells : List ℕ) (records′ : List Record)
     (words′ cells′ : List ℕ) (answer : Bool) (used : ℕ)
     → mark (drawing 0 (decode records words cells)) ≡ other (drawing 0 (decode records words cells))
     → MarkDone s mark records words cells records′ words′ cells′ answer used
@@ -116,25 +116,38 @@ module _ (s : Shape) (live : ℕ) (rows words cells : List ℕ) (i : ℕ) (g : R
       records′ words′ cells′ answer used (rw f refl) m
 
   -- the marks of a piece without a partial
-  module _ (draws : Draws) (j : ℕ) (has : Bool) (peer : ℕ) where
-    pub downloading-opened : (options : ℕ) (back affinity : Bool) (q : DownloadQueue) → back ≡ reverseAsked options
-        → affinity ≡ affinityAsked options → q ≡ cond back DownloadingReverse Downloading
-        → markOpening draws i q affinity j (blockOf (record { state = 1; «num_peers» = 1; «has_peer» = has; peer = peer })) (drawing 0 d₀)
-        ≡ markAsDownloading draws i j (namedPeer has peer) options (drawing 0 d₀)
-    unfolding markAsDownloading markDownloadingIn requestedBy blockOf stateFrom nth drawing
-    downloading-opened options back affinity q eb ea eq = rw (g .vacant, eq, eb, ea) refl
+  module _ (draws : Draws) (j : ℕ) (has : Bool) (peer : ℕ) (records′ : List Record) (words′ cells′ : List ℕ) (answer : Bool) (used : ℕ)
+    where
+      pub downloading-opened : (options : ℕ) (back affinity : Bool) (q : DownloadQueue) → back ≡ reverseAsked options
+          → affinity ≡ affinityAsked options → q ≡ cond back DownloadingReverse Downloading
+          → MarkDone s (markOpening draws i q affinity j (blockOf (record { state = 1; «num_peers» = 1; «has_peer» = has; peer = peer })))
+          (recordsIn live rows) words cells records′ words′ cells′ answer used
+          → MarkDone s (markAsDownloading draws i j (namedPeer has peer) options)
+          (recordsIn live rows) words cells records′ words′ cells′ answer used
+      unfolding markAsDownloading markDownloadingIn requestedBy blockOf stateFrom nth drawing
+      downloading-opened options back affinity q eb ea eq m =
+          mark-named s (markOpening draws i q affinity j (blockOf (record { state = 1; «num_peers» = 1; «has_peer» = has; peer = peer })))
+          (markAsDownloading draws i j (namedPeer has peer) options) (recordsIn live rows) words cells records′ words′ cells′ answer used
+          (rw (g .vacant, eq, eb, ea) refl) m
 
-    pub writing-opened :
-        markArrived draws i j (blockOf (record { state = 2; «num_peers» = 0; «has_peer» = has; peer = peer })) (drawing 0 d₀)
-        ≡ markAsWriting draws i j (namedPeer has peer) (drawing 0 d₀)
-    unfolding markAsWriting markWritingIn writtenBy blockOf stateFrom nth drawing
-    writing-opened = rw (g .vacant) refl
+      pub writing-opened : MarkDone s (markArrived draws i j (blockOf (record { state = 2; «num_peers» = 0; «has_peer» = has; peer = peer })))
+          (recordsIn live rows) words cells records′ words′ cells′ answer used
+          → MarkDone s (markAsWriting draws i j (namedPeer has peer)) (recordsIn live rows) words cells records′ words′ cells′ answer used
+      unfolding markAsWriting markWritingIn writtenBy blockOf stateFrom nth drawing
+      writing-opened m =
+          mark-named s (markArrived draws i j (blockOf (record { state = 2; «num_peers» = 0; «has_peer» = has; peer = peer })))
+          (markAsWriting draws i j (namedPeer has peer)) (recordsIn live rows) words cells records′ words′ cells′ answer used
+          (rw (g .vacant) refl) m
 
-    pub finished-opened :
-        markArrived draws i j (blockOf (record { state = 3; «num_peers» = 0; «has_peer» = has; peer = peer })) (drawing 0 d₀) .after
-        ≡ markAsFinished draws i j (namedPeer has peer) (drawing 0 d₀)
-    unfolding markAsFinished markFinishedIn finishedBy blockOf stateFrom nth drawing saying
-    finished-opened = rw (g .vacant) (after-cond (pieceAt d₀ i .flushed) _ _)
+      pub finished-opened : MarkDone s (markArrived draws i j (blockOf (record { state = 3; «num_peers» = 0; «has_peer» = has; peer = peer })))
+          (recordsIn live rows) words cells records′ words′ cells′ answer used
+          → Done s (markAsFinished draws i j (namedPeer has peer)) (recordsIn live rows) words cells records′ words′ cells′ used
+      unfolding markAsFinished markFinishedIn finishedBy blockOf stateFrom nth drawing saying
+      finished-opened m =
+          done-named s
+          (λ w. markArrived draws i j (blockOf (record { state = 3; «num_peers» = 0; «has_peer» = has; peer = peer })) w .after)
+          (markAsFinished draws i j (namedPeer has peer)) (recordsIn live rows) words cells records′ words′ cells′ used
+          (rw (g .vacant) (after-cond (pieceAt d₀ i .flushed) _ _)) (m .done)
 
 -- ---- the partial that the rows name
 module _ (s : Shape) (live : ℕ) (rows counts words cells : List ℕ) (g : RowsStand s live rows counts words cells) (i : ℕ) where
@@ -160,7 +173,8 @@ module _ (s : Shape) (live : ℕ) (rows counts words cells : List ℕ) (g : Rows
     request-beside =
         let v = wellFormed-sound d (g .stands .sound) in
         let b = blockAt (partialIn d k) j in
-        let o = block-in d i j (partialIn d k) (v .partial i (partialIn d k) (partial-found s live rows counts words cells g i k found e f)) in
+        let n = partial-found s live rows counts words cells g i k found e f in
+        let o = block-in d i j (partialIn d k) (v .partial i (partialIn d k) n) in
         let m = leb-true (b .numPeers) maxPeers (both-true (leb (b .numPeers) maxPeers) (peerOk (b .peer)) o .0) in
         let low : b .numPeers < 65535 = omega (arith, m) in
         record {

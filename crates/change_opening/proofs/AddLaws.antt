@@ -34,7 +34,7 @@ use Rattle.change_state.specs.declared.states.Tally.{Tally}
 use Rattle.change_state.specs.Numbers.{IsTally, StateUpdated}
 use Rattle.change_opening.specs.declared.adding.Opening.{Opening}
 use Rattle.change_opening.specs.Adding.{FreshTallied, Vacant, VacantBeside, Held, Added}
-use Rattle.change_opening.proofs.StepLaws.{SamePartials, update-same}
+use Rattle.change_state.proofs.KeptLaws.{SamePartials, update-same}
 
 -- ---- what is asked
 -- the rows are in bounds

@@ -4,4 +4,3 @@ pub mod AddLaws
 pub mod OpenLaws
 pub mod FirstLaws
 pub mod MarkLaws
-pub mod RoomLaws

@@ -24,7 +24,8 @@ use Rattle.change_steps.proofs.WorkLaws.{went-nowhere, went-then, went-named}
 use Rattle.change_steps.proofs.BesideLaws.{SameList, beside-went}
 use Rattle.change_opening.specs.declared.adding.Opening.{Opening}
 use Rattle.change_opening.specs.Adding.{Vacant, VacantBeside, Added, Undrawn}
-use Rattle.change_opening.proofs.StepLaws.{state-same, record-same}
+use Rattle.change_state.proofs.KeptLaws.{state-same}
+use Rattle.change_opening.proofs.StepLaws.{record-same}
 use Rattle.change_opening.proofs.AddLaws.{step-draws, vacant-still}
 
 -- ---- the extent

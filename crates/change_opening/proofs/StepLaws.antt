@@ -1,48 +1,17 @@
 -- What the steps of an opening leave of the partials, and how much they draw. Assumes nothing.
 use mathlib.Core.Path.{_≡_, refl}
-use mathlib.Core.Bool.{Bool, _||_}
-use mathlib.Core.Option.{Option, none, some}
+use mathlib.Core.Bool.{Bool}
 use Prim.Native.Nat.{ℕ, _+_, _≤_}
 use native.Mathlib.Omega.{arith}
 use Rattle.types.specs.declared.queue.DownloadQueue.{DownloadQueue}
 use Rattle.model.specs.Lists.{when}
-use Rattle.model.specs.State.{DownloadingPiece, sameQueue, isOpen, pieceAt, withPiece, withPieces, withState, withListing}
 use Rattle.model.specs.State.{withRecentExtents}
 use Rattle.model.specs.list.Order.{Draws, Drawing, drawing, noDraw}
-use Rattle.model.specs.change.Partials.{partialOf, newState, setState, moveState, updateStateOf, updatePieceState, addPartial}
-use Rattle.model.specs.change.Partials.{addDownloadPiece}
+use Rattle.model.specs.change.Partials.{setState, addPartial, addDownloadPiece}
 use Rattle.model.specs.change.Changes.{recordDownloadingPiece, opened}
-use Rattle.model.proofs.base.Phases.{when-arms, unless-arms}
-use Rattle.model.proofs.list.ListingLaws.{moved-used}
-use Rattle.model.proofs.sound.SoundFields.{moved-blind}
+use Rattle.model.proofs.base.Phases.{when-arms}
 use Rattle.model.proofs.keep.KeepExtents.{record-blind}
-
--- v comes from w with at most n draws more, and has the same partials
-pub record SamePartials (n : ℕ) (w v : Drawing) : Type 0 where
-  pub draws : v .used ≤ w .used + n
-  pub partials : v .picker .partials ≡ w .picker .partials
-
-still : (n : ℕ) (w : Drawing) → SamePartials n w w
-still n w = record { draws = omega arith; partials = refl }
-
-module _ (draws : Draws) (i : ℕ) where
-  pub state-same : (q : DownloadQueue) (w : Drawing) → SamePartials 1 w (setState draws i q w)
-  unfolding setState withPiece withPieces withListing
-  state-same q w = record {
-    draws = moved-used draws i (withPiece i (withState q)) w .1;
-    partials = moved-blind (λ t. t .partials ≡ w .picker .partials) (λ l t e. e) draws i (withPiece i (withState q)) w refl;
-  }
-
-  pub update-same : (w : Drawing) → SamePartials 1 w (updatePieceState draws i w)
-  unfolding updatePieceState updateStateOf moveState
-  update-same w = go (partialOf (w .picker) i)
-    where
-      go : (o : Option DownloadingPiece) → SamePartials 1 w (updateStateOf draws i o w)
-      go none = still 1 w
-      go (some d) =
-          let p = pieceAt (w .picker) i in
-          let q = newState d (p .priority) (p .state) in
-          unless-arms (SamePartials 1 w) (sameQueue q (p .state) || isOpen q) (setState draws i q) w (λ e. state-same q w) (λ e. still 1 w)
+use Rattle.change_state.proofs.KeptLaws.{SamePartials, still, state-same, update-same}
 
 pub record-same : (i : ℕ) (affinity : Bool) (w : Drawing) → SamePartials 0 w (when affinity (noDraw (recordDownloadingPiece i)) w)
 unfolding noDraw drawing withRecentExtents

@@ -4,7 +4,6 @@ use mathlib.Core.Bool.{Bool, true, false}
 use mathlib.Core.List.{List}
 use mathlib.Core.Option.{Option, none, some}
 use Prim.Native.Nat.{ℕ, _≤_, _<_}
-use native.Mathlib.Omega.{arith}
 use lib.ListN.{length}
 use Rattle.types.specs.declared.block.BlockState.the-variants.{Finished}
 use Rattle.model.specs.State.{Picker, DownloadingPiece}
@@ -31,7 +30,6 @@ use Rattle.change_tally.specs.declared.standing.Standing.{Standing}
 use Rattle.change_tally.specs.Tallied.{TalliesBeside, StandsIn}
 use Rattle.change_tally.specs.RowsStanding.{RowsStand}
 use Rattle.change_blocks.specs.Replacing.{TallyAt, TallyBeside}
-use Rattle.change_flags.specs.Flagging.{RowsStand as LiveStand}
 use Rattle.change_flags.proofs.RowEdits.{rows-live, rows-few, rows-rising, low, found-is, row-is, rows-closed}
 use Rattle.change_returns.specs.Giving.{closing, PartialChanged}
 
@@ -42,15 +40,12 @@ module _ (s : Shape) (live : ℕ) (rows counts words cells : List ℕ) (g : Rows
   abbrev d : Picker
   d = decode (recordsIn live rows) words cells
 
-  live-stand : LiveStand s live rows words cells
-  live-stand = record { stands = g .stands; many = g .many }
-
   live-rows : LiveRows s live rows words cells
-  live-rows = rows-live s live rows words cells live-stand
+  live-rows = rows-live s live rows words cells (g .stands) (g .many)
 
   -- what the lookup asks
   pub find-asks : ((live ≤ 512) × (length rows ≡ 1536)) × (risingFrom 0 rs ≡ true)
-  find-asks = ((rows-few s live rows words cells live-stand, g .longRows), rows-rising s live rows words cells live-stand)
+  find-asks = ((rows-few s live rows words cells (g .stands) (g .many), g .longRows), rows-rising s live rows words cells (g .stands) (g .many))
 
   -- no row is the piece's
   pub nothing-found : (i : ℕ) (found : Found) → found ≡ Nothing → FoundIn live rows i found → partialOf d i ≡ none
@@ -62,7 +57,7 @@ module _ (s : Shape) (live : ℕ) (rows counts words cells : List ℕ) (g : Rows
     found-at = subst (FoundIn live rows i) e f
 
     pub partial-found : partialOf d i ≡ some (partialIn d k)
-    partial-found = found-is s live rows words cells live-stand i k found-at
+    partial-found = found-is s live rows words cells (g .stands) (g .many) i k found-at
 
     pub standing-asks : i < s .pieces
         → TalliesBeside s words rows counts k i × ((i < s .pieces) × ((length rows ≡ 1536) × (length counts ≡ 1536)))
@@ -81,7 +76,7 @@ module _ (s : Shape) (live : ℕ) (rows counts words cells : List ℕ) (g : Rows
     -- its partial stands at the place that it names, with the numbers counted
     module _ (r : Standing) (y : StandsIn s words rows counts k r) where
       pub flags-here : recordAt rs k .flags ≡ r .flags
-      flags-here = ap (λ (q : Record). q .flags) (row-is s live rows words cells live-stand i k found-at) ∙ sym (y .flags)
+      flags-here = ap (λ (q : Record). q .flags) (row-is s live rows words cells (g .stands) (g .many) i k found-at) ∙ sym (y .flags)
 
       pub finished-here : r .finished ≡ blocksInState Finished (partialIn d k)
       finished-here = y .finished .is d live (g .counted) (found-at .row .0)
@@ -89,12 +84,12 @@ module _ (s : Shape) (live : ℕ) (rows counts words cells : List ℕ) (g : Rows
       module _ (j : ℕ) (h : j < blocksOf words i) where
         pub tally-here : TallyAt s rs words cells i (r .place) j (r .tally) k
         tally-here =
-            let z = row-is s live rows words cells live-stand i k found-at in
+            let z = row-is s live rows words cells (g .stands) (g .many) i k found-at in
             record {
               stands = record {
                 works = stands-works s rs words cells (g .stands);
                 rising = wellFormed-sound d (g .stands .sound) .rising;
-                low = low s live rows words cells live-stand i k found-at;
+                low = low s live rows words cells (g .stands) (g .many) i k found-at;
                 index = ap (λ (q : Record). q .index) z ∙ found-at .row .1;
                 place = ap (λ (q : Record). q .«info_idx») z ∙ sym (y .place);
                 block = h;
@@ -136,7 +131,7 @@ module _ (s : Shape) (live : ℕ) (rows counts words cells : List ℕ) (g : Rows
           let c = went-changed s rs words cells whole 0 gone words′ cells′ next
           (went-named s rs words cells 0 gone words′ cells′ next (change (some (partialIn d k))) whole here w) in
           record {
-            changed = rows-closed s live rows words cells live-stand i k (found-at i k found e f) (λ q. whole (drawing 0 q) .picker)
+            changed = rows-closed s live rows words cells (g .stands) (g .many) i k (found-at i k found e f) (λ q. whole (drawing 0 q) .picker)
                 (ap (λ (v : Drawing). v .picker .partials) (sym here) ∙ o refl) words′ cells′ (c .0);
             draws = c .1;
           }

@@ -1,3 +1,4 @@
 pub mod StateLaws
 pub mod QueueLaws
 pub mod MoveLaws
+pub mod KeptLaws

@@ -1,14 +1,14 @@
 -- A piece in another state: what is stored, and what becomes of the picker once the list is mended. Assumes nothing.
-use mathlib.Core.Path.{_≡_, refl, sym, ap, ap₂, _∙_, subst}
+use mathlib.Core.Path.{_≡_, ap, ap₂, _∙_, subst}
 use mathlib.Core.Bool.{true, false, _||_}
-use mathlib.Core.Option.{Option, some}
+use mathlib.Core.Option.{some}
 use mathlib.Core.List.{List}
 use Prim.Native.Nat.{ℕ, _<_}
 use Rattle.types.specs.declared.queue.DownloadQueue.{DownloadQueue}
 use Rattle.types.specs.Queue.{queueNumber}
 use Rattle.model.specs.Lists.{unless}
-use Rattle.model.specs.State.{Picker, Piece, DownloadingPiece, sameQueue, isOpen, pieceAt, withPiece, withState}
-use Rattle.model.specs.list.Order.{Draws, Drawing, drawing, update}
+use Rattle.model.specs.State.{Picker, DownloadingPiece, sameQueue, isOpen, pieceAt, withPiece, withState}
+use Rattle.model.specs.list.Order.{Draws, drawing, update}
 use Rattle.model.specs.change.Partials.{partialOf, newState, setState, moveState, updateStateOf, updatePieceState}
 use Rattle.memory_records.specs.declared.record.DownloadingPiece.{DownloadingPiece as Record}
 use Rattle.memory_layout.specs.declared.shape.Shape.{Shape}
@@ -17,13 +17,13 @@ use Rattle.memory_layout.specs.Stores.{CellsBecame}
 use Rattle.memory_layout.proofs.Numbers.{number-queue}
 use Rattle.memory_list.specs.Listings.{ListBounds, ListBefore, IsRankAt, ListBecame}
 use Rattle.memory_list.proofs.Moving.{PieceInRange, range-state}
-use Rattle.change_steps.specs.Working.{Works, WorksBeside, Goes, Went, Stored}
+use Rattle.change_steps.specs.Working.{Works, WorksBeside, Goes, Stored}
 use Rattle.change_steps.proofs.FieldLaws.{works-range, works-piece, field-stored}
 use Rattle.change_steps.proofs.WorkLaws.{went-nowhere, went-named}
 use Rattle.change_steps.proofs.FieldMends.{field-asks, field-mended}
 use Rattle.memory_fields.specs.Reading.{CellsSay}
 use Rattle.change_state.specs.declared.states.Tally.{Tally}
-use Rattle.change_state.specs.Numbers.{IsTally, stateBy, StateUpdated}
+use Rattle.change_state.specs.Numbers.{stateBy, StateUpdated}
 use Rattle.change_state.proofs.StateLaws.{new-state-is}
 
 -- the state is stored
@@ -47,8 +47,8 @@ module _ (s : Shape) (i : ℕ) (h : i < s .pieces) (q : DownloadQueue) (n : ℕ)
     state-asks b = field-asks s i (withState q) words cells cells′ named in-range old r b
 
     -- what it leaves
-    pub state-set : (draws : Draws) (used : ℕ) (words′ : List ℕ) (next : ℕ) → ListBecame s (update draws old i) words words′ cells′ used next
-        → Goes s (setState draws i q) words cells used words′ cells′ next
+    pub state-set : (draws : Draws) (used : ℕ) (words′ : List ℕ) (next : ℕ)
+        → ListBecame s (update draws old i) words words′ cells′ used next → Goes s (setState draws i q) words cells used words′ cells′ next
     unfolding setState
     state-set draws used words′ next l =
         field-mended s i (withState q) words cells cells′ named in-range old r draws used words′ next l

@@ -1,17 +1,16 @@
 -- A step that leaves the pieces, the seeds and the list: the list stays right, with its ranks. Assumes nothing.
-use mathlib.Core.Path.{_≡_, refl, sym, ap, _∙_, subst}
+use mathlib.Core.Path.{_≡_, ap, _∙_}
 use mathlib.Core.List.{List}
 use Prim.Native.Nat.{ℕ}
 use Rattle.model.specs.Lists.{len}
 use Rattle.model.specs.State.{Picker, Piece, piecesIn}
-use Rattle.model.specs.list.Listed.{ListingOk}
-use Rattle.model.specs.list.Order.{Drawing, drawing, noDraw, rank}
+use Rattle.model.specs.list.Order.{drawing, noDraw, rank}
 use Rattle.model.proofs.list.RankLaws.{rank-same}
 use Rattle.model.proofs.list.ListingLaws.{ok-same}
 use Rattle.memory_records.specs.declared.record.DownloadingPiece.{DownloadingPiece as Record}
 use Rattle.memory_layout.specs.declared.shape.Shape.{Shape}
 use Rattle.memory_layout.specs.Decode.{decode}
-use Rattle.memory_layout.specs.Bounds.{InBounds, Plain, RanksHeld}
+use Rattle.memory_layout.specs.Bounds.{InBounds, Plain}
 use Rattle.memory_layout.specs.Stores.{WordsKept, CellsKept, ListKept}
 use Rattle.memory_layout.proofs.StandingLaws.{ranks-named}
 use Rattle.memory_layout.proofs.stores.ListFrames.{ranks-kept}

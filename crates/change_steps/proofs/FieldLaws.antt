@@ -1,5 +1,4 @@
 -- One field of a piece stored on the way through a change. Assumes nothing.
-use mathlib.Core.Path.{_≡_}
 use mathlib.Core.List.{List}
 use Prim.Native.Nat.{ℕ, _<_}
 use Rattle.model.specs.State.{Piece, pieceAt, piecesIn, withPiece}

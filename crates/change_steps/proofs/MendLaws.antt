@@ -13,7 +13,7 @@ use Rattle.memory_records.specs.declared.record.DownloadingPiece.{DownloadingPi
 use Rattle.memory_layout.specs.declared.shape.Shape.{Shape}
 use Rattle.memory_layout.specs.Decode.{decode}
 use Rattle.memory_layout.specs.Standing.{Stands, StandsBeside, Changed}
-use Rattle.memory_layout.proofs.BoundsLaws.{words-kept-again, cells-kept-none}
+use Rattle.memory_layout.proofs.BoundsLaws.{words-kept-again}
 use Rattle.memory_fields.specs.Storing.{DirtyMarked}
 use Rattle.memory_list.specs.Listings.{ListBounds, ListBefore, ListBecame}
 use Rattle.memory_list.proofs.Moving.{well-formed-range, ranges-held, ranks-right, list-before}

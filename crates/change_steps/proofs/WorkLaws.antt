@@ -1,5 +1,5 @@
 -- Steps of a change: none, one after the other, under another name. Assumes nothing.
-use mathlib.Core.Path.{_≡_, refl, sym, ap, _∙_}
+use mathlib.Core.Path.{_≡_, sym, ap, _∙_}
 use mathlib.Core.List.{List}
 use Prim.Native.Nat.{ℕ}
 use Rattle.model.specs.list.Order.{Drawing, drawing}
@@ -7,7 +7,7 @@ use Rattle.memory_records.specs.declared.record.DownloadingPiece.{DownloadingPi
 use Rattle.memory_layout.specs.declared.shape.Shape.{Shape}
 use Rattle.memory_layout.specs.Decode.{decode}
 use Rattle.memory_layout.proofs.BoundsLaws.{words-kept-none, words-kept-again, cells-kept-none, cells-kept-again}
-use Rattle.change_steps.specs.Working.{Works, Went, Goes}
+use Rattle.change_steps.specs.Working.{Works, Went}
 
 module _ (s : Shape) (records : List Record) (words cells : List ℕ) (used : ℕ) where
   -- nothing moved, and the step leaves the picker

@@ -10,9 +10,8 @@ ghost use lib.ListN.{length};
 ghost use Rattle.model.specs.change.Changes.{lockPiece, piecePassed};
 ghost use Rattle.memory_records.specs.Records.{risingFrom};
 ghost use Rattle.memory_records.specs.Rows.{recordsIn};
-ghost use Rattle.memory_layout.specs.Decode.{decode};
-ghost use Rattle.check_partials.specs.Records.{CountsHeld};
-ghost use Rattle.change_flags.specs.Flagging.{RowsStand, RowsChanged, EditAlone};
+ghost use Rattle.change_tally.specs.RowsStanding.{RowsStand};
+ghost use Rattle.change_flags.specs.Flagging.{RowsChanged, EditAlone};
 ghost use Rattle.link_lists.specs.Lending.{shaped};
 ghost use Rattle.link_changes.specs.Outcomes.{editNamed};
 
@@ -36,9 +35,7 @@ pub extern "C" fn ch_piece_passed(
     g: Geometry,
     i: usize,
 ) -> Outcome
-    requires { ⌜ RowsStand (shaped (g .pieces) (g .blocks) (g .places)) live (now rows) (now words) (now cells) ⌝ }
-    requires { ⌜ (length (now rows) ≡ 1536) × (length (now counts) ≡ 1536) ⌝ }
-    requires { ⌜ CountsHeld (decode (recordsIn live (now rows)) (now words) (now cells)) live (now counts) ⌝ }
+    requires { ⌜ RowsStand (shaped (g .pieces) (g .blocks) (g .places)) live (now rows) (now counts) (now words) (now cells) ⌝ }
     requires { ⌜ i < g .pieces ⌝ }
     ensures { λ r. ⌜ RowsChanged (shaped (g .pieces) (g .blocks) (g .places)) (piecePassed i) live (now (rows .entry))
         (now (words .entry)) (now (cells .entry)) (editNamed r) (now (words .exit)) (now (cells .exit)) ⌝ }

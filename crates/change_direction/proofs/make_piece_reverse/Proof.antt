@@ -39,8 +39,8 @@ returns-2 : tie.Need-returns-2
 returns-2 c =
     let q = c .before .before in
     let a = q .before .before .before .before .before .args in
-    reverse-left (a .s) _ (a .i) (a .back) (a .words .now) (a .cells .now) (a .used) (q .queue-at .result) (q .queue-at .ensures) (a .requested)
-    (c .before .is-reverse .result) (c .before .is-reverse .ensures) (c .if1 .left)
+    reverse-left (a .s) _ (a .i) (a .back) (a .words .now) (a .cells .now) (a .used) (q .queue-at .result) (q .queue-at .ensures)
+    (a .requested) (c .before .is-reverse .result) (c .before .is-reverse .ensures) (c .if1 .left)
 
 pub make-piece-reverse-spec : {M : Type 1} → statement M
 make-piece-reverse-spec =

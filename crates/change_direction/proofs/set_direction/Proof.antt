@@ -36,8 +36,9 @@ gains-bucket-requires c κs = search needs
 
 mark-dirty-requires : tie.Need-mark-dirty-requires
 mark-dirty-requires c κs =
-    let c17 = c .before .before .before .before .before .before .before .before .before .before .before .before .before .before .before .before .before in
-    c17 .pre .0 .works .bounds .spans .inWords
+    let t = c .before .before .before .before .before .before .before .before in
+    let o = t .before .before .before .before .before .before .before .before .before in
+    o .pre .0 .works .bounds .spans .inWords
 
 same-length : tie.Need-same-length
 same-length c = search needs

@@ -3,7 +3,6 @@ use mathlib.Core.Path.{refl}
 use native.Mathlib.Omega.{arith}
 use lib.Dec.{eqb, ltb}
 use borrow.Author.Needs.{needs}
-use Rattle.model.specs.Lists.{bit}
 use Rattle.change_blocks.proofs.TallyLaws.{bit-most, retallied}
 use Rattle.change_blocks.proofs.tallies.retally.Statement.{statement}
 use Rattle.change_blocks.proofs.tallies.retally.Tie as tie

@@ -12,9 +12,10 @@ use Rattle.change_flags.proofs.flags.piece_passed.Tie as tie
 find-requires : tie.Need-find-requires
 find-requires c κs =
     let o = c .before .before .before .before in
-    let a = o .args in (
-      (rows-few (a .s) (a .live) (a .rows .now) (a .words .now) (a .cells .now) (o .pre .0), o .pre .1 .0 .0),
-      rows-rising (a .s) (a .live) (a .rows .now) (a .words .now) (a .cells .now) (o .pre .0),
+    let a = o .args in
+    let g = o .pre .0 in (
+      (rows-few (a .s) (a .live) (a .rows .now) (a .words .now) (a .cells .now) (g .stands) (g .many), g .longRows),
+      rows-rising (a .s) (a .live) (a .rows .now) (a .words .now) (a .cells .now) (g .stands) (g .many),
     )
 
 enum-known-k : tie.Need-enum-known-k
@@ -28,7 +29,7 @@ returns c =
     let f = c .before .before in
     let o = f .before .before .before .before .before in
     let a = o .args in
-    pass-nothing (a .s) (a .live) (a .rows .now) (a .words .now) (a .cells .now) (o .pre .0) (a .i)
+    pass-nothing (a .s) (a .live) (a .rows .now) (a .counts .now) (a .words .now) (a .cells .now) (o .pre .0) (a .i)
     (subst (FoundIn (a .live) (a .rows .now) (a .i)) (c .enum-told .given .1) (f .find .ensures .1))
 
 row-requires : tie.Need-row-requires
@@ -37,8 +38,9 @@ row-requires c κs =
     let f = k .before .before in
     let o = f .before .before .before .before .before in
     let a = o .args in
+    let g = o .pre .0 in
     let x = subst (FoundIn (a .live) (a .rows .now) (a .i)) (k .k .given .1) (f .find .ensures .1) in
-    (row-there (a .s) (a .live) (a .rows .now) (a .words .now) (a .cells .now) (o .pre .0) (a .i) _ x, o .pre .1 .0 .0)
+    (row-there (a .s) (a .live) (a .rows .now) (a .words .now) (a .cells .now) (g .stands) (g .many) (a .i) _ x, g .longRows)
 
 is-locked-requires : tie.Need-is-locked-requires
 is-locked-requires c κs = search needs
@@ -52,7 +54,7 @@ returns-2 c =
     let o = f .before .before .before .before .before in
     let a = o .args in
     let x = subst (FoundIn (a .live) (a .rows .now) (a .i)) (k .k .given .1) (f .find .ensures .1) in
-    pass-locked (a .s) (a .live) (a .rows .now) (a .words .now) (a .cells .now) (o .pre .0) (a .i) _ x (r .row .result) (r .row .ensures)
+    pass-locked (a .s) (a .live) (a .rows .now) (a .counts .now) (a .words .now) (a .cells .now) (o .pre .0) (a .i) _ x (r .row .result) (r .row .ensures)
     (l .is-locked .result) (l .is-locked .ensures) (c .if1 .taken)
 
 blocks-in-piece-requires : tie.Need-blocks-in-piece-requires
@@ -60,7 +62,7 @@ blocks-in-piece-requires c κs =
     let o = c .before .before .before .before .before .before .before .before .before .before .before .before in
     let a = o .args in
     let t = o .pre .0 .stands .bounds in
-    ((t .spans .inWords, stands-shape (a .s) (recordsIn (a .live) (a .rows .now)) (a .words .now) (a .cells .now) t), o .pre .1 .1 .1)
+    ((t .spans .inWords, stands-shape (a .s) (recordsIn (a .live) (a .rows .now)) (a .words .now) (a .cells .now) t), o .pre .1)
 
 finished-requires : tie.Need-finished-requires
 finished-requires c κs =
@@ -68,8 +70,9 @@ finished-requires c κs =
     let f = k .before .before in
     let o = f .before .before .before .before .before in
     let a = o .args in
+    let g = o .pre .0 in
     let x = subst (FoundIn (a .live) (a .rows .now) (a .i)) (k .k .given .1) (f .find .ensures .1) in
-    (row-there (a .s) (a .live) (a .rows .now) (a .words .now) (a .cells .now) (o .pre .0) (a .i) _ x, o .pre .1 .0 .1)
+    (row-there (a .s) (a .live) (a .rows .now) (a .words .now) (a .cells .now) (g .stands) (g .many) (a .i) _ x, g .longCounts)
 
 u16-to-usize-requires : tie.Need-u16-to-usize-requires
 u16-to-usize-requires c κs = search needs
@@ -80,12 +83,13 @@ piece-flushed-requires c κs =
     let f = k .before .before in
     let o = f .before .before .before .before .before in
     let a = o .args in
+    let g = o .pre .0 in
     let x = subst (FoundIn (a .live) (a .rows .now) (a .i)) (k .k .given .1) (f .find .ensures .1) in (
       record {
         records = recordsIn (a .live) (a .rows .now);
-        has = has-partial (a .s) (a .live) (a .rows .now) (a .words .now) (a .cells .now) (o .pre .0) (a .i) _ x;
+        has = has-partial (a .s) (a .live) (a .rows .now) (a .words .now) (a .cells .now) (g .stands) (g .many) (a .i) _ x;
       },
-      o .pre .1 .1 .1,
+      o .pre .1,
     )
 
 same-length : tie.Need-same-length
@@ -108,9 +112,9 @@ returns-3 c =
     let o = f .before .before .before .before .before in
     let a = o .args in
     let x = subst (FoundIn (a .live) (a .rows .now) (a .i)) (k .k .given .1) (f .find .ensures .1) in
-    pass-flushed (a .s) (a .live) (a .rows .now) (a .words .now) (a .cells .now) (o .pre .0) (a .i) _ x (r .row .result) (r .row .ensures)
+    pass-flushed (a .s) (a .live) (a .rows .now) (a .counts .now) (a .words .now) (a .cells .now) (o .pre .0) (a .i) _ x (r .row .result) (r .row .ensures)
     (l .is-locked .result) (l .is-locked .ensures) (m .before .before .if1 .left) (m .blocks-in-piece .result)
-    (m .blocks-in-piece .ensures) _ (o .pre .1 .1 .0) (n .finished .result) (n .finished .ensures) (y .u16-to-usize .result)
+    (m .blocks-in-piece .ensures) (n .finished .result) (n .finished .ensures) (y .u16-to-usize .result)
     (y .u16-to-usize .ensures) (t .if2 .taken) _ _ (u .piece-flushed .ensures)
 
 with-flags-requires : tie.Need-with-flags-requires
@@ -131,9 +135,9 @@ returns-4 c =
     let o = f .before .before .before .before .before in
     let a = o .args in
     let x = subst (FoundIn (a .live) (a .rows .now) (a .i)) (k .k .given .1) (f .find .ensures .1) in
-    pass-flagged (a .s) (a .live) (a .rows .now) (a .words .now) (a .cells .now) (o .pre .0) (a .i) _ x (r .row .result) (r .row .ensures)
+    pass-flagged (a .s) (a .live) (a .rows .now) (a .counts .now) (a .words .now) (a .cells .now) (o .pre .0) (a .i) _ x (r .row .result) (r .row .ensures)
     (l .is-locked .result) (l .is-locked .ensures) (m .before .before .if1 .left) (m .blocks-in-piece .result)
-    (m .blocks-in-piece .ensures) _ (o .pre .1 .1 .0) (n .finished .result) (n .finished .ensures) (y .u16-to-usize .result)
+    (m .blocks-in-piece .ensures) (n .finished .result) (n .finished .ensures) (y .u16-to-usize .result)
     (y .u16-to-usize .ensures) (c .before .if2 .left) (c .with-flags .result) (c .with-flags .ensures)
 
 pub piece-passed-spec : {M : Type 1} → statement M

@@ -11,7 +11,8 @@ returns : tie.Need-returns
 unfolding bitOf
 returns c =
     let a = c .args in
-    ap (λ (z : Bool). leb (a .blocks) (a .finished) && (z && (not (bitOf (a .flags) 2) && not (bitOf (a .flags) 1)))) (passed-bit (a .flags))
+    ap (λ (z : Bool). leb (a .blocks) (a .finished) && (z && (not (bitOf (a .flags) 2) && not (bitOf (a .flags) 1))))
+    (passed-bit (a .flags))
 
 pub is-done-spec : {M : Type 1} → statement M
 is-done-spec = tie.close (tie.spec returns)

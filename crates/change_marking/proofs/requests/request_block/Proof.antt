@@ -1,4 +1,4 @@
--- `request_block` meets its contract: the block is left, or the piece turned, the block replaced and the piece turned back. Assumes nothing.
+-- `request_block` meets its contract: the block is left, or replaced, with the piece turned before and back after it. Assumes nothing.
 use native.Mathlib.Omega.{arith}
 use mathlib.Core.Path.{refl}
 use borrow.Author.Needs.{needs}

@@ -4,7 +4,7 @@ use borrow.Author.Needs.{needs}
 use Rattle.model.specs.change.Changes.{reverseAsked, affinityAsked, markDownloadingIn, markAsDownloading}
 use Rattle.change_blocks.specs.Replacing.{namedPeer}
 use Rattle.change_returns.proofs.WholeLaws.{find-asks, standing-asks}
-use Rattle.change_marks.proofs.WholeLaws.{mark-named, vacant-room, rows-vacant, downloading-opened, request-beside, marked-found}
+use Rattle.change_marks.proofs.WholeLaws.{vacant-room, rows-vacant, downloading-opened, request-beside, marked-found}
 use Rattle.change_marks.proofs.downloads.mark_as_downloading.Statement.{statement}
 use Rattle.change_marks.proofs.downloads.mark_as_downloading.Tie as tie
 
@@ -61,11 +61,9 @@ returns c =
     let a = o .args in
     let v = rows-vacant (a .s) (a .live) (a .rows .now) (a .counts .now) (a .words .now) (a .cells .now) (o .pre .0) (a .i)
     (f .find .result) (n .enum-told .given .1) (f .find .ensures .1) in
-    mark-named (a .s) _ (markAsDownloading (a .draws .now) (a .i) (a .j) (namedPeer (a .has-peer) (a .peer)) (a .options .0)) _ _ _ _ _ _ _ _
-    (downloading-opened (a .s) (a .live) (a .rows .now) (a .words .now) (a .cells .now) (a .i) v (a .draws .now) (a .j) (a .has-peer) (a .peer)
-    (a .options .0) (b .contains .result) (t .contains2 .result) (q .first-state .result) (b .contains .ensures) (t .contains2 .ensures)
-    (q .first-state .ensures))
-    (m .open-mark .ensures)
+    downloading-opened (a .s) (a .live) (a .rows .now) (a .words .now) (a .cells .now) (a .i) v (a .draws .now) (a .j) (a .has-peer)
+    (a .peer) _ _ _ _ _ (a .options .0) (b .contains .result) (t .contains2 .result) (q .first-state .result)
+    (b .contains .ensures) (t .contains2 .ensures) (q .first-state .ensures) (m .open-mark .ensures)
 
 standing-in-requires : tie.Need-standing-in-requires
 standing-in-requires c κs =

@@ -1,11 +1,12 @@
--- `mark_as_finished` meets its contract: a block of the partial found, or of a piece without one, which is opened unless it is flushed. Assumes nothing.
+-- `mark_as_finished` meets its contract: a block of the partial found, or of a piece that is opened unless it is flushed.
+-- Assumes nothing.
 use native.Mathlib.Omega.{arith}
 use borrow.Author.Needs.{needs}
 use Rattle.model.specs.change.Changes.{markFinishedIn, markAsFinished}
 use Rattle.change_blocks.specs.Replacing.{namedPeer}
 use Rattle.change_marking.specs.Finishing.{FinishAt}
 use Rattle.change_returns.proofs.WholeLaws.{find-asks, standing-asks, whole-found}
-use Rattle.change_marks.proofs.WholeLaws.{done-named, rows-vacant, finished-opened, finish-here, finish-beside}
+use Rattle.change_marks.proofs.WholeLaws.{rows-vacant, finished-opened, finish-here, finish-beside}
 use Rattle.change_marks.proofs.finishes.mark_as_finished.Statement.{statement}
 use Rattle.change_marks.proofs.finishes.mark_as_finished.Tie as tie
 
@@ -47,9 +48,8 @@ returns c =
     let a = o .args in
     let v = rows-vacant (a .s) (a .live) (a .rows .now) (a .counts .now) (a .words .now) (a .cells .now) (o .pre .0) (a .i)
     (f .find .result) (n .enum-told .given .1) (f .find .ensures .1) in
-    done-named (a .s) _ (markAsFinished (a .draws .now) (a .i) (a .j) (namedPeer (a .has-peer) (a .peer))) _ _ _ _ _ _ _
-    (finished-opened (a .s) (a .live) (a .rows .now) (a .words .now) (a .cells .now) (a .i) v (a .draws .now) (a .j) (a .has-peer) (a .peer))
-    (m .open-arrived .ensures .done)
+    finished-opened (a .s) (a .live) (a .rows .now) (a .words .now) (a .cells .now) (a .i) v (a .draws .now) (a .j) (a .has-peer)
+    (a .peer) _ _ _ _ _ (m .open-arrived .ensures)
 
 standing-in-requires : tie.Need-standing-in-requires
 standing-in-requires c κs =
@@ -90,8 +90,8 @@ returns-2 c =
     let h = finish-here (a .s) (a .live) (a .rows .now) (a .counts .now) (a .words .now) (a .cells .now) (o .pre .0) (a .i) _
     (f .find .result) (e .k .given .1) (f .find .ensures .1) r (d .standing-in .ensures) (a .j) (o .pre .1 .0 .1) in
     whole-found (a .s) (a .live) (a .rows .now) (a .counts .now) (a .words .now) (a .cells .now) (o .pre .0) (a .i)
-    (λ found w. markFinishedIn (a .draws .now) (a .i) found (a .j) (namedPeer (a .has-peer) (a .peer)) w) _ (f .find .result) (e .k .given .1) (f .find .ensures .1)
-    _ _ (u .finish-block .result .used)
+    (λ found w. markFinishedIn (a .draws .now) (a .i) found (a .j) (namedPeer (a .has-peer) (a .peer)) w)
+    _ (f .find .result) (e .k .given .1) (f .find .ensures .1) _ _ (u .finish-block .result .used)
     (λ records k. FinishAt (a .s) records (a .words .now) (a .cells .now) (a .i) (r .place) (a .j) (r .tally) (r .flags) (r .finished) k) h
     (u .finish-block .result .edit) (u .finish-block .ensures)
 

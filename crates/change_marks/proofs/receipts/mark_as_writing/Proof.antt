@@ -1,10 +1,11 @@
--- `mark_as_writing` meets its contract: a block of the partial found, or of a piece without one, which is opened unless it is flushed. Assumes nothing.
+-- `mark_as_writing` meets its contract: a block of the partial found, or of a piece that is opened unless it is flushed.
+-- Assumes nothing.
 use native.Mathlib.Omega.{arith}
 use borrow.Author.Needs.{needs}
 use Rattle.model.specs.change.Changes.{markWritingIn, markAsWriting}
 use Rattle.change_blocks.specs.Replacing.{namedPeer}
 use Rattle.change_returns.proofs.WholeLaws.{find-asks, standing-asks, tally-beside}
-use Rattle.change_marks.proofs.WholeLaws.{mark-named, rows-vacant, writing-opened, marked-found}
+use Rattle.change_marks.proofs.WholeLaws.{rows-vacant, writing-opened, marked-found}
 use Rattle.change_marks.proofs.receipts.mark_as_writing.Statement.{statement}
 use Rattle.change_marks.proofs.receipts.mark_as_writing.Tie as tie
 
@@ -46,9 +47,8 @@ returns c =
     let a = o .args in
     let v = rows-vacant (a .s) (a .live) (a .rows .now) (a .counts .now) (a .words .now) (a .cells .now) (o .pre .0) (a .i)
     (f .find .result) (n .enum-told .given .1) (f .find .ensures .1) in
-    mark-named (a .s) _ (markAsWriting (a .draws .now) (a .i) (a .j) (namedPeer (a .has-peer) (a .peer))) _ _ _ _ _ _ _ _
-    (writing-opened (a .s) (a .live) (a .rows .now) (a .words .now) (a .cells .now) (a .i) v (a .draws .now) (a .j) (a .has-peer) (a .peer))
-    (m .open-arrived .ensures)
+    writing-opened (a .s) (a .live) (a .rows .now) (a .words .now) (a .cells .now) (a .i) v (a .draws .now) (a .j) (a .has-peer)
+    (a .peer) _ _ _ _ _ (m .open-arrived .ensures)
 
 standing-in-requires : tie.Need-standing-in-requires
 standing-in-requires c κs =

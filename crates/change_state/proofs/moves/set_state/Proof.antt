@@ -43,7 +43,8 @@ returns c =
     let o = n .before .before .before .before .before .before .before in
     let a = o .args in
     state-set (a .s) (a .i) (o .pre .1 .0) (a .q) (n .queue-number .result) (n .queue-number .ensures .0) (a .words .now) (a .cells .now) _
-    (t .set-state .ensures) (n .before .rank-at .result) (n .before .rank-at .ensures) _ (a .used) _ (u .update .result) (u .update .ensures)
+    (t .set-state .ensures) (n .before .rank-at .result) (n .before .rank-at .ensures) _ (a .used) _ (u .update .result)
+    (u .update .ensures)
 
 pub set-state-spec : {M : Type 1} → statement M
 set-state-spec =

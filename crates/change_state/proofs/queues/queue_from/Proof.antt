@@ -1,5 +1,4 @@
 -- `queue_from` meets its contract. Assumes nothing.
-use mathlib.Core.Path.{refl}
 use Rattle.types.specs.declared.queue.DownloadQueue.the-variants.{Downloading, Full, Finished, ZeroPrio, DownloadingReverse, FullReverse}
 use Rattle.memory_layout.proofs.Numbers.{number-queue}
 use Rattle.change_state.proofs.QueueLaws.{queue-is, queue-other}

@@ -1,5 +1,5 @@
 -- `in_direction` meets its contract. Assumes nothing.
-use mathlib.Core.Path.{_≡_, sym, _∙_}
+use mathlib.Core.Path.{sym, _∙_}
 use borrow.Author.Needs.{needs}
 use Rattle.model.specs.change.Partials.{inDirection}
 use Rattle.change_state.proofs.states.in_direction.Statement.{statement}

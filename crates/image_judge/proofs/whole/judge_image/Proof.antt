@@ -1,0 +1,29 @@
+-- `judge_image` meets its contract. Assumes nothing.
+use native.Mathlib.Omega.{arith}
+use Rattle.image_judge.proofs.WholeLaws.{image-fault, image-more, image-done}
+use borrow.Author.Needs.{needs}
+use Rattle.image_judge.proofs.whole.judge_image.Statement.{statement}
+use Rattle.image_judge.proofs.whole.judge_image.Tie as tie
+
+read-front-requires : tie.Need-read-front-requires
+read-front-requires c κs = search needs
+
+enum-known-k : tie.Need-enum-known-k
+enum-known-k c = search needs
+
+returns : tie.Need-returns
+returns c = image-more (c .before .before .before .before .before .before .args .bytes .now) _ (c .before .before .before .before .read-front .ensures) _ (c .before .before .k .given .1) (c .if1 .taken)
+
+enum-known-k-2 : tie.Need-enum-known-k-2
+enum-known-k-2 c = search needs
+
+returns-2 : tie.Need-returns-2
+returns-2 c = image-done (c .before .before .before .before .before .before .args .bytes .now) _ (c .before .before .before .before .read-front .ensures) _ (c .before .before .k .given .1) (c .if1 .left)
+
+returns-3 : tie.Need-returns-3
+returns-3 c = image-fault (c .before .before .before .before .before .args .bytes .now) _ (c .before .before .before .read-front .ensures) _ (c .before .k2 .given .1)
+
+pub judge-image-spec : {M : Type 1} → statement M
+judge-image-spec =
+    tie.close
+    (tie.spec read-front-requires enum-known-k returns enum-known-k-2 returns-2 returns-3)

@@ -1,0 +1,3 @@
+pub mod BlockLaws
+pub mod PartialLaws
+pub mod WalkLaws

@@ -1,0 +1,4 @@
+pub mod NextLaws
+pub mod HeadLaws
+pub mod PieceLaws
+pub mod PassLaws

@@ -1,0 +1,69 @@
+-- `read_head` meets its contract. Assumes nothing.
+use mathlib.Core.Path.{sym, _∙_}
+use native.Mathlib.Omega.{arith}
+use borrow.Author.Tests.{not-true, not-false}
+use Rattle.model.specs.Lists.{nth}
+use Rattle.model.specs.image.Image.{bodyLength}
+use Rattle.image_pieces.proofs.HeadLaws.{head-none, head-found, head-fault}
+use borrow.Author.Needs.{needs}
+use Rattle.image_pieces.proofs.head.read_head.Statement.{statement}
+use Rattle.image_pieces.proofs.head.read_head.Tie as tie
+
+stands-requires : tie.Need-stands-requires
+stands-requires c κs = search needs
+
+returns : tie.Need-returns
+returns c = head-none (c .before .before .before .args .bytes .now) (sym (c .before .stands .ensures) ∙ not-true _ (c .if1 .taken))
+
+body-of-requires : tie.Need-body-of-requires
+body-of-requires c κs = ((omega arith, omega arith), sym (c .before .stands .ensures) ∙ not-false _ (c .if1 .left))
+
+read8-requires : tie.Need-read8-requires
+unfolding bodyLength nth
+read8-requires c κs = omega (arith, c .body-of .ensures .long)
+
+read4-requires : tie.Need-read4-requires
+unfolding bodyLength nth
+read4-requires c κs = omega (arith, c .before .body-of .ensures .long)
+
+read2-requires : tie.Need-read2-requires
+unfolding bodyLength nth
+read2-requires c κs = omega (arith, c .before .before .body-of .ensures .long)
+
+read4-requires-2 : tie.Need-read4-requires-2
+unfolding bodyLength nth
+read4-requires-2 c κs = omega (arith, c .before .before .before .body-of .ensures .long)
+
+read4-requires-3 : tie.Need-read4-requires-3
+unfolding bodyLength nth
+read4-requires-3 c κs = omega (arith, c .before .before .before .before .body-of .ensures .long)
+
+read1-requires : tie.Need-read1-requires
+unfolding bodyLength nth
+read1-requires c κs = omega (arith, c .before .before .before .before .before .body-of .ensures .long)
+
+head-ok-requires : tie.Need-head-ok-requires
+head-ok-requires c κs = search needs
+
+returns-2 : tie.Need-returns-2
+returns-2 c = head-found _ (sym (c .before .before .before .before .before .before .before .before .before .before .stands .ensures) ∙ not-false _ (c .before .before .before .before .before .before .before .before .before .if1 .left)) _ (c .before .before .before .before .before .before .before .before .body-of .ensures) _ _ _ _ _ _ (c .before .before .before .before .before .before .before .read8 .ensures .is) (c .before .before .before .before .before .before .read4 .ensures .is) (c .before .before .before .before .before .read2 .ensures .is) (c .before .before .before .before .read42 .ensures .is) (c .before .before .before .read43 .ensures .is) (c .before .before .read1 .ensures .is) (sym (c .before .head-ok .ensures) ∙ c .if2 .taken)
+
+returns-3 : tie.Need-returns-3
+returns-3 c = head-fault _ (sym (c .before .before .before .before .before .before .before .before .before .before .stands .ensures) ∙ not-false _ (c .before .before .before .before .before .before .before .before .before .if1 .left)) _ (c .before .before .before .before .before .before .before .before .body-of .ensures) _ _ _ _ _ _ (c .before .before .before .before .before .before .before .read8 .ensures .is) (c .before .before .before .before .before .before .read4 .ensures .is) (c .before .before .before .before .before .read2 .ensures .is) (c .before .before .before .before .read42 .ensures .is) (c .before .before .before .read43 .ensures .is) (c .before .before .read1 .ensures .is) (sym (c .before .head-ok .ensures) ∙ c .if2 .left)
+
+pub read-head-spec : {M : Type 1} → statement M
+read-head-spec =
+    tie.close
+    (tie.spec
+    stands-requires
+    returns
+    body-of-requires
+    read8-requires
+    read4-requires
+    read2-requires
+    read4-requires-2
+    read4-requires-3
+    read1-requires
+    head-ok-requires
+    returns-2
+    returns-3)

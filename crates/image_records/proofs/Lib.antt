@@ -1,0 +1,4 @@
+pub mod FrontLaws
+pub mod NumberKinds
+pub mod RecordLaws
+pub mod FoundLaws

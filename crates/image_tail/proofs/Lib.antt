@@ -1,0 +1,3 @@
+pub mod ExtentLaws
+pub mod PlaceLaws
+pub mod OrderLaws
