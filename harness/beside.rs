@@ -1,7 +1,8 @@
 //! Leads the unchanged Rust and the proved code, linked, through the same random lists of calls in one process: lists from `new` and from
 //! images of every kind (states.rs), the calls drawn by calls.rs, each compared by pair.rs, and every question asked after each
 //! (questions.rs). Prints how often each was made; ends with status 1 at the first difference, 2 where a kind was made less often than it
-//! has to be. `beside SPOILT` makes one compared value wrong after a while, which has to end with status 1.
+//! has to be. `beside SPOILT` makes one compared value wrong after a while, which has to end with status 1; `beside none TIMES SEED` leads
+//! so many times as many lists, from another seed.
 //!
 //! To add calls: their exports and how they are led in a file like linked_changes.rs; drawn arguments in calls.rs or beside it; what is
 //! compared as a method of `Pair`; made and counted in `a_list`, with a floor in `LEAST`.
@@ -46,7 +47,37 @@ const PLAN: [(Kind, usize, usize); 6] = [
 ];
 
 /// The least number of each, by the names of `note`.
-const LEAST: [(&str, u64); 0] = [];
+const LEAST: [(&str, u64); 29] = [
+    ("change", 200_000),
+    ("IncRefcount", 15_000),
+    ("DecRefcount", 10_000),
+    ("IncRefcountAll", 2_000),
+    ("DecRefcountAll", 1_500),
+    ("SetPiecePriority false", 8_000),
+    ("SetPiecePriority true", 4_000),
+    ("MarkAsDownloading false", 8_000),
+    ("MarkAsDownloading true", 8_000),
+    ("MarkAsWriting false", 8_000),
+    ("MarkAsWriting true", 5_000),
+    ("MarkAsFinished", 15_000),
+    ("MarkAsCanceled", 10_000),
+    ("AbortDownload", 15_000),
+    ("LockPiece", 5_000),
+    ("PiecePassed", 10_000),
+    ("put in", 5_000),
+    ("taken out", 3_000),
+    ("replaced", 8_000),
+    ("flushed", 300),
+    ("that drew", 5_000),
+    ("with a dirty list", 30_000),
+    ("with a list", 100_000),
+    ("rebuild", 3_000),
+    ("refused", 5_000),
+    ("difference reverse-full", 20),
+    ("difference totals", 1_000),
+    ("lists from new", 400),
+    ("lists from images", 1_000),
+];
 
 /// How often each kind of call and of answer was seen.
 type Seen = BTreeMap<String, u64>;
@@ -61,11 +92,15 @@ fn note(seen: &mut Seen, what: &str) {
 }
 
 fn note_made(seen: &mut Seen, name: &str, made: &Made, dirty: bool) {
+    note(seen, "change");
     note(seen, name);
     if let Some(answer) = made.answer {
         note(seen, &format!("{name} {answer}"));
     }
     note(seen, ["no edit", "replaced", "put in", "taken out"][made.edit as usize]);
+    if made.edit == 3 && ["PiecePassed", "MarkAsFinished"].contains(&name) {
+        note(seen, "flushed");
+    }
     note(seen, if dirty { "with a dirty list" } else { "with a list" });
     if made.used > 0 {
         note(seen, "that drew");
@@ -118,7 +153,7 @@ fn name_of(shown: &str) -> &str {
 
 fn spoilt_by(name: Option<&str>) -> Spoilt {
     match name {
-        None => Spoilt::Nothing,
+        None | Some("none") => Spoilt::Nothing,
         Some("answer") => Spoilt::Answer,
         Some("draws") => Spoilt::Draws,
         Some("edit") => Spoilt::Edit,
@@ -134,10 +169,13 @@ fn spoilt_by(name: Option<&str>) -> Spoilt {
 
 fn main() {
     let spoilt = spoilt_by(std::env::args().nth(1).as_deref());
-    let (mut rng, mut questions) = (Rng::new(SEED), Questions::new(SEED, spoilt));
+    let [times, seed] = [(2, 1), (3, SEED)].map(|(place, usual)| {
+        std::env::args().nth(place).map_or(usual, |number| number.parse().expect("a number"))
+    });
+    let (mut rng, mut questions) = (Rng::new(seed), Questions::new(seed, spoilt));
     let (draws, mut seen) = (Draws::new(&mut rng), Seen::new());
     for (kind, lists, many) in PLAN {
-        for list in 0..lists {
+        for list in 0..lists * times as usize {
             if let Err(what) = a_list(&mut rng, kind, many, &draws, spoilt, &mut seen, &mut questions) {
                 eprintln!("beside: list {list}, {what}");
                 exit(1);

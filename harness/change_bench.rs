@@ -3,6 +3,7 @@
 //! runs it. A line for each size: microseconds here, and the ratio to the Rust. Both sides start from one picker, make the same calls
 //! with the same draws, and have to end with the same image.
 
+#[allow(dead_code)]
 mod lent;
 mod linked_changes;
 #[allow(dead_code)]
