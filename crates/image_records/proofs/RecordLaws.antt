@@ -165,5 +165,6 @@ module _ (at : ℕ) (bytes : List ℕ) where
     unfolding pickStep readRequest pickNumbers requestOf
     pick-found t options wanted contiguous peers eo ew ec en n =
         sym
-        (ap pickStep (judged-found pickKind (readRequest n) at bytes e body b (requestOf n body) (obeys _ (requestOf n body) (rw (eh, ep) at t)))
+        (ap pickStep (judged-found pickKind (readRequest n) at bytes e body b (requestOf n body)
+        (obeys _ (requestOf n body) (rw (eh, ep) at t)))
         ∙ ap FoundPick (rw (← eo, ← ew, ← ec, ← en, ← eh, ← ep, peer-there has peer, peer-back has peer t)))
