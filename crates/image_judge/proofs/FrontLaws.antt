@@ -7,10 +7,12 @@ use native.Mathlib.Omega.{arith}
 use lib.ListN.{length, getD, drop}
 use Rattle.model.specs.Lists.{nth, len}
 use Rattle.model.specs.Bep3.{numPieces, wholePieceBlocks}
-use Rattle.model.specs.State.{Piece, DownloadingPiece, Picker, Listing, dirty, fresh, maxExtents, noPiece, withPieces, withPartials, withRecentExtents}
+use Rattle.model.specs.State.{Piece, DownloadingPiece, Picker, Listing, dirty, fresh, maxExtents, noPiece, withPieces, withPartials}
+use Rattle.model.specs.State.{withRecentExtents}
 use Rattle.model.specs.State.{withListing, pieceAt, piecesIn, blocksPerPiece, numExtents}
 use Rattle.model.specs.list.Order.{bucket, rankOf, rank}
-use Rattle.model.specs.image.Image.{headKind, Got, got, fault, ret, next, judged, readHead, getPieces, getPartials, getExtents, getListing, getPicker}
+use Rattle.model.specs.image.Image.{headKind, Got, got, fault, ret, next, judged, readHead, getPieces, getPartials, getExtents, getListing}
+use Rattle.model.specs.image.Image.{getPicker}
 use Rattle.memory_layout.specs.Tables.{tabulate}
 use Rattle.memory_layout.proofs.TableLaws.{tabulate-len, tabulate-nth}
 use Rattle.image_pieces.specs.declared.head.Head.{Head}

@@ -9,7 +9,8 @@ use lib.Seq.{drop-cons}
 use Rattle.model.specs.Lists.{nth, len}
 use Rattle.model.specs.State.{Picker, piecesIn}
 use Rattle.model.specs.pick.Blocks.{PickRequest}
-use Rattle.model.specs.image.Image.{bodyLength, pickKind, Got, got, fault, ret, next, judged, Read, accepted, faultAt, whole, getPicker, readImage}
+use Rattle.model.specs.image.Image.{bodyLength, pickKind, Got, got, fault, ret, next, judged, Read, accepted, faultAt, whole, getPicker}
+use Rattle.model.specs.image.Image.{readImage}
 use Rattle.model.specs.image.Program.{readRequest, Job, getJob}
 use Rattle.image_records.specs.declared.pick.Pick.{Pick}
 use Rattle.image_records.specs.declared.pick.PickRead.the-variants.{Found as FoundPick, Fault as FaultPick}

@@ -12,7 +12,8 @@ use Rattle.types.specs.declared.block.BlockState.the-variants.{None, Requested}
 use Rattle.types.specs.Block.{blockStateNumber}
 use Rattle.model.specs.Lists.{bit, len, count}
 use Rattle.model.specs.State.{Block, sameBlockState}
-use Rattle.model.specs.image.Image.{blockKind, Got, got, fault, ret, next, given, judged, obeying, readBlock, lastFits, readLastBlock, getBlocks}
+use Rattle.model.specs.image.Image.{blockKind, Got, got, fault, ret, next, given, judged, obeying, readBlock, lastFits, readLastBlock}
+use Rattle.model.specs.image.Image.{getBlocks}
 use Rattle.model.proofs.base.Counts.{count-append, count-le}
 use Rattle.model.proofs.image.Bytes.{size-append}
 use Rattle.image_records.specs.declared.block.Block.{Block as Numbers}

@@ -15,7 +15,8 @@ use Rattle.model.specs.Lists.{bit, nth, len}
 use Rattle.model.specs.State.{Piece, Block, DownloadingPiece, Picker, sameQueue, blocksInPiece}
 use Rattle.model.specs.change.Partials.{blocksInState, progress, inDirection, newState}
 use Rattle.model.specs.image.WellFormed.{stateOk}
-use Rattle.model.specs.image.Image.{bodyLength, partialKind, Got, got, fault, ret, next, judged, allFlags, readPartial, getBlocks, partialWith}
+use Rattle.model.specs.image.Image.{bodyLength, partialKind, Got, got, fault, ret, next, judged, allFlags, readPartial, getBlocks}
+use Rattle.model.specs.image.Image.{partialWith}
 use Rattle.model.specs.image.Image.{getPartial}
 use Rattle.memory_layout.specs.Decode.{queueFrom}
 use Rattle.check_partials.specs.Rows.{dueBy, stateBy}

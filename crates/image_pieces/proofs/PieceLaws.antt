@@ -13,7 +13,8 @@ use Rattle.types.specs.Queue.{queueNumber, queues}
 use Rattle.model.specs.Lists.{nth}
 use Rattle.model.specs.State.{Piece as PieceRecord, Picker, maxPeers, maxPriority, sameQueue, isOpen, pieceSizeAt}
 use Rattle.model.specs.image.WellFormed.{pieceOk}
-use Rattle.model.specs.image.Image.{bodyLength, pieceKind, Got, got, fault, startsWith, judged, field, obeying, lastQueue, pieceOf, readPiece}
+use Rattle.model.specs.image.Image.{bodyLength, pieceKind, Got, got, fault, startsWith, judged, field, obeying, lastQueue, pieceOf}
+use Rattle.model.specs.image.Image.{readPiece}
 use Rattle.model.proofs.image.Codec.{obeying-back}
 use Rattle.model.proofs.base.Truths.{both-true, by-test}
 use Rattle.memory_layout.specs.Decode.{queueFrom}

@@ -11,7 +11,8 @@ use borrow.Author.Tests.{leb-true}
 use Rattle.types.specs.Block.{blockStateNumber}
 use Rattle.model.specs.Lists.{nth}
 use Rattle.model.specs.State.{Block as BlockRecord}
-use Rattle.model.specs.image.Image.{bodyLength, partialKind, blockKind, Got, got, fault, startsWith, given, judged, field, obeying, allFlags, readBlock}
+use Rattle.model.specs.image.Image.{bodyLength, partialKind, blockKind, Got, got, fault, startsWith, given, judged, field, obeying}
+use Rattle.model.specs.image.Image.{allFlags, readBlock}
 use Rattle.model.specs.image.Image.{readPartial}
 use Rattle.model.proofs.image.Codec.{obeying-back}
 use Rattle.model.proofs.base.Truths.{both-true}

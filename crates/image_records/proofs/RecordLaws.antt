@@ -13,7 +13,8 @@ use Rattle.types.specs.Block.{blockStateNumber}
 use Rattle.model.specs.Lists.{nth}
 use Rattle.model.specs.State.{maxPeers, maxPartials, hasPeer}
 use Rattle.model.specs.image.WellFormed.{blockOk, peerOk}
-use Rattle.model.specs.image.Image.{bodyLength, partialKind, blockKind, pickKind, startsWith, judged, field, obeying, lastBlockState, allFlags}
+use Rattle.model.specs.image.Image.{bodyLength, partialKind, blockKind, pickKind, startsWith, judged, field, obeying, lastBlockState}
+use Rattle.model.specs.image.Image.{allFlags}
 use Rattle.model.specs.image.Image.{peerFits, peerOf, blockOf, readBlock, readPartial}
 use Rattle.model.specs.image.Program.{requestOf, readRequest}
 use Rattle.model.proofs.base.Truths.{both-true}

@@ -13,7 +13,8 @@ use borrow.Author.Tests.{eq-eqb, ne-eqb, lt-ltb, le-ltb, le-leb, lt-leb}
 use Rattle.model.specs.Lists.{nth, len, any, member}
 use Rattle.model.specs.State.{Picker, maxExtents, piecesIn, blocksPerPiece, numExtents}
 use Rattle.model.specs.image.WellFormed.{extentOk}
-use Rattle.model.specs.image.Image.{bodyLength, extentKind, Got, got, fault, ret, next, given, judged, field, obeying, readExtent, comes, getExtents}
+use Rattle.model.specs.image.Image.{bodyLength, extentKind, Got, got, fault, ret, next, given, judged, field, obeying, readExtent, comes}
+use Rattle.model.specs.image.Image.{getExtents}
 use Rattle.model.proofs.image.Parts.{extents-end, extents-full, extents-more}
 use Rattle.memory_layout.specs.Tables.{tabulate}
 use Rattle.memory_layout.proofs.TableLaws.{tabulate-len}

@@ -14,7 +14,8 @@ use Rattle.model.specs.Lists.{len, count, from, member, any, lastOr}
 use Rattle.model.specs.State.{Picker, Listing, dirty, fresh, piecesIn}
 use Rattle.model.specs.list.Order.{rank, withBucket}
 use Rattle.model.specs.image.WellFormed.{placeOk}
-use Rattle.model.specs.image.Image.{bodyLength, placeKind, Got, got, fault, ret, next, startsWith, given, judged, field, obeying, readPlace, getOrder}
+use Rattle.model.specs.image.Image.{bodyLength, placeKind, Got, got, fault, ret, next, startsWith, given, judged, field, obeying, readPlace}
+use Rattle.model.specs.image.Image.{getOrder}
 use Rattle.model.specs.image.Image.{getListing}
 use Rattle.model.proofs.base.Counts.{length-filter}
 use Rattle.model.proofs.base.Truths.{both-true}

@@ -4,7 +4,8 @@ use Prim.Native.Nat.{_+_, _*_, _<_}
 use native.Mathlib.Omega.{arith}
 use Rattle.model.specs.Bep3.{numPieces, pieceBlocks}
 use Rattle.image_partials.specs.Partials.{Stepped}
-use Rattle.image_partials.proofs.WalkLaws.{piece-field, piece-state, piece-open, piece-shut, piece-priority, blocks-some, blocks-most, pass-open, pass-next, pass-fails, whole-at}
+use Rattle.image_partials.proofs.WalkLaws.{piece-field, piece-state, piece-open, piece-shut, piece-priority, blocks-some}
+use Rattle.image_partials.proofs.WalkLaws.{blocks-most, pass-open, pass-next, pass-fails, whole-at}
 use borrow.Author.Needs.{needs}
 use Rattle.image_partials.proofs.partials.pass_piece.Statement.{statement}
 use Rattle.image_partials.proofs.partials.pass_piece.Tie as tie

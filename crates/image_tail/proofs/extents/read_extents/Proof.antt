@@ -7,7 +7,8 @@ use Rattle.model.specs.Lists.{nth}
 use Rattle.model.specs.image.Image.{bodyLength, extentKind}
 use Rattle.image_records.specs.Records.{numberIn}
 use Rattle.image_records.proofs.FoundLaws.{number-got, number-bad}
-use Rattle.image_tail.proofs.ExtentLaws.{Reading, reading-start, reading-ends, reading-full, reading-fault, reading-breaks, reading-next}
+use Rattle.image_tail.proofs.ExtentLaws.{Reading, reading-start, reading-ends, reading-full, reading-fault, reading-breaks}
+use Rattle.image_tail.proofs.ExtentLaws.{reading-next}
 use borrow.Author.Needs.{needs}
 use Rattle.image_tail.proofs.extents.read_extents.Statement.{statement}
 use Rattle.image_tail.proofs.extents.read_extents.Tie as tie
