@@ -1,9 +1,9 @@
 -- `im_judge_job` meets its contract. Assumes nothing.
 use mathlib.Core.Path.{sym, ap, _∙_}
-use Rattle.link_image.specs.Places.{jobPlace}
+use Rattle.link_judge.specs.Places.{jobPlace}
 use borrow.Author.Needs.{needs}
-use Rattle.link_image.proofs.im_judge_job.Statement.{statement}
-use Rattle.link_image.proofs.im_judge_job.Tie as tie
+use Rattle.link_judge.proofs.im_judge_job.Statement.{statement}
+use Rattle.link_judge.proofs.im_judge_job.Tie as tie
 
 judge-job-requires : tie.Need-judge-job-requires
 judge-job-requires c κs = search needs

@@ -1,9 +1,9 @@
 -- `im_judge_image` meets its contract. Assumes nothing.
 use mathlib.Core.Path.{sym, ap, _∙_}
-use Rattle.link_image.specs.Places.{placeOf}
+use Rattle.link_judge.specs.Places.{placeOf}
 use borrow.Author.Needs.{needs}
-use Rattle.link_image.proofs.im_judge_image.Statement.{statement}
-use Rattle.link_image.proofs.im_judge_image.Tie as tie
+use Rattle.link_judge.proofs.im_judge_image.Statement.{statement}
+use Rattle.link_judge.proofs.im_judge_image.Tie as tie
 
 judge-image-requires : tie.Need-judge-image-requires
 judge-image-requires c κs = search needs

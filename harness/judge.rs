@@ -2,7 +2,7 @@
 
 use std::io::BufRead;
 
-#[link(name = "link_image", kind = "static")]
+#[link(name = "link_judge", kind = "static")]
 extern "C" {
     fn im_judge_image(bytes: *const u8, len: usize) -> usize;
     fn im_judge_job(bytes: *const u8, len: usize) -> usize;

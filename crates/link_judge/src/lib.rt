@@ -6,7 +6,7 @@ ghost use Rattle.model.specs.Lists.{len};
 ghost use Rattle.model.specs.image.Image.{readImage, whole};
 ghost use Rattle.model.specs.image.Program.{getJob};
 ghost use Rattle.image_judge.specs.Verdicts.{verdictOf, jobVerdict};
-ghost use Rattle.link_image.specs.Places.{placeOf, jobPlace};
+ghost use Rattle.link_judge.specs.Places.{placeOf, jobPlace};
 
 // Where no fault is.
 const NO_FAULT: usize = 18446744073709551615;
