@@ -45,7 +45,10 @@ module _ (s : Shape) (live : ℕ) (rows counts words cells : List ℕ) (g : Rows
 
   -- what the lookup asks
   pub find-asks : ((live ≤ 512) × (length rows ≡ 1536)) × (risingFrom 0 rs ≡ true)
-  find-asks = ((rows-few s live rows words cells (g .stands) (g .many), g .longRows), rows-rising s live rows words cells (g .stands) (g .many))
+  find-asks = (
+    (rows-few s live rows words cells (g .stands) (g .many), g .longRows),
+    rows-rising s live rows words cells (g .stands) (g .many),
+  )
 
   -- no row is the piece's
   pub nothing-found : (i : ℕ) (found : Found) → found ≡ Nothing → FoundIn live rows i found → partialOf d i ≡ none
@@ -131,8 +134,8 @@ module _ (s : Shape) (live : ℕ) (rows counts words cells : List ℕ) (g : Rows
           let c = went-changed s rs words cells whole 0 gone words′ cells′ next
           (went-named s rs words cells 0 gone words′ cells′ next (change (some (partialIn d k))) whole here w) in
           record {
-            changed = rows-closed s live rows words cells (g .stands) (g .many) i k (found-at i k found e f) (λ q. whole (drawing 0 q) .picker)
-                (ap (λ (v : Drawing). v .picker .partials) (sym here) ∙ o refl) words′ cells′ (c .0);
+            changed = rows-closed s live rows words cells (g .stands) (g .many) i k (found-at i k found e f)
+                (λ q. whole (drawing 0 q) .picker) (ap (λ (v : Drawing). v .picker .partials) (sym here) ∙ o refl) words′ cells′ (c .0);
             draws = c .1;
           }
 

@@ -54,8 +54,8 @@ returns-2 c =
     let o = f .before .before .before .before .before in
     let a = o .args in
     let x = subst (FoundIn (a .live) (a .rows .now) (a .i)) (k .k .given .1) (f .find .ensures .1) in
-    pass-locked (a .s) (a .live) (a .rows .now) (a .counts .now) (a .words .now) (a .cells .now) (o .pre .0) (a .i) _ x (r .row .result) (r .row .ensures)
-    (l .is-locked .result) (l .is-locked .ensures) (c .if1 .taken)
+    pass-locked (a .s) (a .live) (a .rows .now) (a .counts .now) (a .words .now) (a .cells .now) (o .pre .0) (a .i) _ x
+    (r .row .result) (r .row .ensures) (l .is-locked .result) (l .is-locked .ensures) (c .if1 .taken)
 
 blocks-in-piece-requires : tie.Need-blocks-in-piece-requires
 blocks-in-piece-requires c κs =
@@ -112,9 +112,9 @@ returns-3 c =
     let o = f .before .before .before .before .before in
     let a = o .args in
     let x = subst (FoundIn (a .live) (a .rows .now) (a .i)) (k .k .given .1) (f .find .ensures .1) in
-    pass-flushed (a .s) (a .live) (a .rows .now) (a .counts .now) (a .words .now) (a .cells .now) (o .pre .0) (a .i) _ x (r .row .result) (r .row .ensures)
-    (l .is-locked .result) (l .is-locked .ensures) (m .before .before .if1 .left) (m .blocks-in-piece .result)
-    (m .blocks-in-piece .ensures) (n .finished .result) (n .finished .ensures) (y .u16-to-usize .result)
+    pass-flushed (a .s) (a .live) (a .rows .now) (a .counts .now) (a .words .now) (a .cells .now) (o .pre .0) (a .i) _ x
+    (r .row .result) (r .row .ensures) (l .is-locked .result) (l .is-locked .ensures) (m .before .before .if1 .left)
+    (m .blocks-in-piece .result) (m .blocks-in-piece .ensures) (n .finished .result) (n .finished .ensures) (y .u16-to-usize .result)
     (y .u16-to-usize .ensures) (t .if2 .taken) _ _ (u .piece-flushed .ensures)
 
 with-flags-requires : tie.Need-with-flags-requires
@@ -135,9 +135,9 @@ returns-4 c =
     let o = f .before .before .before .before .before in
     let a = o .args in
     let x = subst (FoundIn (a .live) (a .rows .now) (a .i)) (k .k .given .1) (f .find .ensures .1) in
-    pass-flagged (a .s) (a .live) (a .rows .now) (a .counts .now) (a .words .now) (a .cells .now) (o .pre .0) (a .i) _ x (r .row .result) (r .row .ensures)
-    (l .is-locked .result) (l .is-locked .ensures) (m .before .before .if1 .left) (m .blocks-in-piece .result)
-    (m .blocks-in-piece .ensures) (n .finished .result) (n .finished .ensures) (y .u16-to-usize .result)
+    pass-flagged (a .s) (a .live) (a .rows .now) (a .counts .now) (a .words .now) (a .cells .now) (o .pre .0) (a .i) _ x
+    (r .row .result) (r .row .ensures) (l .is-locked .result) (l .is-locked .ensures) (m .before .before .if1 .left)
+    (m .blocks-in-piece .result) (m .blocks-in-piece .ensures) (n .finished .result) (n .finished .ensures) (y .u16-to-usize .result)
     (y .u16-to-usize .ensures) (c .before .if2 .left) (c .with-flags .result) (c .with-flags .ensures)
 
 pub piece-passed-spec : {M : Type 1} → statement M
