@@ -30,6 +30,7 @@ use Rattle.memory_partials.specs.Partials.{Flagged}
 use Rattle.memory_rows.specs.Lookup.{FoundIn}
 use Rattle.memory_rows.specs.Counted.{CountSays}
 use Rattle.change_steps.proofs.MendLaws.{went-changed}
+use Rattle.change_steps.proofs.RoomLaws.{keep-room, replace-room}
 use Rattle.change_tally.specs.RowsStanding.{RowsStand}
 use Rattle.change_flags.specs.Closing.{without, Flushed}
 use Rattle.change_flags.specs.Flagging.{RowsChanged, EditAlone}
@@ -43,6 +44,7 @@ module _ (live : ℕ) (rows : List ℕ) (i : ℕ) where
   lock-nothing f = record {
     changed = λ s words cells g many.
         rows-kept s live rows words cells g many (lockPiece i) (rw (f .is s words cells (rows-live s live rows words cells g many)));
+    room = λ s h. keep-room s live h;
   }
 
   pub lock-found : (k : ℕ) → FoundIn live rows i (At k) → (q r : Record) → q ≡ rowAt rows k → Flagged false true q r
@@ -52,6 +54,7 @@ module _ (live : ℕ) (rows : List ℕ) (i : ℕ) where
     changed = λ s words cells g many.
         rows-flagged s live rows words cells g many i k f false true r
         (subst (λ (y : Record). Flagged false true y r) e x) (lockPiece i) (rw (found-is s live rows words cells g many i k f));
+    room = λ s h. replace-room s live h r;
   }
 
 -- ---- a partial replaced and closed is one closed
