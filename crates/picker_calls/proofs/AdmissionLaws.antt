@@ -33,7 +33,8 @@ use Rattle.picker_calls.proofs.LiveLaws.{memory-live}
 
 -- ---- the table, from the memory's refusals on
 -- four tests, with nothing and with more behind them
-more-none : (a b c d : Bool) (x : Option Refusal) → orElse a ShortMemory (orElse b IllFormedMemory (orElse c ShortMemory (orElse d IllFormedMemory none))) ≡ none
+more-none : (a b c d : Bool) (x : Option Refusal) → orElse a ShortMemory (orElse b IllFormedMemory (orElse c ShortMemory
+    (orElse d IllFormedMemory none))) ≡ none
     → orElse a ShortMemory (orElse b IllFormedMemory (orElse c ShortMemory (orElse d IllFormedMemory x))) ≡ x
 unfolding orElse
 more-none true b c d x h = absurd (Option·none-ne-some _ (sym h))

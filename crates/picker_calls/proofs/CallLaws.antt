@@ -63,7 +63,8 @@ called-refused m a why e =
 
 -- the core of a refused call
 pub core-refused : (words cells rows : List ℕ) (lent : ℕ) (a : Action) (why : Refusal)
-    → ((partials : List Record) → length partials ≡ lent → rows ≡ rowsOf words partials → refusalOn (lending words cells partials) a ≡ some why)
+    → ((partials : List Record) → length partials ≡ lent → rows ≡ rowsOf words partials → refusalOn
+    (lending words cells partials) a ≡ some why)
     → CoreCalled words cells rows lent a words cells (refused why) 0 Keep
 core-refused words cells rows lent a why h =
     record { done = λ partials l r. (omega arith, called-refused (lending words cells partials) a why (h partials l r)) }
@@ -80,7 +81,8 @@ pub edited-behind : (n m : ℕ) (edit : Edit) (ds : List Record) → n ≤ m →
     → (k : ℕ) → m ≤ k → getD (edited n edit ds) k noRecord ≡ getD ds k noRecord
 edited-behind n m Keep ds l i f k h = refl
 edited-behind n m (Replace d) ds l i f k h = behind n k (edited n (Replace d) ds) ds (replaced-behind n d ds f) (omega arith)
-edited-behind n m (Insert d) ds l i f k h = let j = i d refl in behind (suc n) k (edited n (Insert d) ds) ds (inserted-behind n d ds f) (omega arith)
+edited-behind n m (Insert d) ds l i f k h = let j = i d refl in behind (suc n) k (edited n (Insert d) ds) ds (inserted-behind n d ds f)
+    (omega arith)
 edited-behind n m (Remove piece) ds l i f k h = behind n k (edited n (Remove piece) ds) ds (removed-behind n piece ds f) (omega arith)
 
 fits : (n m : ℕ) (edit : Edit) (ds : List Record) → n ≤ m → ((d : Record) → edit ≡ Insert d → n < m) → m ≤ length ds → EditFits n edit ds
@@ -112,7 +114,8 @@ module _ (s : Shape) (live lent : ℕ) (rows counts words cells : List ℕ) (t :
 
   same : (k : ℕ) → k < headWord words 7 → recordAt partials k ≡ recordAt (recordsIn live rows) k
   same k h =
-      sym (ap (λ (l : List Record). recordAt l k) front ∙ live-at live partials (omega (arith, few, places-lent)) k (omega (arith, t .many)))
+      sym (ap (λ (l : List Record). recordAt l k) front ∙ live-at live partials (omega (arith, few, places-lent)) k (omega
+      (arith, t .many)))
 
   -- the picker that the buffers mean
   pub stood-picker : pickerOn m ≡ pickerIn live rows words cells
@@ -131,7 +134,8 @@ module _ (s : Shape) (live lent : ℕ) (rows counts words cells : List ℕ) (t :
   pub stood-refusal : (a : Action) → Listless a → refusalOn m a ≡ refusal (pickerIn live rows words cells) a
   stood-refusal a n = admitted-memory m a (n (pickerOn m)) stood-memory ∙ ap (λ (d : Picker). refusal d a) stood-picker
 
-  module _ (a : Action) (listless : Listless a) (none-refused : refusal (pickerIn live rows words cells) a ≡ none) (r : Answer) (after : Picker)
+  module _ (a : Action) (listless : Listless a) (none-refused : refusal (pickerIn live rows words cells) a ≡ none) (r : Answer)
+      (after : Picker)
       (acts : act (pickerIn live rows words cells) a ≡ answering r after) where
     steps : stepOn m a ≡ answering r after
     unfolding stepOn unlessRefused
@@ -168,9 +172,11 @@ module _ (s : Shape) (live lent : ℕ) (rows counts words cells : List ℕ) (t :
             longCells = changed .cellsKept .long;
             longPartials = length-edited live edit partials;
             words = λ k h. changed .wordsKept .beyond k
-                (subst (λ (n : ℕ). wordsFor n (s .blocks) ≤ k) (sym (b .pieces)) (subst (λ (w : ℕ). wordsFor (piecesOn words) w ≤ k) (sym (b .blocks)) h));
+                (subst (λ (n : ℕ). wordsFor n (s .blocks) ≤ k) (sym (b .pieces)) (subst (λ (w : ℕ). wordsFor (piecesOn words) w ≤ k)
+                (sym (b .blocks)) h));
             cells = λ k h. changed .cellsKept .beyond k
-                (subst (λ (n : ℕ). cellsFor n (s .blocks) ≤ k) (sym (b .pieces)) (subst (λ (w : ℕ). cellsFor (piecesOn words) w ≤ k) (sym (b .blocks)) h));
+                (subst (λ (n : ℕ). cellsFor n (s .blocks) ≤ k) (sym (b .pieces)) (subst (λ (w : ℕ). cellsFor (piecesOn words) w ≤ k)
+                (sym (b .blocks)) h));
             partials = λ k h. edited-behind live (s .places) edit partials few room edit-fits k
                 (omega (arith, h, b .spans .inWords .sizes .places, ap placesFor (b .pieces)));
           }

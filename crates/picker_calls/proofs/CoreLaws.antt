@@ -85,7 +85,8 @@ module _ (words cells rows counts : List ℕ) (lent : ℕ) (v : Admission) (g : 
           → CoreCalled words cells rows lent a words′ cells′ r live edit
       acted r after acts c =
           subst (λ (n : ℕ). CoreCalled words cells rows lent a words′ cells′ r n edit) (stood-at s at .rowed ∙ sym many)
-          (core-done s (headWord words 7) lent rows counts words cells (stood-at s at) a listless (sym h ∙ ap judged e) r after acts edit room
+          (core-done s (headWord words 7) lent rows counts words cells (stood-at s at) a listless
+          (sym h ∙ ap judged e) r after acts edit room
           words′ cells′ c)
 
       -- a change that answers nothing

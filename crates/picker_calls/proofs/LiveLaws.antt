@@ -26,8 +26,8 @@ use Rattle.memory_layout.specs.declared.shape.Shape.{Shape}
 use Rattle.memory_layout.specs.Tables.{tabulate}
 use Rattle.memory_layout.specs.Offsets.{placesFor, headLength}
 use Rattle.memory_layout.specs.Decode.{headWord, recordAt, piecesOn, blocksOn, decode}
-use Rattle.memory_layout.specs.Good.{lengths, short, headRaw, piecesRaw, recordRaw, placeRaw, rankRaw, goodHead, goodPieces, goodPlaces, goodPartials}
-use Rattle.memory_layout.specs.Good.{goodExtents, goodList, goodBody, orElse, memoryRefusal}
+use Rattle.memory_layout.specs.Good.{lengths, short, headRaw, piecesRaw, recordRaw, placeRaw, rankRaw, goodHead, goodPieces}
+use Rattle.memory_layout.specs.Good.{goodPlaces, goodPartials, goodExtents, goodList, goodBody, orElse, memoryRefusal}
 use Rattle.memory_layout.proofs.EditedRecords.{decode-live, live-at}
 use Rattle.memory_layout.proofs.TableLaws.{tabulate-ext}
 use Rattle.memory_layout.proofs.OffsetLaws.{places-min}

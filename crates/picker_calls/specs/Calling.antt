@@ -1,5 +1,5 @@
--- What a public call does with any buffers that are lent to it. Each contract of a change cites `Called`, each of a question `answerOn`, with
--- its own `Action`, and nothing else. Assumes nothing.
+-- What a public call does with any buffers that are lent to it. Each contract of a change cites `Called`, each of a question `answerOn`,
+-- with its own `Action`, and nothing else. Assumes nothing.
 use mathlib.Core.Path.{_≡_}
 use mathlib.Core.Bool.{Bool, true, false, not}
 use mathlib.Core.List.{List}
@@ -9,8 +9,8 @@ use lib.Dec.{ltb}
 use lib.ListN.{length, getD}
 use Rattle.types.specs.declared.refusal.Refusal.{Refusal}
 use Rattle.types.specs.declared.refusal.Refusal.the-variants.{Geometry, ShortMemory, IllFormedMemory, FewDraws, OutOfRange, TooManyPeers}
-use Rattle.types.specs.declared.refusal.Refusal.the-variants.{NoPeerToTake, HavePiece, NotWriting, TooManyPartials, PickArguments, ShortOutput}
-use Rattle.types.specs.declared.refusal.Refusal.the-variants.{IllFormedImage}
+use Rattle.types.specs.declared.refusal.Refusal.the-variants.{NoPeerToTake, HavePiece, NotWriting, TooManyPartials, PickArguments}
+use Rattle.types.specs.declared.refusal.Refusal.the-variants.{ShortOutput, IllFormedImage}
 use Rattle.model.specs.State.{Picker, validGeometry}
 use Rattle.model.specs.Calls.{Action, Answer, Step, refusal, unlessRefused}
 use Rattle.memory_records.specs.declared.record.DownloadingPiece.{DownloadingPiece as Record}

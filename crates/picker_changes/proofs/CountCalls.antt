@@ -25,7 +25,8 @@ use Rattle.picker_calls.specs.Cores.{Listless}
 use Rattle.picker_changes.proofs.JudgeLaws.{pieces-are}
 
 -- ---- none of its refusals is 2
-after : (t : Bool) (why : Refusal) (r : Option Refusal) → ofMemory (some why) ≡ false → ofMemory r ≡ false → ofMemory (check t why r) ≡ false
+after : (t : Bool) (why : Refusal) (r : Option Refusal) → ofMemory (some why) ≡ false → ofMemory r ≡ false → ofMemory
+    (check t why r) ≡ false
 unfolding check
 after true why r e h = e
 after false why r e h = h
@@ -44,7 +45,12 @@ module _ (s : Shape) (records : List Record) (words cells : List ℕ) (t : Stand
       let a = check-none _ FewDraws _ h in
       let b = check-none _ OutOfRange _ (a .1) in
       let c = check-none _ TooManyPeers none (b .1) in
-      let l : i < s .pieces = omega (arith, leb-false (piecesIn (decode records words cells)) i (b .0), pieces-are s records words cells t) in (
+      let l : i < s .pieces = omega (
+        arith,
+        leb-false (piecesIn (decode records words cells)) i
+            (b .0),
+        pieces-are s records words cells t,
+      ) in (
         l,
         omega (
           arith,

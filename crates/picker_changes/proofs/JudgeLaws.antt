@@ -63,9 +63,11 @@ module _ (s : Shape) (words cells : List ℕ) (i n : ℕ) (says : BothSay s word
   pub peers-yes : (r : Option Refusal) → 1000 ≤ n → (records : List Record) → Stands s records words cells
       → check (peersFull (decode records words cells) (pieceAt (decode records words cells) i)) TooManyPeers r ≡ some TooManyPeers
   unfolding peersFull
-  peers-yes r h records t = check-yes _ TooManyPeers r (le-leb 1000 (pieceAt (decode records words cells) i .peerCount + decode records words cells .seeds) (omega (arith, available records t)))
+  peers-yes r h records t = check-yes _ TooManyPeers r (le-leb 1000 (pieceAt
+      (decode records words cells) i .peerCount + decode records words cells .seeds) (omega (arith, available records t)))
 
   pub peers-no : (r : Option Refusal) → n < 1000 → (records : List Record) → Stands s records words cells
       → check (peersFull (decode records words cells) (pieceAt (decode records words cells) i)) TooManyPeers r ≡ r
   unfolding peersFull
-  peers-no r h records t = check-no _ TooManyPeers r (lt-leb 1000 (pieceAt (decode records words cells) i .peerCount + decode records words cells .seeds) (omega (arith, available records t)))
+  peers-no r h records t = check-no _ TooManyPeers r (lt-leb 1000 (pieceAt
+      (decode records words cells) i .peerCount + decode records words cells .seeds) (omega (arith, available records t)))

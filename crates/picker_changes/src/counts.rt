@@ -52,7 +52,8 @@ fn inc_refcount_core(
 ) -> CallStep
     requires { ⌜ length (now rows) ≡ 1536 ⌝ }
     ensures { λ r. ⌜ CoreCalled (now (words .entry)) (now (cells .entry)) (now (rows .entry)) lent
-        (inc-refcount (numberOf (piece .0)) (now (draws .entry))) (now (words .exit)) (now (cells .exit)) (outcome (r .out)) (r .count) (r .edit) ⌝ }
+        (inc-refcount (numberOf (piece .0)) (now (draws .entry))) (now (words .exit)) (now (cells .exit))
+        (outcome (r .out)) (r .count) (r .edit) ⌝ }
 {
     let mut counts = [0; 1536];
     match admit(words, cells, rows, lent, &mut counts) {

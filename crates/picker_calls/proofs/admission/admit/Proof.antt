@@ -29,8 +29,11 @@ enum-told-3 c = search needs
 -- src/admission.rt:31:40
 shape-of-requires : tie.Need-shape-of-requires
 shape-of-requires c κs =
-    let k = c .before .before .before .before .check-memory in
-    (good-long _ _ _ _ _ (k .result) (k .ensures) (c .enum-told3 .given .1), good-geometry _ _ _ _ _ (k .result) (k .ensures) (c .enum-told3 .given .1))
+    let k = c .before .before .before .before .check-memory in (
+      good-long _ _ _ _ _ (k .result) (k .ensures) (c .enum-told3 .given .1),
+      good-geometry _ _ _ _ _ (k .result) (k .ensures)
+          (c .enum-told3 .given .1),
+    )
 
 -- src/admission.rt:18:1
 same-length : tie.Need-same-length

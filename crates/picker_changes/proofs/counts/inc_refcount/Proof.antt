@@ -25,7 +25,8 @@ use Rattle.picker_changes.proofs.counts.inc_refcount.Code as code
 
 -- what the core says of words, cells, rows, records lent, draws, argument and result, and of the words and cells that it leaves
 abbrev Told : List ℕ → List ℕ → List ℕ → ℕ → List ℕ → PieceIndex → CallStep → List ℕ → List ℕ → Type 0
-Told w c rows lent draws a r w′ c′ = CoreCalled w c rows lent (inc-refcount (numberOf (a .0)) draws) w′ c′ (answerOf (r .out)) (r .count) (r .edit)
+Told w c rows lent draws a r w′ c′ = CoreCalled w c rows lent (inc-refcount (numberOf (a .0)) draws) w′ c′ (answerOf (r .out))
+    (r .count) (r .edit)
 
 pub inc-refcount-spec : {M : Type 1} → stated.statement M
 unfolding code.routine tablesOf
@@ -38,7 +39,8 @@ inc-refcount-spec 𝓤 H 𝓜 𝓖 𝓡 =
       tells = λ κs a g r ws. id⊢ 𝓤 _;
       fits = λ a r w′ c′ h. h .done (a .1 .1 .0 .now) refl refl .0;
       ends = λ κs a g r w′ c′ zs h e. factI 𝓤 _ _
-          (subst (λ (ds : List DownloadingPiece). Called (lending (a .0 .now) (a .1 .0 .now) (a .1 .1 .0 .now)) _ (lending w′ c′ ds) (answerOf (r .out)))
+          (subst (λ (ds : List DownloadingPiece). Called (lending (a .0 .now) (a .1 .0 .now) (a .1 .1 .0 .now)) _ (lending w′ c′ ds)
+          (answerOf (r .out)))
           (sym e) (h .done (a .1 .1 .0 .now) refl refl .1));
     })
     (code.unfolded 𝓤 H 𝓜 𝓡) code.calls-memory-records·live-records code.calls-memory-records·unpack code.calls-memory-records·apply

@@ -48,7 +48,8 @@ number-requires c κs = search needs
 -- src/counts.rt:63:19
 judge-inc-refcount-requires : tie.Need-judge-inc-refcount-requires
 judge-inc-refcount-requires c κs =
-    let k = c .before .before .before .before .before .before .before .admit in stood-beside _ _ _ _ _ (k .result) (k .ensures) _ (c .before .before .before .before .s .given .1)
+    let k = c .before .before .before .before .before .before .before .admit in stood-beside _ _ _ _ _ (k .result) (k .ensures) _
+    (c .before .before .before .before .s .given .1)
 
 -- src/counts.rt:64:36
 enum-known-why-2 : tie.Need-enum-known-why-2
@@ -72,8 +73,11 @@ inc-refcount-requires c κs =
     let k = c .before .before .before .before .before .before .before .before .before .before .before .before .before .before .admit in
     let j = c .before .before .before .before .before .before .judge-inc-refcount in
     let at = c .before .before .before .before .before .before .before .before .before .before .before .s .given .1 in
-    let t = stood-at _ _ _ _ _ (k .result) (k .ensures) _ at .stands in
-    (stood-beside _ _ _ _ _ (k .result) (k .ensures) _ at, inc-passed _ _ _ _ t _ _ (sym (j .ensures .is _ t) ∙ ap judged (c .before .before .before .before .enum-told .given .1)))
+    let t = stood-at _ _ _ _ _ (k .result) (k .ensures) _ at .stands in (
+      stood-beside _ _ _ _ _ (k .result) (k .ensures) _ at,
+      inc-passed _ _ _ _ t _ _ (sym (j .ensures .is _ t) ∙ ap judged
+          (c .before .before .before .before .enum-told .given .1)),
+    )
 
 -- src/counts.rt:46:1
 same-length : tie.Need-same-length
@@ -105,10 +109,13 @@ returns-2 c =
     let at = c .before .before .before .before .before .before .before .before .before .s .given .1 in
     let t = stood-at _ _ _ _ _ (k .result) (k .ensures) _ at .stands in
     let r = c .refused2 .result in
-    let a = c .before .before .before .before .before .before .before .before .before .before .before .before .before .before .before .before .before .before .before .before .args in
-    subst (λ (i : ℕ). CoreCalled (a .words .now) (a .cells .now) (a .rows .now) (a .lent) (inc-refcount i (a .draws .now)) (a .words .now) (a .cells .now)
+    let a = c .before .before .before .before .before .before .before .before .before .before .before .before .before .before .before
+    .before .before .before .before .before .args in
+    subst (λ (i : ℕ). CoreCalled (a .words .now) (a .cells .now) (a .rows .now) (a .lent) (inc-refcount i (a .draws .now))
+    (a .words .now) (a .cells .now)
     (outcome (r .out)) (r .count) (r .edit)) (c .before .before .before .before .before .before .before .number .ensures)
-    (denied _ _ _ _ _ (k .result) (k .ensures) _ at _ (inc-listless _ _) (j .result) (j .ensures .is _ t) _ (c .before .before .why2 .given .1) _ _ _ (c .refused2 .ensures))
+    (denied _ _ _ _ _ (k .result) (k .ensures) _ at _ (inc-listless _ _) (j .result) (j .ensures .is _ t) _
+    (c .before .before .why2 .given .1) _ _ _ (c .refused2 .ensures))
 
 -- src/counts.rt:46:1
 same-length-5 : tie.Need-same-length-5
@@ -122,18 +129,26 @@ same-length-6 c = search needs
 returns-3 : tie.Need-returns-3
 unfolding act editRecords
 returns-3 c =
-    let k = c .before .before .before .before .before .before .before .before .before .before .before .before .before .before .before .before .before .before .before .admit in
+    let k = c .before .before .before .before .before .before .before .before .before .before .before .before .before .before .before
+    .before .before .before .before .admit in
     let j = c .before .before .before .before .before .before .before .before .before .before .before .judge-inc-refcount in
-    let at = c .before .before .before .before .before .before .before .before .before .before .before .before .before .before .before .before .s .given .1 in
+    let at = c .before .before .before .before .before .before .before .before .before .before .before .before .before .before .before
+    .before .s .given .1 in
     let t = stood-at _ _ _ _ _ (k .result) (k .ensures) _ at .stands in
     let x = c .before .before .before .before .inc-refcount in
     let m = x .ensures .done _ t in
-    let a = c .before .before .before .before .before .before .before .before .before .before .before .before .before .before .before .before .before .before .before .before .before .before .before .before .before .before .before .args in
-    subst (λ (i : ℕ). CoreCalled (a .words .now) (a .cells .now) (a .rows .now) (a .lent) (inc-refcount i (a .draws .now)) (c .before .before .before .before .inc-refcount .last .0) (c .before .before .before .before .inc-refcount .last .1 .0)
-    (done (x .result)) (c .before .before .before .before .before .before .before .live-records .result) Keep) (c .before .before .before .before .before .before .before .before .before .before .before .before .before .before .number .ensures)
-    (acted-quietly _ _ _ _ _ (k .result) (k .ensures) _ at _ (inc-listless _ _) (j .result) (j .ensures .is _ t) (c .before .before .before .before .before .before .before .before .before .enum-told .given .1) _
+    let a = c .before .before .before .before .before .before .before .before .before .before .before .before .before .before .before
+    .before .before .before .before .before .before .before .before .before .before .before .before .args in
+    subst (λ (i : ℕ). CoreCalled (a .words .now) (a .cells .now) (a .rows .now) (a .lent) (inc-refcount i (a .draws .now))
+    (c .before .before .before .before .inc-refcount .last .0) (c .before .before .before .before .inc-refcount .last .1 .0)
+    (done (x .result)) (c .before .before .before .before .before .before .before .live-records .result) Keep)
+    (c .before .before .before .before .before .before .before .before .before .before .before .before .before .before .number .ensures)
+    (acted-quietly _ _ _ _ _ (k .result) (k .ensures) _ at _ (inc-listless _ _) (j .result) (j .ensures .is _ t)
+    (c .before .before .before .before .before .before .before .before .before .enum-told .given .1) _
     (c .before .before .before .before .before .before .before .live-records .ensures) _ (λ d e. absurd (keep-insert d e)) _ _
-    (incRefcount (a .draws .now) (c .before .before .before .before .before .before .before .before .before .before .before .before .before .before .number .result)) refl (x .result) (m .draws) (m .changed))
+    (incRefcount (a .draws .now)
+    (c .before .before .before .before .before .before .before .before .before .before .before .before .before .before .number .result))
+    refl (x .result) (m .draws) (m .changed))
 
 pub inc-refcount-core-spec : {M : Type 1} → statement M
 inc-refcount-core-spec =

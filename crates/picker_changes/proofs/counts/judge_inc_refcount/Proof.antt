@@ -30,7 +30,8 @@ get-availability-requires c κs = search needs
 returns-3 : tie.Need-returns-3
 unfolding refusal
 returns-3 c = record {
-  is = λ records t. sym (few-no _ _ (c .before .before .before .before .if1 .left) ∙ (piece-no _ records _ _ t _ _ (c .before .before .if2 .left)
+  is = λ records t. sym (few-no _ _ (c .before .before .before .before .if1 .left) ∙ (piece-no _ records _ _ t _ _
+      (c .before .before .if2 .left)
       ∙ peers-yes _ _ _ _ _ (c .before .get-availability .ensures) none (c .if3 .taken) records t));
 }
 
@@ -38,7 +39,8 @@ returns-3 c = record {
 returns-4 : tie.Need-returns-4
 unfolding refusal
 returns-4 c = record {
-  is = λ records t. sym (few-no _ _ (c .before .before .before .before .if1 .left) ∙ (piece-no _ records _ _ t _ _ (c .before .before .if2 .left)
+  is = λ records t. sym (few-no _ _ (c .before .before .before .before .if1 .left) ∙ (piece-no _ records _ _ t _ _
+      (c .before .before .if2 .left)
       ∙ peers-no _ _ _ _ _ (c .before .get-availability .ensures) none (c .if3 .left) records t));
 }
 
