@@ -28,6 +28,7 @@ use oracle::script::Change;
 use records::unpack;
 use rng::Rng;
 use states::rank_of;
+use std::collections::BTreeSet;
 use std::hint::black_box;
 use std::time::Instant;
 use timing::{counts, least, since, spread};
@@ -90,13 +91,15 @@ impl Clock {
 }
 
 // ---- what is timed
-/// A size: pieces, blocks of a piece, partials, and the highest count of peers.
+/// A size: pieces, blocks of a piece, partials, the highest count of peers, and whether pieces with a partial have one peer each, so that
+/// they make one group of the list.
 #[derive(Clone, Copy)]
 struct Size {
     n: usize,
     b: usize,
     partials: usize,
     most: usize,
+    one_group: bool,
 }
 
 /// A piece, and the row of its partial if it has one.
@@ -131,6 +134,7 @@ impl Size {
         for (piece, count) in counts(self.n, self.most).into_iter().enumerate() {
             let begun = piece % self.step() == 0 && piece / self.step() < self.partials;
             let done = finished.iter().any(|at| at.piece == piece);
+            let count = if begun && self.one_group { 1 } else { count };
             let state = if done { 2 } else if begun { 0 } else { 4 };
             fields.pieces.push(Piece { count: count.into(), state, wish: 4, had: false, pad: 0 });
             if begun {
@@ -142,6 +146,13 @@ impl Size {
         list.sort_by_key(|i| rank_of(&fields, *i));
         fields.list = list;
         fields
+    }
+
+    /// The groups of the list.
+    fn groups(self) -> usize {
+        let fields = self.fields(&[]);
+        let ranks: BTreeSet<u16> = fields.list.iter().map(|i| rank_of(&fields, *i)).collect();
+        ranks.len()
     }
 }
 
@@ -203,6 +214,7 @@ ops! {
         |p, i| p.mark_as_downloading(block(i, 0), PEER, PickerOptions::NONE), MOVES_ROWS: bool = true, REQUESTS: i16 = 1;
     Close on open_pieces: |piece| Change::AbortDownload { piece, block: 0, peer: PEER },
         |p, i| p.abort_download(block(i, 0), PEER), MOVES_ROWS: bool = true, REQUESTS: i16 = -1;
+    Again on begun_pieces: |piece| Change::MarkAsWriting { piece, block: 0, peer: PEER }, |p, i| p.mark_as_writing(block(i, 0), PEER);
     Passed on begun_pieces: |piece| Change::PiecePassed { piece }, |p, i| p.piece_passed(i), MOVES_ROWS: bool = true;
 }
 
@@ -341,8 +353,10 @@ fn marked(size: Size, clock: &Clock) -> [Best; 5] {
         sides.round::<Close>(&mut best[3]);
     }
     sides.check();
-    for _ in 0..ROUNDS / 40 {
+    for _ in 0..ROUNDS / 20 {
         let mut sides = Sides::new(size, clock, &size.begun_pieces());
+        // a block on disk is not written again; both sides have then looked at what they are timed on
+        sides.round::<Again>(&mut [0.0; 2]);
         sides.round::<Passed>(&mut best[4]);
         sides.check();
     }
@@ -350,7 +364,7 @@ fn marked(size: Size, clock: &Clock) -> [Best; 5] {
 }
 
 fn print(size: Size, times: &[Best]) {
-    print!("{:6} {:3} {:8} {:9}", size.n, size.b, size.partials, size.most);
+    print!("{:6} {:3} {:8} {:6}", size.n, size.b, size.partials, size.groups());
     for [ours, theirs] in times {
         print!(" {ours:7.3} {:5.2}", ours / theirs);
     }
@@ -359,16 +373,16 @@ fn print(size: Size, times: &[Best]) {
 
 fn main() {
     let clock = Clock::new();
-    println!("pieces   b partials counts to     up, to the Rust  down         remove          add");
-    for most in [23, 900] {
+    println!("pieces   b partials groups      up, to the Rust  down         remove          add");
+    for (most, one_group) in [(23, true), (23, false), (900, false)] {
         for (n, b, partials) in SIZES {
-            let size = Size { n, b, partials, most };
+            let size = Size { n, b, partials, most, one_group };
             print(size, &counted(size, &clock));
         }
     }
-    println!("pieces   b partials counts to   mark, to the Rust  give back    open          close         passed");
+    println!("pieces   b partials groups    mark, to the Rust  give back    open          close         passed");
     for (n, b, partials) in SIZES {
-        let size = Size { n, b, partials, most: 23 };
+        let size = Size { n, b, partials, most: 23, one_group: false };
         print(size, &marked(size, &clock));
     }
 }

@@ -141,9 +141,12 @@ impl Outcome {
     /// Makes the edit among the first `live` records, as many as there were before the change. False where it does not fit.
     #[inline(always)]
     pub fn edit(&self, partials: &mut [DownloadingPiece], live: usize) -> bool {
+        self.kind == 0 || self.edit_record(partials, live)
+    }
+
+    fn edit_record(&self, partials: &mut [DownloadingPiece], live: usize) -> bool {
         let d = DownloadingPiece { index: self.index, info_idx: self.info_idx, flags: self.flags };
         match self.kind {
-            0 => true,
             1 => records::replace(&mut partials[..live], d),
             2 => live < partials.len() && records::insert(&mut partials[..live + 1], d),
             3 => records::remove(&mut partials[..live], d.index),
