@@ -1,0 +1,24 @@
+-- A column of numbers in a buffer, and all others as they were. Assumes nothing.
+use Prim.Native.Nat.{ℕ, _+_, _*_, _≤_, _<_}
+use mathlib.Core.Path.{_≡_}
+use mathlib.Core.List.{List}
+use lib.ListN.{length, getD}
+use Rattle.model.specs.image.Image.{field}
+
+-- the number in w bytes at `first`, at `first` + `step`, and so on
+unfoldable pub fieldsAt : (first step w : ℕ) (bytes : List ℕ) (j : ℕ) → ℕ
+fieldsAt first step w bytes j = field (first + step * j) w bytes
+
+-- the bytes have so many of them
+abbrev pub Within : (first step many w : ℕ) (bytes : List ℕ) → Type 0
+Within first step many w bytes = (j : ℕ) → j < many → first + step * j + w ≤ length bytes
+
+-- none of the places of the column
+abbrev pub Elsewhere : (start many q : ℕ) → Type 0
+Elsewhere start many q = (j : ℕ) → j < many → q ≡ start + j → ⊥
+
+-- the numbers from `start` on are f 0, f 1, .. up to `many` of them
+pub record Laid (start many : ℕ) (f : ℕ → ℕ) (before after : List ℕ) : Type 0 where
+  pub long : length after ≡ length before
+  pub inside : (j : ℕ) → j < many → getD after (start + j) 0 ≡ f j
+  pub other : (q : ℕ) → Elsewhere start many q → getD after q 0 ≡ getD before q 0
