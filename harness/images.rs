@@ -1,8 +1,8 @@
-//! Writes the images of the pickers of standard input (`compare/images.py` says how they are written) by the proved code, and compares their
-//! lengths and bytes with the reference's, and that no byte behind them moved. New pickers are made in buffers that held anything, and their
-//! images compared; nothing beyond the needs may move. `harness/run` builds it. Prints how many were compared, which may not be fewer than its
-//! argument; ends with status 1 at the first difference, 2 on bad input. With `time` as a second argument it prints how fast the longest
-//! image is written, beside a copy of its bytes.
+//! Writes the images of the pickers of standard input (`compare/images.py` says how they are written) by the proved code, and compares
+//! their lengths and bytes with the reference's, and that no byte behind them moved. New pickers are made in buffers that held anything,
+//! and their images compared; nothing beyond the needs may move. Built like the programs of `harness/run`. Prints how many were compared, which may not be
+//! fewer than its argument; ends with status 1 at the first difference, 2 on bad input. With `time` as a second argument it prints how
+//! fast the longest image is written, beside a copy of its bytes.
 //!
 //! What the proved code requires of its callers is tested here first, and input that does not meet it is bad: buffers in which no
 //! well-formed picker stands, or a geometry that is not valid.

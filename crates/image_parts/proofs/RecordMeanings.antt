@@ -60,6 +60,13 @@ flags-back i (suc (suc (suc (suc (suc (suc zero)))))) bs h = refl
 flags-back i (suc (suc (suc (suc (suc (suc (suc zero))))))) bs h = refl
 flags-back i (suc (suc (suc (suc (suc (suc (suc (suc f)))))))) bs h = absurd (omega arith)
 
+-- a flag times a peer
+pub peer-product : (has peer : ℕ) → has ≤ 1 → has * peer ≡ peerWritten has peer
+unfolding peerWritten yes?
+peer-product zero peer h = omega arith
+peer-product (suc zero) peer h = omega arith
+peer-product (suc (suc has)) peer h = absurd (omega arith)
+
 -- a flag and a peer, or nine zero bytes
 peer-written : (has peer : ℕ) → has ≤ 1 → bytesOf 1 has ++ bytesOf 8 (peerWritten has peer) ≡ peerBytes (peerFrom has peer)
 unfolding peerBytes peerFrom yes? peerWritten

@@ -16,11 +16,13 @@ ghost use Rattle.memory_layout.specs.Bounds.{Spans, PlainBlock};
 ghost use Rattle.image_bytes.specs.Put.{Put};
 ghost use Rattle.image_parts.specs.Parts.{Appended, peerWritten, PlainBlocks};
 
-// The peer, or 0 where there is none: what stands beside a has-peer of 0 means nothing.
+// The peer, or 0 where there is none: what stands beside a has-peer of 0 means nothing. A product, since a branch would be guessed wrong as
+// often as right.
 fn peer_or_zero(has: u64, peer: u64) -> u64
+    requires { ⌜ has ≤ 1 ⌝ }
     ensures { λ r. ⌜ r ≡ peerWritten has peer ⌝ }
 {
-    if has == 1 { peer } else { 0 }
+    has * peer
 }
 
 // Block j of place p.

@@ -1,5 +1,5 @@
 // The records of an image, one function for each kind: a byte of kind and a body, put from a place of a lent buffer on. What is before and
-// behind stays as it was.
+// behind stays as it was. The widest number is put first: the compiler then stores its bytes at once.
 use image_bytes::put1;
 use image_bytes::put2;
 use image_bytes::put4;
@@ -53,12 +53,12 @@ pub fn put_piece(
     requires { ⌜ at + 10 ≤ length (now bytes) ⌝ }
     ensures { λ _. ⌜ Put at (pieceFields «peer_count» state priority flushed «pad_bytes») (now (bytes .entry)) (now (bytes .exit)) ⌝ }
 {
+    put4(bytes, at + 6, pad_bytes);
     put1(bytes, at, PIECE);
     put2(bytes, at + 1, peer_count);
     put1(bytes, at + 3, state);
     put1(bytes, at + 4, priority);
     put1(bytes, at + 5, flushed);
-    put4(bytes, at + 6, pad_bytes);
 }
 
 // A partial without its blocks.
@@ -75,11 +75,11 @@ pub fn put_block(bytes: &mut [u8], at: usize, state: u64, num_peers: u64, has_pe
     requires { ⌜ at + 13 ≤ length (now bytes) ⌝ }
     ensures { λ _. ⌜ Put at (blockFields state «num_peers» «has_peer» peer) (now (bytes .entry)) (now (bytes .exit)) ⌝ }
 {
+    put8(bytes, at + 5, peer);
     put1(bytes, at, BLOCK);
     put1(bytes, at + 1, state);
     put2(bytes, at + 2, num_peers);
     put1(bytes, at + 4, has_peer);
-    put8(bytes, at + 5, peer);
 }
 
 // A record of one number: an extent or a list place.
@@ -88,6 +88,6 @@ pub fn put_number(bytes: &mut [u8], at: usize, kind: u64, n: u64)
     requires { ⌜ kind < 256 ⌝ }
     ensures { λ _. ⌜ Put at (numberRecord kind n) (now (bytes .entry)) (now (bytes .exit)) ⌝ }
 {
-    put1(bytes, at, kind);
     put4(bytes, at + 1, n);
+    put1(bytes, at, kind);
 }

@@ -1,10 +1,18 @@
 -- `put_block` meets its contract. Assumes nothing.
-use Rattle.image_put.proofs.Chain.{put-next, put-kind}
+use mathlib.Core.Path.{refl}
+use Rattle.model.specs.image.Image.{bytesOf}
+use Rattle.image_put.proofs.Chain.{put-next, put-kind, put-before}
 use Rattle.image_put.specs.Fields.{blockFields}
-use native.Mathlib.Omega.{arith}
 use borrow.Author.Needs.{needs}
+use native.Mathlib.Omega.{arith}
 use Rattle.image_put.proofs.put_block.Statement.{statement}
 use Rattle.image_put.proofs.put_block.Tie as tie
+
+add-put8 : tie.Need-add-put8
+add-put8 c = search needs
+
+put8-requires : tie.Need-put8-requires
+put8-requires c κs = search needs
 
 put1-requires : tie.Need-put1-requires
 put1-requires c κs = search needs
@@ -27,33 +35,29 @@ add-put1-2 c = search needs
 put1-requires-3 : tie.Need-put1-requires-3
 put1-requires-3 c κs = search needs
 
-add-put8 : tie.Need-add-put8
-add-put8 c = search needs
-
-put8-requires : tie.Need-put8-requires
-put8-requires c κs = search needs
-
 same-length : tie.Need-same-length
 same-length c = search needs
 
 returns : tie.Need-returns
-unfolding blockFields
+unfolding blockFields bytesOf
 returns c =
-    let d5 = c .before .before in
-    let d4 = d5 .before .before .before .before in
+    let d4 = c .before .before in
     let d3 = d4 .before .before .before .before in
     let d2 = d3 .before .before .before .before in
     let d1 = d2 .before .before .before .before in
-    put-kind _ _ _ _ _ _ (omega arith) (d1 .put1 .ensures)
+    let d0 = d1 .before .before .before .before in
+    put-before _ _ _ _ _ _ _ (d0 .put8 .ensures) refl
+    (put-kind _ _ _ _ _ _ (omega arith) (d1 .put1 .ensures)
     (put-next _ 1 1 _ _ _ _ _ (d2 .put12 .ensures)
     (put-next _ 2 2 _ _ _ _ _ (d3 .put2 .ensures)
-    (put-next _ 4 1 _ _ _ _ _ (d4 .put13 .ensures)
-    (d5 .put8 .ensures))))
+    (d4 .put13 .ensures))))
 
 pub put-block-spec : {M : Type 1} → statement M
 put-block-spec =
     tie.close
     (tie.spec
+    add-put8
+    put8-requires
     put1-requires
     add-put1
     put1-requires-2
@@ -61,7 +65,5 @@ put-block-spec =
     put2-requires
     add-put1-2
     put1-requires-3
-    add-put8
-    put8-requires
     same-length
     returns)

@@ -1,10 +1,18 @@
 -- `put_piece` meets its contract. Assumes nothing.
-use Rattle.image_put.proofs.Chain.{put-next, put-kind}
+use mathlib.Core.Path.{refl}
+use Rattle.model.specs.image.Image.{bytesOf}
+use Rattle.image_put.proofs.Chain.{put-next, put-kind, put-before}
 use Rattle.image_put.specs.Fields.{pieceFields}
-use native.Mathlib.Omega.{arith}
 use borrow.Author.Needs.{needs}
+use native.Mathlib.Omega.{arith}
 use Rattle.image_put.proofs.put_piece.Statement.{statement}
 use Rattle.image_put.proofs.put_piece.Tie as tie
+
+add-put4 : tie.Need-add-put4
+add-put4 c = search needs
+
+put4-requires : tie.Need-put4-requires
+put4-requires c κs = search needs
 
 put1-requires : tie.Need-put1-requires
 put1-requires c κs = search needs
@@ -33,35 +41,31 @@ add-put1-3 c = search needs
 put1-requires-4 : tie.Need-put1-requires-4
 put1-requires-4 c κs = search needs
 
-add-put4 : tie.Need-add-put4
-add-put4 c = search needs
-
-put4-requires : tie.Need-put4-requires
-put4-requires c κs = search needs
-
 same-length : tie.Need-same-length
 same-length c = search needs
 
 returns : tie.Need-returns
-unfolding pieceFields
+unfolding pieceFields bytesOf
 returns c =
-    let d6 = c .before .before in
-    let d5 = d6 .before .before .before .before in
+    let d5 = c .before .before in
     let d4 = d5 .before .before .before .before in
     let d3 = d4 .before .before .before .before in
     let d2 = d3 .before .before .before .before in
     let d1 = d2 .before .before .before .before in
-    put-kind _ _ _ _ _ _ (omega arith) (d1 .put1 .ensures)
+    let d0 = d1 .before .before .before .before in
+    put-before _ _ _ _ _ _ _ (d0 .put4 .ensures) refl
+    (put-kind _ _ _ _ _ _ (omega arith) (d1 .put1 .ensures)
     (put-next _ 1 2 _ _ _ _ _ (d2 .put2 .ensures)
     (put-next _ 3 1 _ _ _ _ _ (d3 .put12 .ensures)
     (put-next _ 4 1 _ _ _ _ _ (d4 .put13 .ensures)
-    (put-next _ 5 1 _ _ _ _ _ (d5 .put14 .ensures)
-    (d6 .put4 .ensures)))))
+    (d5 .put14 .ensures)))))
 
 pub put-piece-spec : {M : Type 1} → statement M
 put-piece-spec =
     tie.close
     (tie.spec
+    add-put4
+    put4-requires
     put1-requires
     add-put2
     put2-requires
@@ -71,7 +75,5 @@ put-piece-spec =
     put1-requires-3
     add-put1-3
     put1-requires-4
-    add-put4
-    put4-requires
     same-length
     returns)

@@ -4,6 +4,7 @@ use Rattle.image_parts.specs.Parts.{peerWritten}
 use mathlib.Core.Path.{ap, _∙_}
 use Rattle.image_parts.proofs.RecordMeanings.{block-put}
 use borrow.Author.Needs.{needs}
+use native.Mathlib.Omega.{arith}
 use Rattle.image_parts.proofs.blocks.put_block_at.Statement.{statement}
 use Rattle.image_parts.proofs.blocks.put_block_at.Tie as tie
 
@@ -29,7 +30,10 @@ peer-word-requires : tie.Need-peer-word-requires
 peer-word-requires c κs = search needs
 
 peer-or-zero-requires : tie.Need-peer-or-zero-requires
-peer-or-zero-requires c κs = search needs
+peer-or-zero-requires c κs =
+    let has = c .before in
+    let pre = has .before .before .before .before .before .before .before .before .before .pre in
+    omega (arith, has .u16-to-u643 .ensures, has .before .block-cell3 .ensures, pre .0 .1 .has)
 
 put-block-requires : tie.Need-put-block-requires
 put-block-requires c κs = search needs
