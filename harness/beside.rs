@@ -1,7 +1,8 @@
 //! Leads the unchanged Rust and the proved code, linked, through the same random lists of calls in one process: lists from `new` and from
-//! images of every kind (states.rs), the calls drawn by calls.rs, each compared by pair.rs. Prints how often each was made; ends with
-//! status 1 at the first difference, 2 where a kind was made less often than it has to be. `beside SPOILT` makes one compared value
-//! wrong after a while, which has to end with status 1; `beside none TIMES SEED` leads so many times as many lists, from another seed.
+//! images of every kind (states.rs), the calls drawn by calls.rs, each compared by pair.rs, and every question asked after each
+//! (questions.rs). Prints how often each was made; ends with status 1 at the first difference, 2 where a kind was made less often than it
+//! has to be. `beside SPOILT` makes one compared value wrong after a while, which has to end with status 1; `beside none TIMES SEED` leads
+//! so many times as many lists, from another seed.
 //!
 //! To add calls: their exports and how they are led in a file like linked_changes.rs; drawn arguments in calls.rs or beside it; what is
 //! compared as a method of `Pair`; made and counted in `a_list`, with a floor in `LEAST`.
@@ -160,28 +161,18 @@ fn spoilt_by(name: Option<&str>) -> Spoilt {
         Some("word") => Spoilt::Word,
         Some("record") => Spoilt::Record,
         Some("beyond") => Spoilt::Beyond,
-        Some("reply" | "behind") => Spoilt::Nothing,
+        Some("reply") => Spoilt::Reply,
+        Some("behind") => Spoilt::Behind,
         Some(_) => panic!("no such value"),
     }
 }
 
-/// What is spoilt of the questions.
-fn spoilt_question(name: Option<&str>) -> questions::Spoilt {
-    match name {
-        Some("reply") => questions::Spoilt::Reply,
-        Some("behind") => questions::Spoilt::Behind,
-        _ => questions::Spoilt::Nothing,
-    }
-}
-
 fn main() {
-    let name = std::env::args().nth(1);
-    let spoilt = spoilt_by(name.as_deref());
+    let spoilt = spoilt_by(std::env::args().nth(1).as_deref());
     let [times, seed] = [(2, 1), (3, SEED)].map(|(place, usual)| {
         std::env::args().nth(place).map_or(usual, |number| number.parse().expect("a number"))
     });
-    let mut questions = Questions::new(seed, spoilt_question(name.as_deref()));
-    let mut rng = Rng::new(seed);
+    let (mut rng, mut questions) = (Rng::new(seed), Questions::new(seed, spoilt));
     let (draws, mut seen) = (Draws::new(&mut rng), Seen::new());
     for (kind, lists, many) in PLAN {
         for list in 0..lists * times as usize {

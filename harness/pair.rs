@@ -26,6 +26,9 @@ pub enum Spoilt {
     Word,
     Record,
     Beyond,
+    /// Of a question: its answer, or what lies behind it.
+    Reply,
+    Behind,
 }
 
 pub struct Pair {
@@ -99,7 +102,7 @@ impl Pair {
     fn spoil(&mut self, found: &mut Outcome, spoilt: Spoilt) {
         let lent = &mut self.lent;
         match spoilt {
-            Spoilt::Nothing => {}
+            Spoilt::Nothing | Spoilt::Reply | Spoilt::Behind => {}
             Spoilt::Answer => found.answer = !found.answer,
             Spoilt::Draws => found.used += 1,
             Spoilt::Edit => found.kind = (found.kind + 1) % 4,

@@ -5,6 +5,8 @@
 #[allow(dead_code)]
 mod lent;
 #[allow(dead_code)]
+mod linked_changes;
+#[allow(dead_code)]
 mod linked_questions;
 #[allow(dead_code)]
 mod list_operations;
@@ -92,18 +94,23 @@ fn all_of(size: [usize; 3]) {
     let mut query = Query { words, cells, rows, live, counts, g, i: 0, j: 0, k: 0, out: &mut out, column: &mut column };
     let (once, at) = (&[(0, 0)][..], &spread(&fields)[..]);
     println!("{} pieces, b {}, {} partials: ns, the Rust's ns, ratio", size[0], size[1], size[2]);
-    println!(" that scan in the Rust");
+    println!(" that scan in the Rust, too");
     lines! { query rust once;
         distributed_copies aq_distributed_copies |p, i, b| p.distributed_copies();
         get_availability_vec aq_get_availability_vec |p, i, b| p.get_availability_vec(&mut avail);
         piece_priorities aq_piece_priorities |p, i, b| p.piece_priorities();
-        get_download_queue aq_get_download_queue |p, i, b| p.get_download_queue();
     }
     lines! { query rust at;
         get_downloaders aq_get_downloaders |p, i, b| p.get_downloaders(i);
+    }
+    println!(" that the Rust copies or lends");
+    lines! { query rust once;
+        get_download_queue aq_get_download_queue |p, i, b| p.get_download_queue();
+    }
+    lines! { query rust at;
         blocks_for_piece aq_blocks_for_piece |p, i, b| p.partial(i).map(|d| p.blocks_for_piece(d).to_vec());
     }
-    println!(" that do not");
+    println!(" others");
     lines! { query rust once;
         num_pieces aq_num_pieces |p, i, b| p.num_pieces();
         block_size aq_block_size |p, i, b| p.block_size();

@@ -4,6 +4,7 @@
 use crate::calls::Calls;
 use crate::lent::Lent;
 use crate::linked_questions::{linked, Linked, Query, Replied};
+use crate::pair::Spoilt;
 use crate::rng::Rng;
 use oracle::piece_picker::PiecePicker;
 use oracle::questions::{reply, Asked, Question, Reply, Room, QUESTIONS};
@@ -18,14 +19,6 @@ const FAR: [usize; 3] = [512, 4096, i64::MAX as usize];
 
 /// Of a torrent of at most so many blocks every piece and block is asked about after some changes.
 const FEW: usize = 40;
-
-/// One compared value made wrong, to see that the comparison finds it.
-#[derive(Clone, Copy, PartialEq)]
-pub enum Spoilt {
-    Nothing,
-    Reply,
-    Behind,
-}
 
 pub struct Questions {
     /// With how often each was asked.
@@ -107,9 +100,9 @@ impl Questions {
         let (out, column) = (&mut self.out[..words], &mut self.column[..cells]);
         let Replied { reply: mut found, written } = ask(&mut query(lent, at, out, column));
         match self.spoilt {
-            Spoilt::Nothing => {}
             Spoilt::Reply => found = Reply::Nothing,
             Spoilt::Behind => column.last_mut().into_iter().for_each(|cell| *cell ^= 1),
+            _ => {}
         }
         let name = question.name;
         if found != due {

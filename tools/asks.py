@@ -233,6 +233,72 @@ pub {kebab}-spec : {{M : Type 1}} → statement M
     returns)
 """
 
+# a question of a block: further definitions, those of the questions, those that are opened, steps back to the block, what is told of its
+# state's number
+BLOCK_OF = 'use Rattle.memory_blocks.specs.Blocks.{blockOf}'
+NUMBER_REPLY = 'use Rattle.ask_block.specs.Blocks.{numberReply}'
+BLOCKS = [
+    ('num_peers_block', [BLOCK_OF], 'numPeersOf', 'numPeersOf blockOf', 1, ''),
+    ('block_num_peers', [NUMBER_REPLY, BLOCK_OF], 'ofBlockThere', 'ofBlockThere numberReply blockOf', 1, ''),
+    ('block_state', [NUMBER_REPLY], 'ofBlockThere, one', 'ofBlockThere numberReply', 1, 'ap one (t .1) ∙ '),
+    ('is_requested',
+     ['use Prim.Native.Nat.{ℕ}', 'use lib.Dec.{eqb}', 'use Rattle.model.specs.State.{sameBlockState}'],
+     'blockTest, flag', 'blockTest sameBlockState', 2, 'ap (λ (n : ℕ). flag (eqb n 1)) (t .1) ∙ '),
+]
+
+BLOCK = """-- `{fn}` meets its contract. Assumes nothing.
+-- Written by tools/asks.py, and not by hand.
+use mathlib.Core.Option.{{none}}
+use mathlib.Core.Path.{{subst{path}}}
+use borrow.Author.Needs.{{needs}}
+{further}
+use Rattle.model.specs.ask.Questions.{{replyBlock, blockIn, {asked}, {kebab}}}
+use Rattle.model.specs.change.Partials.{{partialOf}}
+use Rattle.memory_rows.specs.Lookup.{{pickerIn}}
+use Rattle.ask_block.specs.Blocks.{{BlockTold}}
+use Rattle.ask_block.proofs.BlockAnswers.{{asked-of}}
+use Rattle.ask_block.proofs.states.{fn}.Statement.{{statement}}
+use Rattle.ask_block.proofs.states.{fn}.Tie as tie
+
+block-of-requires : tie.Need-block-of-requires
+block-of-requires c κs = search needs
+
+enum-known-x : tie.Need-enum-known-x
+enum-known-x c = search needs
+
+enum-told : tie.Need-enum-told
+enum-told c = search needs
+
+returns : tie.Need-returns
+unfolding replyBlock {opened}
+returns c =
+    let called = c .before .before in
+    let a = called .before .before .before .before .args in
+    let d = pickerIn (a .live) (a .rows .now) (a .words .now) (a .cells .now) in
+    let t = subst (BlockTold (blockIn (partialOf d (a .i)) (a .j))) (c .enum-told .given .1) (called .block-of .ensures) in
+    asked-of d (a .i) (a .j) {kebab} none t
+
+returns-2 : tie.Need-returns-2
+unfolding replyBlock {opened}
+returns-2 c =
+    let taken = c{back} in
+    let called = taken .before .before in
+    let a = called .before .before .before .before .args in
+    let d = pickerIn (a .live) (a .rows .now) (a .words .now) (a .cells .now) in
+    let t = subst (BlockTold (blockIn (partialOf d (a .i)) (a .j))) (taken .x .given .1) (called .block-of .ensures) in
+    {told}asked-of d (a .i) (a .j) {kebab} _ (t .0)
+
+pub {kebab}-spec : {{M : Type 1}} → statement M
+{kebab}-spec =
+    tie.close
+    (tie.spec
+    block-of-requires
+    enum-known-x
+    enum-told
+    returns
+    returns-2)
+"""
+
 
 def kebab(name):
     """A name as proofs write it."""
@@ -264,6 +330,11 @@ def files():
         names = ', '.join(n for n in ('inl', 'inr') if n in case)
         text = FLAG.format(fn=fn, weight=weight, case=case, names=names, kebab=kebab(fn))
         made[ROOT / 'crates/ask_partial/proofs/flags' / fn / 'Proof.antt'] = text
+    for fn, further, asked, opened, steps, told in BLOCKS:
+        made[ROOT / 'crates/ask_block/proofs/states' / fn / 'Proof.antt'] = BLOCK.format(
+            fn=fn, kebab=kebab(fn), further='\n'.join(further), asked=asked, opened=opened, told=told, back=' .before' * steps,
+            path=', ap, _∙_' if told else ''
+        )
     return made | ask_links.files(ROOT)
 
 

@@ -59,6 +59,9 @@ module _ (s : Shape) (live : ℕ) (rows words cells : List ℕ) (g : Stands s (r
   pub rows-live : LiveRows s live rows words cells
   rows-live = record { bounds = g .bounds; many = many }
 
+  pub rows-within : live ≤ s .places
+  rows-within = omega (arith, many, g .bounds .partials)
+
   pub rows-few : live ≤ 512
   rows-few =
       let b = g .bounds in

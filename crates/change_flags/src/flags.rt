@@ -18,6 +18,7 @@ ghost use Rattle.model.specs.Bep3.{bitOf};
 ghost use Rattle.model.specs.change.Changes.{lockPiece, piecePassed};
 ghost use Rattle.memory_records.specs.Records.{risingFrom};
 ghost use Rattle.memory_records.specs.Rows.{recordsIn};
+ghost use Rattle.change_steps.specs.Whole.{EditRoom};
 ghost use Rattle.change_tally.specs.RowsStanding.{RowsStand};
 ghost use Rattle.change_flags.specs.Flagging.{RowsChanged, EditAlone};
 
@@ -54,8 +55,9 @@ pub fn piece_passed(
 ) -> Edit
     requires { ⌜ RowsStand s live (now rows) (now counts) (now words) (now cells) ⌝ }
     requires { ⌜ i < s .pieces ⌝ }
-    ensures { λ r. ⌜ RowsChanged s (piecePassed i) live (now (rows .entry)) (now (words .entry)) (now (cells .entry)) r
+    ensures change { λ r. ⌜ RowsChanged s (piecePassed i) live (now (rows .entry)) (now (words .entry)) (now (cells .entry)) r
         (now (words .exit)) (now (cells .exit)) ⌝ }
+    ensures room { λ r. ⌜ EditRoom s live r ⌝ }
 {
     let Found::At(k) = find(rows, live, i) else {
         return Edit::Keep;

@@ -12,7 +12,7 @@ ghost use Rattle.model.specs.change.Changes.{abortDownload, markAsCanceled};
 ghost use Rattle.memory_records.specs.Rows.{recordsIn};
 ghost use Rattle.memory_layout.specs.Decode.{blocksOf};
 ghost use Rattle.memory_layout.specs.Standing.{editRecords};
-ghost use Rattle.change_steps.specs.Whole.{Done};
+ghost use Rattle.change_steps.specs.Whole.{Done, EditRoom};
 ghost use Rattle.change_tally.specs.RowsStanding.{RowsStand};
 ghost use Rattle.change_blocks.specs.Replacing.{namedPeer};
 
@@ -32,9 +32,10 @@ pub fn abort_download(
 ) -> Given
     requires { ⌜ RowsStand s live (now rows) (now counts) (now words) (now cells) ⌝ }
     requires { ⌜ (i < s .pieces) × (j < blocksOf (now words) i) ⌝ }
-    ensures { λ r. ⌜ Done s (abortDownload (now (draws .entry)) i j (namedPeer «has_peer» peer)) (recordsIn live (now (rows .entry)))
-        (now (words .entry)) (now (cells .entry)) (editRecords (r .edit) (recordsIn live (now (rows .entry))))
-        (now (words .exit)) (now (cells .exit)) (r .used) ⌝ }
+    ensures change { λ r. ⌜ Done s (abortDownload (now (draws .entry)) i j (namedPeer «has_peer» peer))
+        (recordsIn live (now (rows .entry))) (now (words .entry)) (now (cells .entry))
+        (editRecords (r .edit) (recordsIn live (now (rows .entry)))) (now (words .exit)) (now (cells .exit)) (r .used) ⌝ }
+    ensures room { λ r. ⌜ EditRoom s live (r .edit) ⌝ }
 {
     let Found::At(k) = find(rows, live, i) else {
         return Given {
@@ -73,9 +74,10 @@ pub fn mark_as_canceled(
 ) -> Given
     requires { ⌜ RowsStand s live (now rows) (now counts) (now words) (now cells) ⌝ }
     requires { ⌜ (i < s .pieces) × (j < blocksOf (now words) i) ⌝ }
-    ensures { λ r. ⌜ Done s (markAsCanceled (now (draws .entry)) i j (namedPeer «has_peer» peer)) (recordsIn live (now (rows .entry)))
-        (now (words .entry)) (now (cells .entry)) (editRecords (r .edit) (recordsIn live (now (rows .entry))))
-        (now (words .exit)) (now (cells .exit)) (r .used) ⌝ }
+    ensures change { λ r. ⌜ Done s (markAsCanceled (now (draws .entry)) i j (namedPeer «has_peer» peer))
+        (recordsIn live (now (rows .entry))) (now (words .entry)) (now (cells .entry))
+        (editRecords (r .edit) (recordsIn live (now (rows .entry)))) (now (words .exit)) (now (cells .exit)) (r .used) ⌝ }
+    ensures room { λ r. ⌜ EditRoom s live (r .edit) ⌝ }
 {
     let Found::At(k) = find(rows, live, i) else {
         return Given {

@@ -24,51 +24,51 @@ use Rattle.memory_layout.specs.Decode.{blocksOf, decode}
 use Rattle.memory_layout.specs.Bounds.{InBounds}
 use Rattle.memory_layout.proofs.Meanings.{pieces-number, blocks-of-is}
 
-module _ (s : Shape) (live : ℕ) (rows words cells : List ℕ) (b : InBounds s (recordsIn live rows) words cells) (i j : ℕ) (draws : Draws)
-  where
-    abbrev d : Picker
-    d = decode (recordsIn live rows) words cells
+module _ (s : Shape) (live : ℕ) (rows words cells : List ℕ) (b : InBounds s (recordsIn live rows) words cells) (i j : ℕ)
+    (draws : Draws) where
+  abbrev d : Picker
+  d = decode (recordsIn live rows) words cells
 
-    -- draws enough, a piece and a block of it
-    pub record Within : Type 0 where
-      pub place : (i < s .pieces) × (j < blocksOf words i)
-      pub draw : minDraws ≤ length draws
+  -- draws enough, a piece and a block of it
+  pub record Within : Type 0 where
+    pub place : (i < s .pieces) × (j < blocksOf words i)
+    pub draw : minDraws ≤ length draws
 
-    in-range : (r : Option Refusal) → refuseFewDraws draws (refuseBadBlock d i j r) ≡ none → Within × (r ≡ none)
-    unfolding refuseFewDraws refuseBadBlock refuseBadPiece len
-    in-range r e =
-        let few = check-none (ltb (len draws) minDraws) FewDraws _ e in
-        let piece = check-none (leb (piecesIn d) i) OutOfRange _ (few .1) in
-        let block = check-none (leb (blocksInPiece d i) j) OutOfRange r (piece .1) in
-        let m = leb-false (piecesIn d) i (piece .0) in
-        let n = leb-false (blocksInPiece d i) j (block .0) in (
-          record {
-            place = (
-              omega (arith, m, pieces-number s (recordsIn live rows) words cells b),
-              omega (arith, n, blocks-of-is (recordsIn live rows) words cells i),
-            );
-            draw = ltb-false (len draws) minDraws (few .0);
-          },
-          block .1,
-        )
+  in-range : (r : Option Refusal) → refuseFewDraws draws (refuseBadBlock d i j r) ≡ none → Within × (r ≡ none)
+  unfolding refuseFewDraws refuseBadBlock refuseBadPiece len
+  in-range r e =
+      let few = check-none (ltb (len draws) minDraws) FewDraws _ e in
+      let piece = check-none (leb (piecesIn d) i) OutOfRange _ (few .1) in
+      let block = check-none (leb (blocksInPiece d i) j) OutOfRange r (piece .1) in
+      let m = leb-false (piecesIn d) i (piece .0) in
+      let n = leb-false (blocksInPiece d i) j (block .0) in (
+        record {
+          place = (
+            omega (arith, m, pieces-number s (recordsIn live rows) words cells b),
+            omega (arith, n, blocks-of-is (recordsIn live rows) words cells i),
+          );
+          draw = ltb-false (len draws) minDraws (few .0);
+        },
+        block .1,
+      )
 
-    pub downloading-accepted : (peer : Option ℕ) (options : ℕ) → refusal d (mark-as-downloading i j peer options draws) ≡ none
-        → Within × ((pieceAt d i .flushed ≡ false) × (noPartialLeft d i ≡ false))
-    unfolding refusal
-    downloading-accepted peer options e =
-        let w = in-range _ e in
-        let full = check-none (blockTest numPeersFull (blockThere d i j)) TooManyPeers _ (w .1) in
-        let flushed = check-none (pieceAt d i .flushed) HavePiece _ (full .1) in
-        (w .0, (flushed .0, check-none (noPartialLeft d i) TooManyPartials none (flushed .1) .0))
+  pub downloading-accepted : (peer : Option ℕ) (options : ℕ) → refusal d (mark-as-downloading i j peer options draws) ≡ none
+      → Within × ((pieceAt d i .flushed ≡ false) × (noPartialLeft d i ≡ false))
+  unfolding refusal
+  downloading-accepted peer options e =
+      let w = in-range _ e in
+      let full = check-none (blockTest numPeersFull (blockThere d i j)) TooManyPeers _ (w .1) in
+      let flushed = check-none (pieceAt d i .flushed) HavePiece _ (full .1) in
+      (w .0, (flushed .0, check-none (noPartialLeft d i) TooManyPartials none (flushed .1) .0))
 
-    pub writing-accepted : (peer : Option ℕ) → refusal d (mark-as-writing i j peer draws) ≡ none → Within × (noPartialLeft d i ≡ false)
-    unfolding refusal
-    writing-accepted peer e =
-        let w = in-range _ e in (w .0, check-none (noPartialLeft d i) TooManyPartials none (w .1) .0)
+  pub writing-accepted : (peer : Option ℕ) → refusal d (mark-as-writing i j peer draws) ≡ none → Within × (noPartialLeft d i ≡ false)
+  unfolding refusal
+  writing-accepted peer e =
+      let w = in-range _ e in (w .0, check-none (noPartialLeft d i) TooManyPartials none (w .1) .0)
 
-    pub finished-accepted : (peer : Option ℕ) → refusal d (mark-as-finished i j peer draws) ≡ none → Within × (noPartialLeft d i ≡ false)
-    unfolding refusal
-    finished-accepted peer e =
-        let w = in-range _ e in
-        let asked = check-none (blockTest (λ q. sameBlockState (q .state) Requested) (blockThere d i j)) NotWriting _ (w .1) in
-        (w .0, check-none (noPartialLeft d i) TooManyPartials none (asked .1) .0)
+  pub finished-accepted : (peer : Option ℕ) → refusal d (mark-as-finished i j peer draws) ≡ none → Within × (noPartialLeft d i ≡ false)
+  unfolding refusal
+  finished-accepted peer e =
+      let w = in-range _ e in
+      let asked = check-none (blockTest (λ q. sameBlockState (q .state) Requested) (blockThere d i j)) NotWriting _ (w .1) in
+      (w .0, check-none (noPartialLeft d i) TooManyPartials none (asked .1) .0)

@@ -116,38 +116,40 @@ module _ (s : Shape) (live : ℕ) (rows words cells : List ℕ) (i : ℕ) (g : R
       records′ words′ cells′ answer used (rw f refl) m
 
   -- the marks of a piece without a partial
-  module _ (draws : Draws) (j : ℕ) (has : Bool) (peer : ℕ) (records′ : List Record) (words′ cells′ : List ℕ) (answer : Bool) (used : ℕ)
-    where
-      pub downloading-opened : (options : ℕ) (back affinity : Bool) (q : DownloadQueue) → back ≡ reverseAsked options
-          → affinity ≡ affinityAsked options → q ≡ cond back DownloadingReverse Downloading
-          → MarkDone s (markOpening draws i q affinity j (blockOf (record { state = 1; «num_peers» = 1; «has_peer» = has; peer = peer })))
-          (recordsIn live rows) words cells records′ words′ cells′ answer used
-          → MarkDone s (markAsDownloading draws i j (namedPeer has peer) options)
-          (recordsIn live rows) words cells records′ words′ cells′ answer used
-      unfolding markAsDownloading markDownloadingIn requestedBy blockOf stateFrom nth drawing
-      downloading-opened options back affinity q eb ea eq m =
-          mark-named s (markOpening draws i q affinity j (blockOf (record { state = 1; «num_peers» = 1; «has_peer» = has; peer = peer })))
-          (markAsDownloading draws i j (namedPeer has peer) options) (recordsIn live rows) words cells records′ words′ cells′ answer used
-          (rw (g .vacant, eq, eb, ea) refl) m
+  module _ (draws : Draws) (j : ℕ) (has : Bool) (peer : ℕ) (records′ : List Record) (words′ cells′ : List ℕ) (answer : Bool)
+      (used : ℕ) where
+    pub downloading-opened : (options : ℕ) (back affinity : Bool) (q : DownloadQueue) → back ≡ reverseAsked options
+        → affinity ≡ affinityAsked options → q ≡ cond back DownloadingReverse Downloading
+        → MarkDone s (markOpening draws i q affinity j (blockOf (record { state = 1; «num_peers» = 1; «has_peer» = has; peer = peer })))
+        (recordsIn live rows) words cells records′ words′ cells′ answer used
+        → MarkDone s (markAsDownloading draws i j (namedPeer has peer) options)
+        (recordsIn live rows) words cells records′ words′ cells′ answer used
+    unfolding markAsDownloading markDownloadingIn requestedBy blockOf stateFrom nth drawing
+    downloading-opened options back affinity q eb ea eq m =
+        mark-named s (markOpening draws i q affinity j (blockOf (record { state = 1; «num_peers» = 1; «has_peer» = has; peer = peer })))
+        (markAsDownloading draws i j (namedPeer has peer) options) (recordsIn live rows) words cells records′ words′ cells′ answer used
+        (rw (g .vacant, eq, eb, ea) refl) m
 
-      pub writing-opened : MarkDone s (markArrived draws i j (blockOf (record { state = 2; «num_peers» = 0; «has_peer» = has; peer = peer })))
-          (recordsIn live rows) words cells records′ words′ cells′ answer used
-          → MarkDone s (markAsWriting draws i j (namedPeer has peer)) (recordsIn live rows) words cells records′ words′ cells′ answer used
-      unfolding markAsWriting markWritingIn writtenBy blockOf stateFrom nth drawing
-      writing-opened m =
-          mark-named s (markArrived draws i j (blockOf (record { state = 2; «num_peers» = 0; «has_peer» = has; peer = peer })))
-          (markAsWriting draws i j (namedPeer has peer)) (recordsIn live rows) words cells records′ words′ cells′ answer used
-          (rw (g .vacant) refl) m
+    pub writing-opened :
+        MarkDone s (markArrived draws i j (blockOf (record { state = 2; «num_peers» = 0; «has_peer» = has; peer = peer })))
+        (recordsIn live rows) words cells records′ words′ cells′ answer used
+        → MarkDone s (markAsWriting draws i j (namedPeer has peer)) (recordsIn live rows) words cells records′ words′ cells′ answer used
+    unfolding markAsWriting markWritingIn writtenBy blockOf stateFrom nth drawing
+    writing-opened m =
+        mark-named s (markArrived draws i j (blockOf (record { state = 2; «num_peers» = 0; «has_peer» = has; peer = peer })))
+        (markAsWriting draws i j (namedPeer has peer)) (recordsIn live rows) words cells records′ words′ cells′ answer used
+        (rw (g .vacant) refl) m
 
-      pub finished-opened : MarkDone s (markArrived draws i j (blockOf (record { state = 3; «num_peers» = 0; «has_peer» = has; peer = peer })))
-          (recordsIn live rows) words cells records′ words′ cells′ answer used
-          → Done s (markAsFinished draws i j (namedPeer has peer)) (recordsIn live rows) words cells records′ words′ cells′ used
-      unfolding markAsFinished markFinishedIn finishedBy blockOf stateFrom nth drawing saying
-      finished-opened m =
-          done-named s
-          (λ w. markArrived draws i j (blockOf (record { state = 3; «num_peers» = 0; «has_peer» = has; peer = peer })) w .after)
-          (markAsFinished draws i j (namedPeer has peer)) (recordsIn live rows) words cells records′ words′ cells′ used
-          (rw (g .vacant) (after-cond (pieceAt d₀ i .flushed) _ _)) (m .done)
+    pub finished-opened :
+        MarkDone s (markArrived draws i j (blockOf (record { state = 3; «num_peers» = 0; «has_peer» = has; peer = peer })))
+        (recordsIn live rows) words cells records′ words′ cells′ answer used
+        → Done s (markAsFinished draws i j (namedPeer has peer)) (recordsIn live rows) words cells records′ words′ cells′ used
+    unfolding markAsFinished markFinishedIn finishedBy blockOf stateFrom nth drawing saying
+    finished-opened m =
+        done-named s
+        (λ w. markArrived draws i j (blockOf (record { state = 3; «num_peers» = 0; «has_peer» = has; peer = peer })) w .after)
+        (markAsFinished draws i j (namedPeer has peer)) (recordsIn live rows) words cells records′ words′ cells′ used
+        (rw (g .vacant) (after-cond (pieceAt d₀ i .flushed) _ _)) (m .done)
 
 -- ---- the partial that the rows name
 module _ (s : Shape) (live : ℕ) (rows counts words cells : List ℕ) (g : RowsStand s live rows counts words cells) (i : ℕ) where

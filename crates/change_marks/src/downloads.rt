@@ -21,6 +21,7 @@ ghost use Rattle.memory_records.specs.Rows.{recordsIn};
 ghost use Rattle.memory_layout.specs.Decode.{blocksOf};
 ghost use Rattle.memory_layout.specs.Standing.{editRecords};
 ghost use Rattle.memory_rows.specs.Lookup.{pickerIn};
+ghost use Rattle.change_steps.specs.Whole.{EditRoom};
 ghost use Rattle.change_tally.specs.RowsStanding.{RowsStand};
 ghost use Rattle.change_blocks.specs.Replacing.{namedPeer};
 ghost use Rattle.change_marks.specs.Marks.{MarkDone};
@@ -45,9 +46,10 @@ pub fn mark_as_downloading(
     requires { ⌜ pieceAt (pickerIn live (now rows) (now words) (now cells)) i .flushed ≡ false ⌝ }
     requires { ⌜ noPartialLeft (pickerIn live (now rows) (now words) (now cells)) i ≡ false ⌝ }
     requires { ⌜ minDraws ≤ length (now draws) ⌝ }
-    ensures { λ r. ⌜ MarkDone s (markAsDownloading (now (draws .entry)) i j (namedPeer «has_peer» peer) (options .0))
+    ensures change { λ r. ⌜ MarkDone s (markAsDownloading (now (draws .entry)) i j (namedPeer «has_peer» peer) (options .0))
         (recordsIn live (now (rows .entry))) (now (words .entry)) (now (cells .entry))
         (editRecords (r .edit) (recordsIn live (now (rows .entry)))) (now (words .exit)) (now (cells .exit)) (r .answer) (r .used) ⌝ }
+    ensures room { λ r. ⌜ EditRoom s live (r .edit) ⌝ }
 {
     let back = options.contains(PickerOptions::REVERSE);
     let affinity = options.contains(PickerOptions::PIECE_EXTENT_AFFINITY);

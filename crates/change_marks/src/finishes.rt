@@ -18,7 +18,7 @@ ghost use Rattle.memory_records.specs.Rows.{recordsIn};
 ghost use Rattle.memory_layout.specs.Decode.{blocksOf};
 ghost use Rattle.memory_layout.specs.Standing.{editRecords};
 ghost use Rattle.memory_rows.specs.Lookup.{pickerIn};
-ghost use Rattle.change_steps.specs.Whole.{Done};
+ghost use Rattle.change_steps.specs.Whole.{Done, EditRoom};
 ghost use Rattle.change_tally.specs.RowsStanding.{RowsStand};
 ghost use Rattle.change_blocks.specs.Replacing.{namedPeer};
 
@@ -40,9 +40,10 @@ pub fn mark_as_finished(
     requires { ⌜ (i < s .pieces) × (j < blocksOf (now words) i) ⌝ }
     requires { ⌜ noPartialLeft (pickerIn live (now rows) (now words) (now cells)) i ≡ false ⌝ }
     requires { ⌜ minDraws ≤ length (now draws) ⌝ }
-    ensures { λ r. ⌜ Done s (markAsFinished (now (draws .entry)) i j (namedPeer «has_peer» peer)) (recordsIn live (now (rows .entry)))
-        (now (words .entry)) (now (cells .entry)) (editRecords (r .edit) (recordsIn live (now (rows .entry))))
-        (now (words .exit)) (now (cells .exit)) (r .used) ⌝ }
+    ensures change { λ r. ⌜ Done s (markAsFinished (now (draws .entry)) i j (namedPeer «has_peer» peer))
+        (recordsIn live (now (rows .entry))) (now (words .entry)) (now (cells .entry))
+        (editRecords (r .edit) (recordsIn live (now (rows .entry)))) (now (words .exit)) (now (cells .exit)) (r .used) ⌝ }
+    ensures room { λ r. ⌜ EditRoom s live (r .edit) ⌝ }
 {
     let Found::At(k) = find(rows, live, i) else {
         let x = BlockInfo {

@@ -19,6 +19,7 @@ ghost use Rattle.memory_layout.specs.Decode.{blocksOf};
 ghost use Rattle.memory_layout.specs.Standing.{editRecords};
 ghost use Rattle.memory_blocks.specs.Blocks.{blockOf};
 ghost use Rattle.memory_rows.specs.Lookup.{pickerIn};
+ghost use Rattle.change_steps.specs.Whole.{EditRoom};
 ghost use Rattle.change_marks.specs.Marks.{RowsVacant, MarkDone, markArrived};
 
 // The first state of a piece that is opened, `back` under REVERSE.
@@ -50,9 +51,10 @@ pub fn open_mark(
     requires { ⌜ (i < s .pieces) × ((j < blocksOf (now words) i) × (live < s .places)) ⌝ }
     requires { ⌜ x .state ≤ 3 ⌝ }
     requires { ⌜ minDraws ≤ length (now draws) ⌝ }
-    ensures { λ r. ⌜ MarkDone s (markOpening (now (draws .entry)) i q affinity j (blockOf x)) (recordsIn live (now (rows .entry)))
+    ensures change { λ r. ⌜ MarkDone s (markOpening (now (draws .entry)) i q affinity j (blockOf x)) (recordsIn live (now (rows .entry)))
         (now (words .entry)) (now (cells .entry)) (editRecords (r .edit) (recordsIn live (now (rows .entry))))
         (now (words .exit)) (now (cells .exit)) (r .answer) (r .used) ⌝ }
+    ensures room { λ r. ⌜ EditRoom s live (r .edit) ⌝ }
 {
     let m = mark_opening(words, cells, rows, live, s, i, q, affinity, j, x, draws, 0);
     let partial = m.partial;
@@ -80,9 +82,10 @@ pub fn open_arrived(
     requires { ⌜ noPartialLeft (pickerIn live (now rows) (now words) (now cells)) i ≡ false ⌝ }
     requires { ⌜ x .state ≤ 3 ⌝ }
     requires { ⌜ minDraws ≤ length (now draws) ⌝ }
-    ensures { λ r. ⌜ MarkDone s (markArrived (now (draws .entry)) i j (blockOf x)) (recordsIn live (now (rows .entry)))
+    ensures change { λ r. ⌜ MarkDone s (markArrived (now (draws .entry)) i j (blockOf x)) (recordsIn live (now (rows .entry)))
         (now (words .entry)) (now (cells .entry)) (editRecords (r .edit) (recordsIn live (now (rows .entry))))
         (now (words .exit)) (now (cells .exit)) (r .answer) (r .used) ⌝ }
+    ensures room { λ r. ⌜ EditRoom s live (r .edit) ⌝ }
 {
     if flushed(cells, s, i) {
         return Marking {

@@ -19,6 +19,7 @@ ghost use Rattle.memory_records.specs.Rows.{recordsIn};
 ghost use Rattle.memory_layout.specs.Decode.{blocksOf};
 ghost use Rattle.memory_layout.specs.Standing.{editRecords};
 ghost use Rattle.memory_rows.specs.Lookup.{pickerIn};
+ghost use Rattle.change_steps.specs.Whole.{EditRoom};
 ghost use Rattle.change_tally.specs.RowsStanding.{RowsStand};
 ghost use Rattle.change_blocks.specs.Replacing.{namedPeer};
 ghost use Rattle.change_marks.specs.Marks.{MarkDone};
@@ -41,9 +42,10 @@ pub fn mark_as_writing(
     requires { ⌜ (i < s .pieces) × (j < blocksOf (now words) i) ⌝ }
     requires { ⌜ noPartialLeft (pickerIn live (now rows) (now words) (now cells)) i ≡ false ⌝ }
     requires { ⌜ minDraws ≤ length (now draws) ⌝ }
-    ensures { λ r. ⌜ MarkDone s (markAsWriting (now (draws .entry)) i j (namedPeer «has_peer» peer)) (recordsIn live (now (rows .entry)))
-        (now (words .entry)) (now (cells .entry)) (editRecords (r .edit) (recordsIn live (now (rows .entry))))
-        (now (words .exit)) (now (cells .exit)) (r .answer) (r .used) ⌝ }
+    ensures change { λ r. ⌜ MarkDone s (markAsWriting (now (draws .entry)) i j (namedPeer «has_peer» peer))
+        (recordsIn live (now (rows .entry))) (now (words .entry)) (now (cells .entry))
+        (editRecords (r .edit) (recordsIn live (now (rows .entry)))) (now (words .exit)) (now (cells .exit)) (r .answer) (r .used) ⌝ }
+    ensures room { λ r. ⌜ EditRoom s live (r .edit) ⌝ }
 {
     let Found::At(k) = find(rows, live, i) else {
         let x = BlockInfo {

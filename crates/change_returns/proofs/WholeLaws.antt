@@ -23,14 +23,15 @@ use Rattle.memory_layout.specs.Changes.{partialIn}
 use Rattle.memory_layout.specs.Standing.{editRecords}
 use Rattle.memory_rows.specs.Lookup.{LiveRows, FoundIn}
 use Rattle.change_steps.specs.Working.{Went}
-use Rattle.change_steps.specs.Whole.{Done}
+use Rattle.change_steps.specs.Whole.{Done, EditRoom}
 use Rattle.change_steps.proofs.WorkLaws.{went-nowhere, went-named}
 use Rattle.change_steps.proofs.MendLaws.{stands-works, went-changed, went-done}
+use Rattle.change_steps.proofs.RoomLaws.{keep-room, remove-room}
 use Rattle.change_tally.specs.declared.standing.Standing.{Standing}
 use Rattle.change_tally.specs.Tallied.{TalliesBeside, StandsIn}
 use Rattle.change_tally.specs.RowsStanding.{RowsStand}
 use Rattle.change_blocks.specs.Replacing.{TallyAt, TallyBeside}
-use Rattle.change_flags.proofs.RowEdits.{rows-live, rows-few, rows-rising, low, found-is, row-is, rows-closed}
+use Rattle.change_flags.proofs.RowEdits.{rows-live, rows-within, rows-few, rows-rising, low, found-is, row-is, rows-closed}
 use Rattle.change_returns.specs.Giving.{closing, PartialChanged}
 
 module _ (s : Shape) (live : ℕ) (rows counts words cells : List ℕ) (g : RowsStand s live rows counts words cells) where
@@ -45,7 +46,21 @@ module _ (s : Shape) (live : ℕ) (rows counts words cells : List ℕ) (g : Rows
 
   -- what the lookup asks
   pub find-asks : ((live ≤ 512) × (length rows ≡ 1536)) × (risingFrom 0 rs ≡ true)
-  find-asks = ((rows-few s live rows words cells (g .stands) (g .many), g .longRows), rows-rising s live rows words cells (g .stands) (g .many))
+  find-asks = (
+    (rows-few s live rows words cells (g .stands) (g .many), g .longRows),
+    rows-rising s live rows words cells (g .stands) (g .many),
+  )
+
+  -- room for the edit
+  within : live ≤ s .places
+  within = rows-within s live rows words cells (g .stands) (g .many)
+
+  pub kept-room : EditRoom s live Keep
+  kept-room = keep-room s live within
+
+  closing-room : (i : ℕ) (closed : Bool) → EditRoom s live (closing i closed)
+  closing-room i true = remove-room s live within i
+  closing-room i false = kept-room
 
   -- no row is the piece's
   pub nothing-found : (i : ℕ) (found : Found) → found ≡ Nothing → FoundIn live rows i found → partialOf d i ≡ none
@@ -106,12 +121,14 @@ module _ (s : Shape) (live : ℕ) (rows counts words cells : List ℕ) (g : Rows
     whole w = change (partialOf (w .picker) i) w
 
     pub whole-nothing : (found : Found) → found ≡ Nothing → FoundIn live rows i found → change none (drawing 0 d) ≡ drawing 0 d
-        → Done s (λ w. change (partialOf (w .picker) i) w) rs words cells (editRecords Keep rs) words cells 0
+        → Done s (λ w. change (partialOf (w .picker) i) w) rs words cells (editRecords Keep rs) words cells 0 × EditRoom s live Keep
     unfolding editRecords drawing
-    whole-nothing found n f e =
-        went-done s rs words cells whole rs words cells 0
-        (went-nowhere s rs words cells 0 whole (stands-works s rs words cells (g .stands))
-        (ap (λ (o : Option DownloadingPiece). change o (drawing 0 d)) (nothing-found i found n f) ∙ e))
+    whole-nothing found n f e = (
+      went-done s rs words cells whole rs words cells 0
+          (went-nowhere s rs words cells 0 whole (stands-works s rs words cells (g .stands))
+          (ap (λ (o : Option DownloadingPiece). change o (drawing 0 d)) (nothing-found i found n f) ∙ e)),
+      kept-room,
+    )
 
     module _ (k : ℕ) (found : Found) (e : found ≡ At k) (f : FoundIn live rows i found) (words′ cells′ : List ℕ) (next : ℕ) where
       here : change (some (partialIn d k)) (drawing 0 d) ≡ whole (drawing 0 d)
@@ -131,17 +148,19 @@ module _ (s : Shape) (live : ℕ) (rows counts words cells : List ℕ) (g : Rows
           let c = went-changed s rs words cells whole 0 gone words′ cells′ next
           (went-named s rs words cells 0 gone words′ cells′ next (change (some (partialIn d k))) whole here w) in
           record {
-            changed = rows-closed s live rows words cells (g .stands) (g .many) i k (found-at i k found e f) (λ q. whole (drawing 0 q) .picker)
-                (ap (λ (v : Drawing). v .picker .partials) (sym here) ∙ o refl) words′ cells′ (c .0);
+            changed = rows-closed s live rows words cells (g .stands) (g .many) i k (found-at i k found e f)
+                (λ q. whole (drawing 0 q) .picker) (ap (λ (v : Drawing). v .picker .partials) (sym here) ∙ o refl) words′ cells′ (c .0);
             draws = c .1;
           }
 
       pub whole-found : (Placed : (records : List Record) (k : ℕ) → Type 0) → Placed rs k → (edit : Edit)
           → PartialChanged s change i Placed words cells 0 words′ cells′ edit next
-          → Done s (λ w. change (partialOf (w .picker) i) w) rs words cells (editRecords edit rs) words′ cells′ next
+          → Done s (λ w. change (partialOf (w .picker) i) w) rs words cells (editRecords edit rs) words′ cells′ next × EditRoom s live edit
       whole-found Placed a edit v =
-          subst (λ (x : Edit). Done s whole rs words cells (editRecords x rs) words′ cells′ next) (sym (v .edits))
-          (by-edit (v .closed)
+          let done = by-edit (v .closed)
           (subst (λ (x : Edit). Went s (change (some (partialIn d k))) rs words cells 0 (edited (headWord words 7) x rs) words′ cells′ next)
           (v .edits) (v .went rs k a))
-          (λ c. v .others c rs k a))
+          (λ c. v .others c rs k a) in (
+            subst (λ (x : Edit). Done s whole rs words cells (editRecords x rs) words′ cells′ next) (sym (v .edits)) done,
+            subst (EditRoom s live) (sym (v .edits)) (closing-room i (v .closed)),
+          )

@@ -3,3 +3,4 @@ pub mod MendLaws
 pub mod FieldLaws
 pub mod BesideLaws
 pub mod FieldMends
+pub mod RoomLaws

@@ -7,10 +7,12 @@ use native.Mathlib.Omega.{arith}
 use lib.ListN.{length, getD, drop}
 use Rattle.model.specs.Lists.{nth, len}
 use Rattle.model.specs.Bep3.{numPieces, wholePieceBlocks}
-use Rattle.model.specs.State.{Piece, DownloadingPiece, Picker, Listing, dirty, fresh, maxExtents, noPiece, withPieces, withPartials, withRecentExtents}
+use Rattle.model.specs.State.{Piece, DownloadingPiece, Picker, Listing, dirty, fresh, maxExtents, noPiece, withPieces, withPartials}
+use Rattle.model.specs.State.{withRecentExtents}
 use Rattle.model.specs.State.{withListing, pieceAt, piecesIn, blocksPerPiece, numExtents}
 use Rattle.model.specs.list.Order.{bucket, rankOf, rank}
-use Rattle.model.specs.image.Image.{headKind, Got, got, fault, ret, next, judged, readHead, getPieces, getPartials, getExtents, getListing, getPicker}
+use Rattle.model.specs.image.Image.{headKind, Got, got, fault, ret, next, judged, readHead, getPieces, getPartials, getExtents, getListing}
+use Rattle.model.specs.image.Image.{getPicker}
 use Rattle.memory_layout.specs.Tables.{tabulate}
 use Rattle.memory_layout.proofs.TableLaws.{tabulate-len, tabulate-nth}
 use Rattle.image_pieces.specs.declared.head.Head.{Head}
@@ -56,11 +58,13 @@ module _ (at : ℕ) (head : Head) (n : ℕ) (bytes : List ℕ) (limit many block
   unfolding Went getTail
   extents-fail k e ds =
       let s = bodyPicker head n bytes ds in
-      let w = subst (Went (getExtents s maxExtents [] (drop at bytes)) bytes) e (h s (limit-is head n bytes ds limit many blocks el em eb)) in
+      let w = subst (Went (getExtents s maxExtents [] (drop at bytes)) bytes) e
+      (h s (limit-is head n bytes ds limit many blocks el em eb)) in
       record {
         is =
             next-fault (getExtents s maxExtents [] (drop at bytes))
-            (λ es. λ l. next (getListing s (headPicker head .listing) l) (λ x. ret (withListing x (withRecentExtents es s)))) (drop k bytes) (w .is);
+            (λ es. λ l. next (getListing s (headPicker head .listing) l) (λ x. ret (withListing x (withRecentExtents es s))))
+            (drop k bytes) (w .is);
         within = w .within;
       }
 
@@ -81,7 +85,8 @@ module _ (at : ℕ) (head : Head) (n : ℕ) (bytes : List ℕ) (limit many block
         let w = extents-end ds in
         subst (λ (g : Got Picker). Went g bytes to)
         (sym (next-got (getExtents s maxExtents [] (drop at bytes))
-        (λ es. λ m. next (getListing s (headPicker head .listing) m) (λ x. ret (withListing x (withRecentExtents es s)))) (w .value) (drop k bytes) (w .is)))
+        (λ es. λ m. next (getListing s (headPicker head .listing) m) (λ x. ret (withListing x (withRecentExtents es s)))) (w .value)
+        (drop k bytes) (w .is)))
         (went-on bytes (getListing s (headPicker head .listing) (drop k bytes)) (λ x. withListing x (withRecentExtents (w .value) s)) to
         (l s (ranks-of head n bytes ds ranks p)))
 
@@ -94,7 +99,8 @@ module _ (head : Head) (n : ℕ) (bytes : List ℕ) (read : Place) (h : Partials
       record {
         is =
             next-fault (getPartials (headPicker head) 0 0 (firstPieces bytes n) (drop (piecePlace n) bytes))
-            (λ ds. getTail (withPartials ds (withPieces (firstPieces bytes n) (headPicker head))) (headPicker head .listing)) (drop k bytes) (w .is);
+            (λ ds. getTail (withPartials ds (withPieces (firstPieces bytes n) (headPicker head))) (headPicker head .listing))
+            (drop k bytes) (w .is);
         within = w .within;
       }
 
@@ -112,7 +118,8 @@ module _ (head : Head) (n : ℕ) (bytes : List ℕ) (read : Place) (h : Partials
         let w = partials-end in
         subst (λ (g : Got Picker). Went g bytes to)
         (sym (next-got (getPartials (headPicker head) 0 0 (firstPieces bytes n) (drop (piecePlace n) bytes))
-        (λ ds. getTail (withPartials ds (withPieces (firstPieces bytes n) (headPicker head))) (headPicker head .listing)) (w .value) (drop k bytes) (w .is)))
+        (λ ds. getTail (withPartials ds (withPieces (firstPieces bytes n) (headPicker head))) (headPicker head .listing)) (w .value)
+        (drop k bytes) (w .is)))
         (t (w .value))
 
 -- ---- the whole
@@ -130,7 +137,8 @@ module _ (bytes : List ℕ) (head : Head) (g : HeadGot bytes head) (n : ℕ) (en
   unfolding getPicker getBody getTail headPicker
   pieces-next =
       next-got (judged headKind readHead bytes)
-      (λ h. λ l. next (getPieces h 0 (numPieces (h .totalSize) (h .pieceSize)) l) (λ ps. getBody h ps)) (headPicker head) (drop 24 bytes) (g .is)
+      (λ h. λ l. next (getPieces h 0 (numPieces (h .totalSize) (h .pieceSize)) l) (λ ps. getBody h ps)) (headPicker head) (drop 24 bytes)
+      (g .is)
       ∙ ap (λ (m : ℕ). next (getPieces (headPicker head) 0 m (drop 24 bytes)) (λ ps. getBody (headPicker head) ps)) (sym en)
 
   module _ (ranks : List ℕ) (read : Place) (h : PiecesRead head n bytes ranks read) where
@@ -139,7 +147,8 @@ module _ (bytes : List ℕ) (head : Head) (g : HeadGot bytes head) (n : ℕ) (en
     pieces-fail k e =
         let w = subst (PiecesRead head n bytes ranks) e h in
         record {
-          is = pieces-next ∙ next-fault (getPieces (headPicker head) 0 n (drop 24 bytes)) (λ ps. getBody (headPicker head) ps) (drop k bytes) (w .is);
+          is = pieces-next ∙ next-fault (getPieces (headPicker head) 0 n (drop 24 bytes)) (λ ps. getBody (headPicker head) ps)
+              (drop k bytes) (w .is);
           within = w .within;
         }
 
@@ -152,5 +161,6 @@ module _ (bytes : List ℕ) (head : Head) (g : HeadGot bytes head) (n : ℕ) (en
         let p = pieces-stand k e in
         subst (λ (x : Got Picker). Went x bytes to)
         (sym (pieces-next
-        ∙ next-got (getPieces (headPicker head) 0 n (drop 24 bytes)) (λ ps. getBody (headPicker head) ps) (firstPieces bytes n) (drop (piecePlace n) bytes) (p .is)))
+        ∙ next-got (getPieces (headPicker head) 0 n (drop 24 bytes)) (λ ps. getBody (headPicker head) ps) (firstPieces bytes n)
+        (drop (piecePlace n) bytes) (p .is)))
         b

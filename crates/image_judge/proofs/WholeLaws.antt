@@ -9,7 +9,8 @@ use lib.Seq.{drop-cons}
 use Rattle.model.specs.Lists.{nth, len}
 use Rattle.model.specs.State.{Picker, piecesIn}
 use Rattle.model.specs.pick.Blocks.{PickRequest}
-use Rattle.model.specs.image.Image.{bodyLength, pickKind, Got, got, fault, ret, next, judged, Read, accepted, faultAt, whole, getPicker, readImage}
+use Rattle.model.specs.image.Image.{bodyLength, pickKind, Got, got, fault, ret, next, judged, Read, accepted, faultAt, whole, getPicker}
+use Rattle.model.specs.image.Image.{readImage}
 use Rattle.model.specs.image.Program.{readRequest, Job, getJob}
 use Rattle.image_records.specs.declared.pick.Pick.{Pick}
 use Rattle.image_records.specs.declared.pick.PickRead.the-variants.{Found as FoundPick, Fault as FaultPick}
@@ -71,7 +72,8 @@ module _ (bytes : List ℕ) (read : Place) (h : Went (getPicker bytes) bytes rea
 
 -- ---- a pick behind it
 module _ (at : ℕ) (bytes : List ℕ) where
-  same-pick : (a : PickRequest) (x : Pick) (rest : List ℕ) (g : Got PickRequest) → g ≡ got a rest → FoundPick x ≡ pickStep g → pickNumbers a ≡ x
+  same-pick : (a : PickRequest) (x : Pick) (rest : List ℕ) (g : Got PickRequest) → g ≡ got a rest → FoundPick x ≡ pickStep g →
+      pickNumbers a ≡ x
   unfolding pickStep
   same-pick a x rest g e f = let z : FoundPick x ≡ FoundPick (pickNumbers a) = f ∙ ap pickStep e in cc
 
@@ -93,7 +95,8 @@ module _ (at : ℕ) (bytes : List ℕ) where
       let z : FaultPick ≡ FoundPick (pickNumbers a) = f n ∙ ap pickStep e in
       let y : _≡_ {A = ℕ} 0 1 = cc in
       absurd (omega arith)) in
-      sym (ap jobVerdict (whole-fault bytes at h _ (next-fault (judged pickKind (readRequest n) (drop at bytes)) (λ a. ret (record { picker = s; ask = a })) (drop at bytes) e)))
+      sym (ap jobVerdict (whole-fault bytes at h _ (next-fault (judged pickKind (readRequest n) (drop at bytes))
+      (λ a. ret (record { picker = s; ask = a })) (drop at bytes) e)))
 
   -- found: what is behind it decides
   pub record PickGot (n : ℕ) (x : Pick) : Type 0 where
@@ -105,7 +108,8 @@ module _ (at : ℕ) (bytes : List ℕ) where
   pub pick-got : (x : Pick) → PickJudged at bytes (FoundPick x) → (n : ℕ) → PickGot n x
   unfolding bodyLength nth
   pick-got x f n =
-      judged-cases pickKind (readRequest n) at bytes (λ e. no-pick x (drop at bytes) (judged pickKind (readRequest n) (drop at bytes)) e (f n))
+      judged-cases pickKind (readRequest n) at bytes (λ e. no-pick x (drop at bytes) (judged pickKind (readRequest n) (drop at bytes)) e
+      (f n))
       (λ a room r e.
       record { ask = a; is = e; numbers = same-pick a x _ (judged pickKind (readRequest n) (drop at bytes)) e (f n); room = room })
 
@@ -117,7 +121,8 @@ module _ (at : ℕ) (bytes : List ℕ) where
         sym
         (ap jobVerdict
         (whole-more bytes (at + 18) (g .room) _ (record { picker = s; ask = g .ask })
-        (next-got (judged pickKind (readRequest (piecesIn s)) (drop at bytes)) (λ a. ret (record { picker = s; ask = a })) (g .ask) (drop (at + 18) bytes) (g .is)) l))
+        (next-got (judged pickKind (readRequest (piecesIn s)) (drop at bytes)) (λ a. ret (record { picker = s; ask = a })) (g .ask)
+        (drop (at + 18) bytes) (g .is)) l))
 
     pub pick-done : length bytes ≤ at + 18 → PickTold at bytes (Found x)
     unfolding jobVerdict
@@ -126,7 +131,8 @@ module _ (at : ℕ) (bytes : List ℕ) where
         sym
         (ap jobVerdict
         (whole-done bytes (at + 18) (g .room) _ (record { picker = s; ask = g .ask })
-        (next-got (judged pickKind (readRequest (piecesIn s)) (drop at bytes)) (λ a. ret (record { picker = s; ask = a })) (g .ask) (drop (at + 18) bytes) (g .is)) l)
+        (next-got (judged pickKind (readRequest (piecesIn s)) (drop at bytes)) (λ a. ret (record { picker = s; ask = a })) (g .ask)
+        (drop (at + 18) bytes) (g .is)) l)
         ∙ ap Found (g .numbers))
 
 -- ---- an image with a pick
@@ -138,7 +144,8 @@ module _ (bytes : List ℕ) (read : Place) (h : Went (getPicker bytes) bytes rea
       sym
       (ap jobVerdict
       (whole-fault bytes k (w .within) (getJob bytes)
-      (next-fault (getPicker bytes) (λ s. λ l. next (judged pickKind (readRequest (piecesIn s)) l) (λ a. ret (record { picker = s; ask = a }))) (drop k bytes) (w .is))))
+      (next-fault (getPicker bytes) (λ s. λ l. next (judged pickKind (readRequest (piecesIn s)) l)
+      (λ a. ret (record { picker = s; ask = a }))) (drop k bytes) (w .is))))
 
   pub job-pick : (e : read ≡ At k) (r : JobRead) → PickTold k bytes r → r ≡ jobVerdict (whole (len bytes) (getJob bytes))
   unfolding getJob
@@ -147,4 +154,5 @@ module _ (bytes : List ℕ) (read : Place) (h : Went (getPicker bytes) bytes rea
       t (w .value)
       ∙ sym
       (ap (λ (g : Got Job). jobVerdict (whole (len bytes) g))
-      (next-got (getPicker bytes) (λ s. λ l. next (judged pickKind (readRequest (piecesIn s)) l) (λ a. ret (record { picker = s; ask = a }))) (w .value) (drop k bytes) (w .is)))
+      (next-got (getPicker bytes) (λ s. λ l. next (judged pickKind (readRequest (piecesIn s)) l)
+      (λ a. ret (record { picker = s; ask = a }))) (w .value) (drop k bytes) (w .is)))

@@ -2,7 +2,8 @@
 use Prim.Native.Nat.{ℕ}
 use mathlib.Core.List.{List, []}
 use lib.ListN.{drop}
-use Rattle.model.specs.State.{Piece, DownloadingPiece, Picker, Listing, maxExtents, withPieces, withPartials, withRecentExtents, withListing}
+use Rattle.model.specs.State.{Piece, DownloadingPiece, Picker, Listing, maxExtents, withPieces, withPartials, withRecentExtents}
+use Rattle.model.specs.State.{withListing}
 use Rattle.model.specs.image.Image.{Reader, ret, _>>=_, getPartials, getExtents, getListing}
 use Rattle.image_pieces.specs.declared.head.Head.{Head}
 use Rattle.image_pieces.specs.declared.place.Place.{Place}

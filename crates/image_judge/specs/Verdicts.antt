@@ -27,4 +27,5 @@ jobVerdict (faultAt k) = FaultJob k
 abbrev pub PickTold : (at : ℕ) (bytes : List ℕ) (r : JobRead) → Type 0
 PickTold at bytes r =
     (s : Picker)
-    → r ≡ jobVerdict (whole (len bytes) (next (judged pickKind (readRequest (piecesIn s)) (drop at bytes)) (λ a. ret (record { picker = s; ask = a }))))
+    → r ≡ jobVerdict (whole (len bytes) (next (judged pickKind (readRequest (piecesIn s)) (drop at bytes))
+    (λ a. ret (record { picker = s; ask = a }))))

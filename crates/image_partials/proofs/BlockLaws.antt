@@ -12,7 +12,8 @@ use Rattle.types.specs.declared.block.BlockState.the-variants.{None, Requested}
 use Rattle.types.specs.Block.{blockStateNumber}
 use Rattle.model.specs.Lists.{bit, len, count}
 use Rattle.model.specs.State.{Block, sameBlockState}
-use Rattle.model.specs.image.Image.{blockKind, Got, got, fault, ret, next, given, judged, obeying, readBlock, lastFits, readLastBlock, getBlocks}
+use Rattle.model.specs.image.Image.{blockKind, Got, got, fault, ret, next, given, judged, obeying, readBlock, lastFits, readLastBlock}
+use Rattle.model.specs.image.Image.{getBlocks}
 use Rattle.model.proofs.base.Counts.{count-append, count-le}
 use Rattle.model.proofs.image.Bytes.{size-append}
 use Rattle.image_records.specs.declared.block.Block.{Block as Numbers}
@@ -36,7 +37,8 @@ module _ (fits : List Block → Bool) (before : List Block) (at : ℕ) (bytes : 
   unfolding leftBlocks getBlocks readLastBlock lastFits
   left-next b e zero =
       let z : at + 13 - 13 ≡ at = omega arith in
-      ap (λ (g : Got Block). next g (λ x. ret (before ++ (x ∷ [])))) (judged-under blockKind readBlock (lastFits fits before) (drop at bytes) b (drop (at + 13) bytes) e)
+      ap (λ (g : Got Block). next g (λ x. ret (before ++ (x ∷ []))))
+      (judged-under blockKind readBlock (lastFits fits before) (drop at bytes) b (drop (at + 13) bytes) e)
       ∙ given-cond (fits (before ++ (b ∷ []))) (drop at bytes) (drop (at + 13) bytes) b (λ x. before ++ (x ∷ []))
       ∙ ap (λ (k : ℕ). cond (fits (before ++ (b ∷ []))) (got (before ++ (b ∷ [])) (drop (at + 13) bytes)) (fault (drop k bytes))) (sym z)
   left-next b e (suc m) =
@@ -52,7 +54,8 @@ module _ (fits : List Block → Bool) (before : List Block) (at : ℕ) (bytes : 
       next-fault (judged blockKind readBlock (drop at bytes)) (λ x. getBlocks fits (before ++ (x ∷ [])) (suc m)) (drop at bytes) e
 
 -- ---- counts
-more-in : (k : BlockState) (bs : List Block) (b : Block) → inState k (bs ++ (b ∷ [])) ≡ inState k bs + bit (eqb (blockStateNumber (b .state)) (blockStateNumber k))
+more-in : (k : BlockState) (bs : List Block) (b : Block) → inState k (bs ++ (b ∷ [])) ≡ inState k bs + bit
+    (eqb (blockStateNumber (b .state)) (blockStateNumber k))
 unfolding inState count sameBlockState
 more-in k bs b = count-append (λ x. sameBlockState (x .state) k) bs (b ∷ []) ∙ omega arith
 
@@ -69,7 +72,8 @@ unfolding blockNumbers
 tallied-next t u bs b x h e c =
     let s : blockStateNumber (b .state) ≡ x .state = ap (λ (y : Numbers). y .state) e in
     record {
-      free = c .0 ∙ ap (λ (n : ℕ). n + bit (eqb (x .state) 0)) (h .free) ∙ ap (λ (n : ℕ). inState None bs + bit (eqb n 0)) (sym s) ∙ sym (more-in None bs b);
+      free = c .0 ∙ ap (λ (n : ℕ). n + bit (eqb (x .state) 0)) (h .free) ∙ ap (λ (n : ℕ). inState None bs + bit (eqb n 0)) (sym s) ∙ sym
+          (more-in None bs b);
       requested =
           c .1 ∙ ap (λ (n : ℕ). n + bit (eqb (x .state) 1)) (h .requested) ∙ ap (λ (n : ℕ). inState Requested bs + bit (eqb n 1)) (sym s)
           ∙ sym (more-in Requested bs b);
@@ -104,7 +108,8 @@ reading-start start many bytes h l =
 
 module _ (start many : ℕ) (bytes : List ℕ) (t : Tally) (at j : ℕ) (p : Reading start many bytes t at j) where
   module _ (h : j < many) where
-    step-left : (fits : List Block → Bool) → getBlocks fits [] many (drop start bytes) ≡ leftBlocks fits (p .before) (suc (many - (j + 1))) at bytes
+    step-left : (fits : List Block → Bool) → getBlocks fits [] many (drop start bytes) ≡ leftBlocks fits (p .before)
+        (suc (many - (j + 1))) at bytes
     step-left fits =
         let e : many - j ≡ suc (many - (j + 1)) = omega arith in
         p .left fits ∙ ap (λ (m : ℕ). leftBlocks fits (p .before) m at bytes) e
@@ -139,7 +144,8 @@ module _ (start many : ℕ) (bytes : List ℕ) (t : Tally) (at j : ℕ) (p : Rea
         long = p .long ∙ e;
         tallied = p .tallied;
         room = omega (arith, p .room);
-        is = λ fits. p .left fits ∙ ap (λ (m : ℕ). leftBlocks fits (p .before) m at bytes) f ∙ ap (λ (k : ℕ). leftBlocks fits (p .before) 0 k bytes) g;
+        is = λ fits. p .left fits ∙ ap (λ (m : ℕ). leftBlocks fits (p .before) m at bytes) f ∙ ap
+            (λ (k : ℕ). leftBlocks fits (p .before) 0 k bytes) g;
       }
 
   pub reading-few : (t .free ≤ j) × (t .requested ≤ j)

@@ -15,7 +15,8 @@ use Rattle.model.specs.Lists.{bit, nth, len}
 use Rattle.model.specs.State.{Piece, Block, DownloadingPiece, Picker, sameQueue, blocksInPiece}
 use Rattle.model.specs.change.Partials.{blocksInState, progress, inDirection, newState}
 use Rattle.model.specs.image.WellFormed.{stateOk}
-use Rattle.model.specs.image.Image.{bodyLength, partialKind, Got, got, fault, ret, next, judged, allFlags, readPartial, getBlocks, partialWith}
+use Rattle.model.specs.image.Image.{bodyLength, partialKind, Got, got, fault, ret, next, judged, allFlags, readPartial, getBlocks}
+use Rattle.model.specs.image.Image.{partialWith}
 use Rattle.model.specs.image.Image.{getPartial}
 use Rattle.memory_layout.specs.Decode.{queueFrom}
 use Rattle.check_partials.specs.Rows.{dueBy, stateBy}
@@ -65,20 +66,24 @@ module _ (s : Picker) (i n at : ℕ) (p : Piece) (bytes : List ℕ) where
   record-fails e h = record {
     is =
         next-fault (judged partialKind (readPartial i n) (drop at bytes))
-        (λ flags. λ l. next (getBlocks (λ blocks. stateOk p (partialWith i flags blocks)) [] (blocksInPiece s i) l) (λ blocks. ret (partialWith i flags blocks)))
+        (λ flags. λ l. next (getBlocks (λ blocks. stateOk p (partialWith i flags blocks)) [] (blocksInPiece s i) l)
+        (λ blocks. ret (partialWith i flags blocks)))
         (drop at bytes) e;
     within = h;
   }
 
   module _ (flags : ℕ) (g : NumberGot partialKind (readPartial i n) at bytes flags) (many : ℕ) (em : blocksInPiece s i ≡ many) where
     partial-blocks : getPartial s i n p (drop at bytes)
-        ≡ next (getBlocks (λ blocks. stateOk p (partialWith i flags blocks)) [] many (drop (at + 6) bytes)) (λ blocks. ret (partialWith i flags blocks))
+        ≡ next (getBlocks (λ blocks. stateOk p (partialWith i flags blocks)) [] many (drop (at + 6) bytes))
+        (λ blocks. ret (partialWith i flags blocks))
     unfolding getPartial bodyLength nth
     partial-blocks =
         next-got (judged partialKind (readPartial i n) (drop at bytes))
-        (λ x. λ l. next (getBlocks (λ blocks. stateOk p (partialWith i x blocks)) [] (blocksInPiece s i) l) (λ blocks. ret (partialWith i x blocks)))
+        (λ x. λ l. next (getBlocks (λ blocks. stateOk p (partialWith i x blocks)) [] (blocksInPiece s i) l)
+        (λ blocks. ret (partialWith i x blocks)))
         flags (drop (at + 6) bytes) (g .is)
-        ∙ ap (λ (m : ℕ). next (getBlocks (λ blocks. stateOk p (partialWith i flags blocks)) [] m (drop (at + 6) bytes)) (λ blocks. ret (partialWith i flags blocks))) em
+        ∙ ap (λ (m : ℕ). next (getBlocks (λ blocks. stateOk p (partialWith i flags blocks)) [] m (drop (at + 6) bytes))
+        (λ blocks. ret (partialWith i flags blocks))) em
 
     -- a block of it is
     pub block-fails : (k : ℕ) → BlockFails (at + 6) many bytes k → Went (getPartial s i n p (drop at bytes)) bytes (Fault k)
@@ -92,10 +97,12 @@ module _ (s : Picker) (i n at : ℕ) (p : Piece) (bytes : List ℕ) where
 
     module _ (t : Tally) (b : BlocksStand (at + 6) many bytes t) where
       left-is : getPartial s i n p (drop at bytes)
-          ≡ next (leftBlocks (λ blocks. stateOk p (partialWith i flags blocks)) (b .blocks) 0 (at + 6 + 13 * many) bytes) (λ blocks. ret (partialWith i flags blocks))
+          ≡ next (leftBlocks (λ blocks. stateOk p (partialWith i flags blocks)) (b .blocks) 0 (at + 6 + 13 * many) bytes)
+          (λ blocks. ret (partialWith i flags blocks))
       left-is =
           partial-blocks
-          ∙ ap (λ (x : Got (List Block)). next x (λ blocks. ret (partialWith i flags blocks))) (b .is (λ blocks. stateOk p (partialWith i flags blocks)))
+          ∙ ap (λ (x : Got (List Block)). next x (λ blocks. ret (partialWith i flags blocks)))
+          (b .is (λ blocks. stateOk p (partialWith i flags blocks)))
 
       module _ (state priority : ℕ) (es : p .state ≡ queueFrom state) (ep : p .priority ≡ priority) where
         fits-is : stateOk p (partialWith i flags (b .blocks)) ≡ stateBy state priority (t .requested) (many - t .free) many (leb 4 flags)

@@ -40,7 +40,8 @@ pub piece-field : (bytes : List ℕ) (i k w at r : ℕ) → k + w ≤ 9 → at �
     → r ≡ field k w (pieceBody bytes i)
 unfolding pieceBody bodyAt bodyLength nth
 piece-field bytes i k w at r h e f =
-    f .is ∙ ap (λ (x : ℕ). field x w bytes) e ∙ sym (field-inside (piecePlace i + 1) 9 k w bytes h) ∙ ap (λ (l : List ℕ). field k w (take 9 l)) (sym (drop-drop 1 (piecePlace i) bytes))
+    f .is ∙ ap (λ (x : ℕ). field x w bytes) e ∙ sym (field-inside (piecePlace i + 1) 9 k w bytes h) ∙ ap
+    (λ (l : List ℕ). field k w (take 9 l)) (sym (drop-drop 1 (piecePlace i) bytes))
 
 module _ (bytes : List ℕ) (i state : ℕ) (es : state ≡ field 2 1 (pieceBody bytes i)) where
   pub piece-state : pieceIn bytes i .state ≡ queueFrom state
@@ -77,7 +78,8 @@ module _ (head : Head) (i : ℕ) (w : Walk) (bytes : List ℕ) (few : w .many �
   pub pass-open : isOpen (pieceIn bytes i .state) ≡ true → w .at ≤ length bytes → Passed head i w bytes w
   pass-open o h = record {
     found = [];
-    is = λ ps. open-read (headPicker head) i (w .many) (pieceIn bytes i) ps o (drop (w .at) bytes) ∙ next-start (partialsFrom head (suc i) w bytes ps);
+    is = λ ps. open-read (headPicker head) i (w .many) (pieceIn bytes i) ps o (drop (w .at) bytes) ∙ next-start
+        (partialsFrom head (suc i) w bytes ps);
     within = h;
     few = omega arith;
   }
@@ -89,7 +91,8 @@ module _ (head : Head) (i : ℕ) (w : Walk) (bytes : List ℕ) (few : w .many �
     pass-fails k f ps = record {
       is =
           shut-read (headPicker head) i (w .many) (pieceIn bytes i) ps o (drop (w .at) bytes)
-          ∙ next-fault _ (λ d m. next (getPartials (headPicker head) (suc i) (suc (w .many)) ps m) (λ ds. ret (d ∷ ds))) (drop k bytes) (f .is);
+          ∙ next-fault _ (λ d m. next (getPartials (headPicker head) (suc i) (suc (w .many)) ps m) (λ ds. ret (d ∷ ds))) (drop k bytes)
+          (f .is);
       within = f .within;
     }
 
@@ -102,7 +105,8 @@ module _ (head : Head) (i : ℕ) (w : Walk) (bytes : List ℕ) (few : w .many �
           found = f .value ∷ [];
           is = λ ps.
               shut-read (headPicker head) i (w .many) (pieceIn bytes i) ps o (drop (w .at) bytes)
-              ∙ next-got _ (λ d m. next (getPartials (headPicker head) (suc i) (suc (w .many)) ps m) (λ ds. ret (d ∷ ds))) (f .value) (drop k bytes) (f .is)
+              ∙ next-got _ (λ d m. next (getPartials (headPicker head) (suc i) (suc (w .many)) ps m) (λ ds. ret (d ∷ ds))) (f .value)
+              (drop k bytes) (f .is)
               ∙ ap (λ (m : ℕ). next (getPartials (headPicker head) (suc i) m ps (drop k bytes)) (λ ds. ret (f .value ∷ ds))) e;
           within = f .within;
           few = omega arith;
@@ -138,7 +142,8 @@ walking-start head n bytes h = record {
   before = [];
   left =
       next-start (getPartials (headPicker head) 0 0 (tabulate n (pieceIn bytes)) (drop (piecePlace n) bytes))
-      ∙ ap (λ (ps : List Piece). next (getPartials (headPicker head) 0 0 ps (drop (piecePlace n) bytes)) (λ ds. ret ([] ++ ds))) (sym (tail-all (pieceIn bytes) n));
+      ∙ ap (λ (ps : List Piece). next (getPartials (headPicker head) 0 0 ps (drop (piecePlace n) bytes)) (λ ds. ret ([] ++ ds)))
+      (sym (tail-all (pieceIn bytes) n));
 }
 
 -- what was found before and now
@@ -153,7 +158,8 @@ module _ (head : Head) (n : ℕ) (bytes : List ℕ) (w : Walk) (i : ℕ) (p : Wa
     step-left : getPartials (headPicker head) 0 0 (firstPieces bytes n) (drop (piecePlace n) bytes)
         ≡ next (partialsFrom head i w bytes (pieceIn bytes i ∷ tail (pieceIn bytes) (i + 1) n)) (λ ds. ret (p .before ++ ds))
     step-left =
-        p .left ∙ ap (λ (ps : List Piece). next (partialsFrom head i w bytes ps) (λ ds. ret (p .before ++ ds))) (tail-next (pieceIn bytes) i n h)
+        p .left ∙ ap (λ (ps : List Piece). next (partialsFrom head i w bytes ps) (λ ds. ret (p .before ++ ds)))
+        (tail-next (pieceIn bytes) i n h)
 
     pub walking-next : (to : Walk) → Passed head i w bytes to → Walking head n bytes to (i + 1)
     walking-next to q =
@@ -167,7 +173,8 @@ module _ (head : Head) (n : ℕ) (bytes : List ℕ) (w : Walk) (i : ℕ) (p : Wa
               step-left
               ∙ ap (λ (g : Got (List DownloadingPiece)). next g (λ ds. ret (p .before ++ ds))) (q .is (tail (pieceIn bytes) (i + 1) n))
               ∙ next-both (p .before) (q .found) (partialsFrom head (suc i) to bytes (tail (pieceIn bytes) (i + 1) n))
-              ∙ ap (λ (k : ℕ). next (partialsFrom head k to bytes (tail (pieceIn bytes) (i + 1) n)) (λ ds. ret ((p .before ++ q .found) ++ ds))) e;
+              ∙ ap (λ (k : ℕ). next (partialsFrom head k to bytes (tail (pieceIn bytes) (i + 1) n))
+              (λ ds. ret ((p .before ++ q .found) ++ ds))) e;
         }
 
     pub walking-fault : (k : ℕ) → StepFails head i w bytes k

@@ -28,7 +28,8 @@ pub head-test : (total size seeds cursor reverse flag n : ℕ) (valid : Bool) �
     → (leb flag 1 && valid && leb seeds maxPeers && leb cursor n && leb reverse n) ≡ headTest total size seeds cursor reverse flag
 unfolding headTest
 head-test total size seeds cursor reverse flag n valid en ev =
-    rw (en, ev) (go (leb flag 1) (validGeometry total size) (leb seeds maxPeers) (leb cursor (numPieces total size)) (leb reverse (numPieces total size)))
+    rw (en, ev) (go (leb flag 1) (validGeometry total size) (leb seeds maxPeers) (leb cursor (numPieces total size))
+    (leb reverse (numPieces total size)))
   where
     go : (a b c d e : Bool) → (a && b && c && d && e) ≡ (a && (b && (c && (d && e))))
     go true true true true e = refl
@@ -59,7 +60,15 @@ module _ (bytes : List ℕ) where
     unfolding headStep
     head-fault t = sym (ap headStep (judged-fault headKind readHead 0 bytes e body b (head-read ∙ breaks _ (headOf body) t)))
 
-    head-numbers : headNumbers (headOf body) ≡ record { total = total; size = size; seeds = seeds; cursor = cursor; «reverse_cursor» = reverse; dirty = eqb flag 1 }
+    head-numbers : headNumbers (headOf body) ≡ record {
+      total = total;
+      size = size;
+      seeds = seeds;
+      cursor = cursor;
+      «reverse_cursor» =
+          reverse;
+      dirty = eqb flag 1;
+    }
     unfolding headNumbers headOf
     head-numbers = rw (← et, ← ez, ← es, ← ec, ← er, ← ef, flag-dirty (eqb flag 1))
 
@@ -101,11 +110,13 @@ head-got bytes x f =
     (λ s room r e.
     obeying-back _ (headOf (bodyAt headKind 0 bytes)) s r λ t q.
     let n : headNumbers s ≡ x = found-numbers s _ (judged headKind readHead bytes) x e f in
-    let p : headPicker x ≡ s = ap headPicker (sym n) ∙ ap (λ (y : Picker). headPicker (headNumbers y)) (sym q) ∙ bare-head (bodyAt headKind 0 bytes) ∙ q in
+    let p : headPicker x ≡ s = ap headPicker (sym n) ∙ ap (λ (y : Picker). headPicker (headNumbers y)) (sym q) ∙ bare-head
+    (bodyAt headKind 0 bytes) ∙ q in
     record {
       is = e ∙ ap (λ (y : Picker). got y (drop 24 bytes)) (sym p);
       headed = record {
-        ok = ap headOk (p ∙ sym q) ∙ both-true (leb (field 22 1 (bodyAt headKind 0 bytes)) 1) (headOk (headOf (bodyAt headKind 0 bytes))) t .1;
+        ok = ap headOk (p ∙ sym q) ∙ both-true (leb (field 22 1 (bodyAt headKind 0 bytes)) 1) (headOk (headOf (bodyAt headKind 0 bytes)))
+            t .1;
         room = room;
       };
     })
@@ -127,7 +138,8 @@ module _ (x : Head) (ok : headOk (headPicker x) ≡ true) where
 
   pub head-seeds : x .seeds ≤ maxPeers
   unfolding headOk headPicker
-  head-seeds = leb-true (x .seeds) maxPeers (both-true (leb (x .seeds) maxPeers) _ (both-true (validGeometry (x .total) (x .size)) _ ok .1) .0)
+  head-seeds = leb-true (x .seeds) maxPeers (both-true (leb (x .seeds) maxPeers) _
+      (both-true (validGeometry (x .total) (x .size)) _ ok .1) .0)
 
   pub head-pieces : numPieces (x .total) (x .size) ≤ maxPieces
   unfolding validGeometry

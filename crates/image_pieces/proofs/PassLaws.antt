@@ -23,7 +23,8 @@ use Rattle.image_pieces.proofs.PieceLaws.{PieceGot}
 -- ---- the definition's reader
 module _ (s : Picker) (i m : ℕ) (bs : List ℕ) (before : List PieceRecord) where
   pieces-next : (p : PieceRecord) (rest : List ℕ) → judged pieceKind (readPiece s i) bs ≡ got p rest
-      → next (getPieces s i (suc m) bs) (λ ps. ret (before ++ ps)) ≡ next (getPieces s (suc i) m rest) (λ ps. ret ((before ++ (p ∷ [])) ++ ps))
+      → next (getPieces s i (suc m) bs) (λ ps. ret (before ++ ps)) ≡ next (getPieces s (suc i) m rest)
+      (λ ps. ret ((before ++ (p ∷ [])) ++ ps))
   unfolding getPieces
   pieces-next p rest e =
       ap (λ (g : Got (List PieceRecord)). next g (λ ps. ret (before ++ ps)))
@@ -80,7 +81,8 @@ module _ (head : Head) (n w : ℕ) (bytes ranks : List ℕ) (i : ℕ) (p : Readi
         ≡ next (getPieces (headPicker head) i (suc (n - (i + 1))) (drop (piecePlace i) bytes)) (λ ps. ret (firstPieces bytes i ++ ps))
     step-left =
         p .left
-        ∙ ap (λ (m : ℕ). next (getPieces (headPicker head) i m (drop (piecePlace i) bytes)) (λ ps. ret (firstPieces bytes i ++ ps))) (omega arith)
+        ∙ ap (λ (m : ℕ). next (getPieces (headPicker head) i m (drop (piecePlace i) bytes)) (λ ps. ret (firstPieces bytes i ++ ps)))
+        (omega arith)
 
     pub reading-next : (x : Piece) → PieceGot (headPicker head) i (piecePlace i) bytes x → (r : ℕ) → rankBy (head .seeds) x r
         → Reading head n w bytes (set ranks i r) (i + 1)
@@ -90,7 +92,8 @@ module _ (head : Head) (n w : ℕ) (bytes ranks : List ℕ) (i : ℕ) (p : Readi
       room = omega (arith, g .room);
       left =
           step-left
-          ∙ pieces-next (headPicker head) i (n - (i + 1)) (drop (piecePlace i) bytes) (firstPieces bytes i) (pieceIn bytes i) (drop (piecePlace i + 10) bytes) (g .is)
+          ∙ pieces-next (headPicker head) i (n - (i + 1)) (drop (piecePlace i) bytes) (firstPieces bytes i) (pieceIn bytes i)
+          (drop (piecePlace i + 10) bytes) (g .is)
           ∙ moved (first-more bytes i);
       ranked = λ k l. elim (ℕ-discrete k i) [
         | yes q ↦ rw q (record {
@@ -107,8 +110,10 @@ module _ (head : Head) (n w : ℕ) (bytes ranks : List ℕ) (i : ℕ) (p : Readi
     }
       where
         moved : firstPieces bytes i ++ (pieceIn bytes i ∷ []) ≡ firstPieces bytes (i + 1)
-            → next (getPieces (headPicker head) (suc i) (n - (i + 1)) (drop (piecePlace i + 10) bytes)) (λ ps. ret ((firstPieces bytes i ++ (pieceIn bytes i ∷ [])) ++ ps))
-            ≡ next (getPieces (headPicker head) (i + 1) (n - (i + 1)) (drop (piecePlace (i + 1)) bytes)) (λ ps. ret (firstPieces bytes (i + 1) ++ ps))
+            → next (getPieces (headPicker head) (suc i) (n - (i + 1)) (drop (piecePlace i + 10) bytes))
+            (λ ps. ret ((firstPieces bytes i ++ (pieceIn bytes i ∷ [])) ++ ps))
+            ≡ next (getPieces (headPicker head) (i + 1) (n - (i + 1)) (drop (piecePlace (i + 1)) bytes))
+            (λ ps. ret (firstPieces bytes (i + 1) ++ ps))
         moved e =
             let a : suc i ≡ i + 1 = omega arith in
             let b : piecePlace i + 10 ≡ piecePlace (i + 1) = omega arith in
@@ -117,7 +122,8 @@ module _ (head : Head) (n w : ℕ) (bytes ranks : List ℕ) (i : ℕ) (p : Readi
     pub reading-fault : judged pieceKind (readPiece (headPicker head) i) (drop (piecePlace i) bytes) ≡ fault (drop (piecePlace i) bytes)
         → Failed (getPieces (headPicker head) 0 n (drop 24 bytes)) bytes (piecePlace i)
     reading-fault e = record {
-      is = step-left ∙ pieces-fault (headPicker head) i (n - (i + 1)) (drop (piecePlace i) bytes) (firstPieces bytes i) (drop (piecePlace i) bytes) e;
+      is = step-left ∙ pieces-fault (headPicker head) i (n - (i + 1)) (drop (piecePlace i) bytes) (firstPieces bytes i)
+          (drop (piecePlace i) bytes) e;
       within = p .room;
     }
 

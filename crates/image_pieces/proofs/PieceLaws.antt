@@ -13,7 +13,8 @@ use Rattle.types.specs.Queue.{queueNumber, queues}
 use Rattle.model.specs.Lists.{nth}
 use Rattle.model.specs.State.{Piece as PieceRecord, Picker, maxPeers, maxPriority, sameQueue, isOpen, pieceSizeAt}
 use Rattle.model.specs.image.WellFormed.{pieceOk}
-use Rattle.model.specs.image.Image.{bodyLength, pieceKind, Got, got, fault, startsWith, judged, field, obeying, lastQueue, pieceOf, readPiece}
+use Rattle.model.specs.image.Image.{bodyLength, pieceKind, Got, got, fault, startsWith, judged, field, obeying, lastQueue, pieceOf}
+use Rattle.model.specs.image.Image.{readPiece}
 use Rattle.model.proofs.image.Codec.{obeying-back}
 use Rattle.model.proofs.base.Truths.{both-true, by-test}
 use Rattle.memory_layout.specs.Decode.{queueFrom}
@@ -28,11 +29,13 @@ use Rattle.image_pieces.specs.Pieces.{pieceTest, pieceNumbers, pieceStep
 
 -- ---- the tests in another order
 pub piece-test : (count state priority flushed pad seeds long : ℕ)
-    → (leb state lastQueue && leb flushed 1 && leb (count + seeds) maxPeers && leb priority maxPriority && (not (eqb flushed 1) || eqb state 4) && leb pad long)
+    → (leb state lastQueue && leb flushed 1 && leb (count + seeds) maxPeers && leb priority maxPriority &&
+    (not (eqb flushed 1) || eqb state 4) && leb pad long)
     ≡ pieceTest count state priority flushed pad seeds long
 unfolding pieceTest
 piece-test count state priority flushed pad seeds long =
-    go (leb state lastQueue) (leb flushed 1) (leb (count + seeds) maxPeers) (leb priority maxPriority) (not (eqb flushed 1) || eqb state 4) (leb pad long)
+    go (leb state lastQueue) (leb flushed 1) (leb (count + seeds) maxPeers) (leb priority maxPriority)
+    (not (eqb flushed 1) || eqb state 4) (leb pad long)
   where
     go : (a b c d e f : Bool) → (a && b && c && d && e && f) ≡ (a && (b && (c && (d && (e && f)))))
     go true true true true true f = refl
@@ -55,41 +58,49 @@ module _ (s : Picker) (i at : ℕ) (bytes : List ℕ) where
 
   module _ (e : startsWith pieceKind (drop at bytes) ≡ true) (body : List ℕ) (b : Body pieceKind at bytes body)
       (count state priority flushed pad : ℕ) (ec : count ≡ field 0 2 body) (es : state ≡ field 2 1 body) (ep : priority ≡ field 3 1 body)
-      (ef : flushed ≡ field 4 1 body) (ed : pad ≡ field 5 4 body) (seeds long : ℕ) (en : s .seeds ≡ seeds) (el : pieceSizeAt s i ≡ long) where
-    test-same : (leb state lastQueue && (leb flushed 1 && pieceOk s i (pieceOf body))) ≡ pieceTest count state priority flushed pad seeds long
-    unfolding pieceTest pieceOk pieceOf isOpen pieceSizeAt
-    test-same =
-        by-test (leb state lastQueue)
-        (λ t. rw (← ec, ← es, ← ep, ← ef, ← ed, en, el, t, open-number state (leb-true state lastQueue t)))
-        (λ t. rw t)
+      (ef : flushed ≡ field 4 1 body) (ed : pad ≡ field 5 4 body) (seeds long : ℕ) (en : s .seeds ≡ seeds) (el : pieceSizeAt s i ≡ long)
+    where
+      test-same : (leb state lastQueue && (leb flushed 1 && pieceOk s i (pieceOf body))) ≡ pieceTest count state priority flushed pad seeds
+          long
+      unfolding pieceTest pieceOk pieceOf isOpen pieceSizeAt
+      test-same =
+          by-test (leb state lastQueue)
+          (λ t. rw (← ec, ← es, ← ep, ← ef, ← ed, en, el, t, open-number state (leb-true state lastQueue t)))
+          (λ t. rw t)
 
-    piece-read : readPiece s i body ≡ obeying (pieceTest count state priority flushed pad seeds long) (pieceOf body)
-    unfolding readPiece
-    piece-read =
-        rw (← es, ← ef) (ap (λ (t : Bool). obeying t (pieceOf body)) test-same)
+      piece-read : readPiece s i body ≡ obeying (pieceTest count state priority flushed pad seeds long) (pieceOf body)
+      unfolding readPiece
+      piece-read =
+          rw (← es, ← ef) (ap (λ (t : Bool). obeying t (pieceOf body)) test-same)
 
-    pub piece-fault : pieceTest count state priority flushed pad seeds long ≡ false
-        → Fault ≡ pieceStep (judged pieceKind (readPiece s i) (drop at bytes))
-    unfolding pieceStep
-    piece-fault t =
-        sym (ap pieceStep (judged-fault pieceKind (readPiece s i) at bytes e body b (piece-read ∙ breaks _ (pieceOf body) t)))
+      pub piece-fault : pieceTest count state priority flushed pad seeds long ≡ false
+          → Fault ≡ pieceStep (judged pieceKind (readPiece s i) (drop at bytes))
+      unfolding pieceStep
+      piece-fault t =
+          sym (ap pieceStep (judged-fault pieceKind (readPiece s i) at bytes e body b (piece-read ∙ breaks _ (pieceOf body) t)))
 
-    piece-numbers : pieceTest count state priority flushed pad seeds long ≡ true
-        → pieceNumbers (pieceOf body) ≡ record { «peer_count» = count; state = state; priority = priority; flushed = eqb flushed 1; «pad_bytes» = pad }
-    unfolding pieceTest pieceNumbers pieceOf queueFrom
-    piece-numbers t =
-        let f = both-true (leb state lastQueue) _ t in
-        let q : queueNumber (queueFrom state) ≡ state = queue-number state (omega (arith, leb-true state lastQueue (f .0))) in
-        rw (← ec, ← es, ← ep, ← ef, ← ed, q)
+      piece-numbers : pieceTest count state priority flushed pad seeds long ≡ true
+          → pieceNumbers (pieceOf body) ≡ record {
+            «peer_count» = count;
+            state = state;
+            priority = priority;
+            flushed = eqb flushed 1;
+            «pad_bytes» = pad;
+          }
+      unfolding pieceTest pieceNumbers pieceOf queueFrom
+      piece-numbers t =
+          let f = both-true (leb state lastQueue) _ t in
+          let q : queueNumber (queueFrom state) ≡ state = queue-number state (omega (arith, leb-true state lastQueue (f .0))) in
+          rw (← ec, ← es, ← ep, ← ef, ← ed, q)
 
-    pub piece-found : pieceTest count state priority flushed pad seeds long ≡ true
-        → Found (record { «peer_count» = count; state = state; priority = priority; flushed = eqb flushed 1; «pad_bytes» = pad })
-        ≡ pieceStep (judged pieceKind (readPiece s i) (drop at bytes))
-    unfolding pieceStep
-    piece-found t =
-        sym
-        (ap pieceStep (judged-found pieceKind (readPiece s i) at bytes e body b (pieceOf body) (piece-read ∙ obeys _ (pieceOf body) t))
-        ∙ ap Found (piece-numbers t))
+      pub piece-found : pieceTest count state priority flushed pad seeds long ≡ true
+          → Found (record { «peer_count» = count; state = state; priority = priority; flushed = eqb flushed 1; «pad_bytes» = pad })
+          ≡ pieceStep (judged pieceKind (readPiece s i) (drop at bytes))
+      unfolding pieceStep
+      piece-found t =
+          sym
+          (ap pieceStep (judged-found pieceKind (readPiece s i) at bytes e body b (pieceOf body) (piece-read ∙ obeys _ (pieceOf body) t))
+          ∙ ap Found (piece-numbers t))
 
 -- ---- for a caller
 -- read, a piece stands there, and the rest starts ten bytes on
@@ -101,7 +112,8 @@ pub record PieceGot (s : Picker) (i at : ℕ) (bytes : List ℕ) (x : Piece) : T
   pub count-most : x .«peer_count» ≤ maxPeers
   pub priority-most : x .priority ≤ maxPriority
 
-found-numbers : (p : PieceRecord) (rest : List ℕ) (g : Got PieceRecord) (x : Piece) → g ≡ got p rest → Found x ≡ pieceStep g → pieceNumbers p ≡ x
+found-numbers : (p : PieceRecord) (rest : List ℕ) (g : Got PieceRecord) (x : Piece) → g ≡ got p rest → Found x ≡ pieceStep g →
+    pieceNumbers p ≡ x
 unfolding pieceStep
 found-numbers p rest g x e f = let z : Found x ≡ Found (pieceNumbers p) = f ∙ ap pieceStep e in cc
 
@@ -113,7 +125,8 @@ never-found g rest x e f =
     absurd (omega arith)
 
 module _ (s : Picker) (i at : ℕ) (bytes : List ℕ) where
-  ranges : (p : PieceRecord) (x : Piece) → pieceNumbers p ≡ x → pieceOk s i p ≡ true → (x .«peer_count» ≤ maxPeers) × (x .priority ≤ maxPriority)
+  ranges : (p : PieceRecord) (x : Piece) → pieceNumbers p ≡ x → pieceOk s i p ≡ true → (x .«peer_count» ≤ maxPeers) ×
+      (x .priority ≤ maxPriority)
   unfolding pieceOk pieceNumbers
   ranges p x e h =
       let t = both-true (leb (p .peerCount + s .seeds) maxPeers) _ h in
@@ -125,7 +138,8 @@ module _ (s : Picker) (i at : ℕ) (bytes : List ℕ) where
   pub piece-got : (x : Piece) → Found x ≡ pieceStep (judged pieceKind (readPiece s i) (drop at bytes)) → PieceGot s i at bytes x
   unfolding readPiece bodyLength nth
   piece-got x f =
-      judged-cases pieceKind (readPiece s i) at bytes (λ e. never-found (judged pieceKind (readPiece s i) (drop at bytes)) (drop at bytes) x e f)
+      judged-cases pieceKind (readPiece s i) at bytes (λ e. never-found (judged pieceKind (readPiece s i) (drop at bytes))
+      (drop at bytes) x e f)
       (λ p room r e.
       let body = bodyAt pieceKind at bytes in
       obeying-back _ (pieceOf body) p r λ t q.
@@ -142,7 +156,8 @@ module _ (s : Picker) (i at : ℕ) (bytes : List ℕ) where
         priority-most = m .1;
       })
 
-  pub piece-bad : Fault ≡ pieceStep (judged pieceKind (readPiece s i) (drop at bytes)) → judged pieceKind (readPiece s i) (drop at bytes) ≡ fault (drop at bytes)
+  pub piece-bad : Fault ≡ pieceStep (judged pieceKind (readPiece s i) (drop at bytes)) → judged pieceKind (readPiece s i) (drop at bytes)
+      ≡ fault (drop at bytes)
   unfolding pieceStep
   piece-bad f =
       judged-cases pieceKind (readPiece s i) at bytes (λ e. e)

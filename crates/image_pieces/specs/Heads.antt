@@ -16,7 +16,8 @@ use Rattle.image_pieces.specs.declared.head.HeadRead.the-variants.{Found
 -- its rule
 unfoldable pub headTest : (total size seeds cursor reverse flag : ℕ) → Bool
 headTest total size seeds cursor reverse flag =
-    leb flag 1 && (validGeometry total size && (leb seeds maxPeers && (leb cursor (numPieces total size) && leb reverse (numPieces total size))))
+    leb flag 1 && (validGeometry total size && (leb seeds maxPeers &&
+    (leb cursor (numPieces total size) && leb reverse (numPieces total size))))
 
 -- the numbers of a picker's head
 unfoldable pub headNumbers : (s : Picker) → Head

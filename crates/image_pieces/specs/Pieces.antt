@@ -25,12 +25,20 @@ use Rattle.image_pieces.specs.Heads.{headPicker}
 unfoldable pub pieceTest : (count state priority flushed pad seeds long : ℕ) → Bool
 pieceTest count state priority flushed pad seeds long =
     leb state lastQueue
-    && (leb flushed 1 && (leb (count + seeds) maxPeers && (leb priority maxPriority && ((not (eqb flushed 1) || eqb state 4) && leb pad long))))
+    && (leb flushed 1 && (leb (count + seeds) maxPeers && (leb priority maxPriority &&
+    ((not (eqb flushed 1) || eqb state 4) && leb pad long))))
 
 -- its numbers
 unfoldable pub pieceNumbers : (p : PieceRecord) → Piece
 pieceNumbers p =
-    record { «peer_count» = p .peerCount; state = queueNumber (p .state); priority = p .priority; flushed = p .flushed; «pad_bytes» = p .padBytes }
+    record {
+      «peer_count» = p .peerCount;
+      state = queueNumber (p .state);
+      priority = p .priority;
+      flushed = p .flushed;
+      «pad_bytes» =
+          p .padBytes;
+    }
 
 -- the piece found
 unfoldable pub pieceStep : (found : Got PieceRecord) → PieceRead

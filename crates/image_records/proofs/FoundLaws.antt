@@ -11,7 +11,8 @@ use borrow.Author.Tests.{leb-true}
 use Rattle.types.specs.Block.{blockStateNumber}
 use Rattle.model.specs.Lists.{nth}
 use Rattle.model.specs.State.{Block as BlockRecord}
-use Rattle.model.specs.image.Image.{bodyLength, partialKind, blockKind, Got, got, fault, startsWith, given, judged, field, obeying, allFlags, readBlock}
+use Rattle.model.specs.image.Image.{bodyLength, partialKind, blockKind, Got, got, fault, startsWith, given, judged, field, obeying}
+use Rattle.model.specs.image.Image.{allFlags, readBlock}
 use Rattle.model.specs.image.Image.{readPartial}
 use Rattle.model.proofs.image.Codec.{obeying-back}
 use Rattle.model.proofs.base.Truths.{both-true}
@@ -79,7 +80,8 @@ pub record BlockGot (at : ℕ) (bytes : List ℕ) (x : Block) : Type 0 where
   pub numbers : blockNumbers block ≡ x
 
 module _ (at : ℕ) (bytes : List ℕ) where
-  same-block : (b : BlockRecord) (x : Block) (rest : List ℕ) (g : Got BlockRecord) → g ≡ got b rest → FoundBlock x ≡ blockStep g → blockNumbers b ≡ x
+  same-block : (b : BlockRecord) (x : Block) (rest : List ℕ) (g : Got BlockRecord) → g ≡ got b rest → FoundBlock x ≡ blockStep g →
+      blockNumbers b ≡ x
   unfolding blockStep
   same-block b x rest g e f = let z : FoundBlock x ≡ FoundBlock (blockNumbers b) = f ∙ ap blockStep e in cc
 
@@ -97,7 +99,8 @@ module _ (at : ℕ) (bytes : List ℕ) where
       (λ b room r e.
       record { block = b; is = e; room = room; numbers = same-block b x _ (judged blockKind readBlock (drop at bytes)) e f })
 
-  pub block-bad : FaultBlock ≡ blockStep (judged blockKind readBlock (drop at bytes)) → judged blockKind readBlock (drop at bytes) ≡ fault (drop at bytes)
+  pub block-bad : FaultBlock ≡ blockStep (judged blockKind readBlock (drop at bytes)) → judged blockKind readBlock (drop at bytes) ≡
+      fault (drop at bytes)
   unfolding blockStep
   block-bad f =
       judged-cases blockKind readBlock at bytes (λ e. e)
@@ -108,7 +111,8 @@ module _ (at : ℕ) (bytes : List ℕ) where
 
 -- ---- a rule on top of a reader's
 -- what is read under a further rule: the same, or a fault
-pub judged-under : {A B : Type 0} (kind : ℕ) (read : List ℕ → Option A) (further : Option A → Option B) (bs : List ℕ) (a : A) (rest : List ℕ)
+pub judged-under : {A B : Type 0} (kind : ℕ) (read : List ℕ → Option A) (further : Option A → Option B) (bs : List ℕ) (a : A)
+    (rest : List ℕ)
     → judged kind read bs ≡ got a rest → judged kind (λ body. further (read body)) bs ≡ given bs rest (further (some a))
 unfolding judged given
 judged-under {A} {B} kind read further bs a rest e =

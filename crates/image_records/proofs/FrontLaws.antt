@@ -52,7 +52,8 @@ module _ (kind at : ℕ) (bytes : List ℕ) where
   starts-none h = ap (startsWith kind) (sym (drop-of-length-le bytes {i = at} h))
 
   module _ (h : at < length bytes) where
-    starts-is : startsWith kind (drop at bytes) ≡ (eqb (getD bytes at 0) kind && (leb (bodyLength kind) (length (drop (suc at) bytes)) && every (λ c. ltb c 256) (take (bodyLength kind) (drop (suc at) bytes))))
+    starts-is : startsWith kind (drop at bytes) ≡ (eqb (getD bytes at 0) kind &&
+        (leb (bodyLength kind) (length (drop (suc at) bytes)) && every (λ c. ltb c 256) (take (bodyLength kind) (drop (suc at) bytes))))
     unfolding startsWith len
     starts-is = ap (startsWith kind) (drop-cons bytes at 0 h)
 
@@ -64,10 +65,16 @@ module _ (kind at : ℕ) (bytes : List ℕ) where
         let l = length-drop (suc at) bytes in
         sym
         (starts-is
-        ∙ rw (eq-eqb (getD bytes at 0) kind e, every-front (bodyLength kind) (drop (suc at) bytes) (small-drop (suc at) bytes v), and-true (leb (bodyLength kind) (length (drop (suc at) bytes))))
+        ∙ rw (
+          eq-eqb (getD bytes at 0) kind e,
+          every-front (bodyLength kind) (drop (suc at) bytes) (small-drop (suc at) bytes v),
+          and-true (leb (bodyLength kind) (length (drop (suc at) bytes))),
+        )
         (elim (decLt (bodyLength kind) (length bytes - at)) [
-          | yes m ↦ le-leb (bodyLength kind) (length (drop (suc at) bytes)) (omega arith) ∙ sym (lt-ltb (bodyLength kind) (length bytes - at) m)
-          | no m ↦ lt-leb (bodyLength kind) (length (drop (suc at) bytes)) (omega arith) ∙ sym (le-ltb (bodyLength kind) (length bytes - at) (omega arith))
+          | yes m ↦ le-leb (bodyLength kind) (length (drop (suc at) bytes)) (omega arith) ∙ sym
+              (lt-ltb (bodyLength kind) (length bytes - at) m)
+          | no m ↦ lt-leb (bodyLength kind) (length (drop (suc at) bytes)) (omega arith) ∙ sym
+              (le-ltb (bodyLength kind) (length bytes - at) (omega arith))
         ]))
 
   -- where a record stands, the bytes have it
@@ -99,7 +106,8 @@ module _ (kind at : ℕ) (bytes : List ℕ) where
   unfolding bodyAt
   body-at e = record {
     is = refl;
-    long = length-take-le (bodyLength kind) (drop 1 (drop at bytes)) (omega (arith, stands-within e, length-drop 1 (drop at bytes), length-drop at bytes));
+    long = length-take-le (bodyLength kind) (drop 1 (drop at bytes))
+        (omega (arith, stands-within e, length-drop 1 (drop at bytes), length-drop at bytes));
   }
 
 -- ---- what its reader finds
@@ -119,7 +127,8 @@ module _ {A : Type 0} (kind : ℕ) (read : List ℕ → Option A) where
     unfolding bodyAt
     judged-body =
         judged-given (drop at bytes) e
-        ∙ ap (λ (l : List ℕ). given (drop at bytes) l (read (take (bodyLength kind) (drop 1 (drop at bytes))))) (drop-drop (suc (bodyLength kind)) at bytes)
+        ∙ ap (λ (l : List ℕ). given (drop at bytes) l (read (take (bodyLength kind) (drop 1 (drop at bytes)))))
+        (drop-drop (suc (bodyLength kind)) at bytes)
         ∙ ap (λ (l : List ℕ). given (drop at bytes) (drop (at + suc (bodyLength kind)) bytes) (read l)) (sym (b .is))
 
     -- a value, where its rule holds

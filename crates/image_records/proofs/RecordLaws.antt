@@ -13,7 +13,8 @@ use Rattle.types.specs.Block.{blockStateNumber}
 use Rattle.model.specs.Lists.{nth}
 use Rattle.model.specs.State.{maxPeers, maxPartials, hasPeer}
 use Rattle.model.specs.image.WellFormed.{blockOk, peerOk}
-use Rattle.model.specs.image.Image.{bodyLength, partialKind, blockKind, pickKind, startsWith, judged, field, obeying, lastBlockState, allFlags}
+use Rattle.model.specs.image.Image.{bodyLength, partialKind, blockKind, pickKind, startsWith, judged, field, obeying, lastBlockState}
+use Rattle.model.specs.image.Image.{allFlags}
 use Rattle.model.specs.image.Image.{peerFits, peerOf, blockOf, readBlock, readPartial}
 use Rattle.model.specs.image.Program.{requestOf, readRequest}
 use Rattle.model.proofs.base.Truths.{both-true}
@@ -165,5 +166,6 @@ module _ (at : ℕ) (bytes : List ℕ) where
     unfolding pickStep readRequest pickNumbers requestOf
     pick-found t options wanted contiguous peers eo ew ec en n =
         sym
-        (ap pickStep (judged-found pickKind (readRequest n) at bytes e body b (requestOf n body) (obeys _ (requestOf n body) (rw (eh, ep) at t)))
+        (ap pickStep (judged-found pickKind (readRequest n) at bytes e body b (requestOf n body)
+        (obeys _ (requestOf n body) (rw (eh, ep) at t)))
         ∙ ap FoundPick (rw (← eo, ← ew, ← ec, ← en, ← eh, ← ep, peer-there has peer, peer-back has peer t)))

@@ -13,7 +13,8 @@ use borrow.Author.Tests.{eq-eqb, ne-eqb, lt-ltb, le-ltb, le-leb, lt-leb}
 use Rattle.model.specs.Lists.{nth, len, any, member}
 use Rattle.model.specs.State.{Picker, maxExtents, piecesIn, blocksPerPiece, numExtents}
 use Rattle.model.specs.image.WellFormed.{extentOk}
-use Rattle.model.specs.image.Image.{bodyLength, extentKind, Got, got, fault, ret, next, given, judged, field, obeying, readExtent, comes, getExtents}
+use Rattle.model.specs.image.Image.{bodyLength, extentKind, Got, got, fault, ret, next, given, judged, field, obeying, readExtent, comes}
+use Rattle.model.specs.image.Image.{getExtents}
 use Rattle.model.proofs.image.Parts.{extents-end, extents-full, extents-more}
 use Rattle.memory_layout.specs.Tables.{tabulate}
 use Rattle.memory_layout.proofs.TableLaws.{tabulate-len}
@@ -38,7 +39,8 @@ unfolding extentsBefore
 sought-start start k bytes e = record { within = omega arith; left = ap (member e) (tail-all (extentAt start bytes) k) }
 
 module _ (start k : ℕ) (bytes : List ℕ) (e j : ℕ) (p : Sought start k bytes e j) where
-  seek : j < k → member e (tail (extentAt start bytes) j k) ≡ (eqb e (extentAt start bytes j) || member e (tail (extentAt start bytes) (j + 1) k))
+  seek : j < k → member e (tail (extentAt start bytes) j k) ≡
+      (eqb e (extentAt start bytes j) || member e (tail (extentAt start bytes) (j + 1) k))
   unfolding member any
   seek h = ap (any (eqb e)) (tail-next (extentAt start bytes) j k h)
 
@@ -151,10 +153,12 @@ module _ (start limit : ℕ) (bytes : List ℕ) (at k : ℕ) (p : Reading start 
 
     -- a fault of its reader
     stops : ((s : Picker) → numExtents (piecesIn s) (blocksPerPiece s) ≡ limit
-        → judged extentKind (readExtent s (extentsBefore start k bytes)) (drop at bytes) ≡ fault (drop at bytes)) → ExtentsJudged start limit bytes (Fault at)
+        → judged extentKind (readExtent s (extentsBefore start k bytes)) (drop at bytes) ≡ fault (drop at bytes)) → ExtentsJudged start
+        limit bytes (Fault at)
     unfolding Went
     stops f s l = record {
-      is = step-left s l ∙ next-fault _ (λ e. getExtents s (maxExtents - (k + 1)) (extentsBefore start k bytes ++ (e ∷ []))) (drop at bytes) (f s l);
+      is = step-left s l ∙ next-fault _ (λ e. getExtents s (maxExtents - (k + 1)) (extentsBefore start k bytes ++ (e ∷ [])))
+          (drop at bytes) (f s l);
       within = p .room;
     }
 
@@ -194,7 +198,8 @@ module _ (start limit : ℕ) (bytes : List ℕ) (at k : ℕ) (p : Reading start 
       before-next : extentsBefore start k bytes ++ (x ∷ []) ≡ extentsBefore start (k + 1) bytes
       unfolding extentsBefore
       before-next =
-          let e : x ≡ extentAt start bytes k = number-at at bytes x g ∙ unfold extentAt in ap (λ (m : ℕ). field m 4 bytes) (omega (arith, p .place)) in
+          let e : x ≡ extentAt start bytes k = number-at at bytes x g ∙ unfold extentAt in ap (λ (m : ℕ). field m 4 bytes)
+          (omega (arith, p .place)) in
           ap (λ (y : ℕ). tabulate k (extentAt start bytes) ++ (y ∷ [])) e ∙ sym (front-next (extentAt start bytes) k)
 
       pub reading-next : (found : Bool) → found ≡ member x (extentsBefore start k bytes) → (leb limit x || found) ≡ false

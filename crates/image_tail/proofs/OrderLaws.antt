@@ -14,7 +14,8 @@ use Rattle.model.specs.Lists.{len, count, from, member, any, lastOr}
 use Rattle.model.specs.State.{Picker, Listing, dirty, fresh, piecesIn}
 use Rattle.model.specs.list.Order.{rank, withBucket}
 use Rattle.model.specs.image.WellFormed.{placeOk}
-use Rattle.model.specs.image.Image.{bodyLength, placeKind, Got, got, fault, ret, next, startsWith, given, judged, field, obeying, readPlace, getOrder}
+use Rattle.model.specs.image.Image.{bodyLength, placeKind, Got, got, fault, ret, next, startsWith, given, judged, field, obeying, readPlace}
+use Rattle.model.specs.image.Image.{getOrder}
 use Rattle.model.specs.image.Image.{getListing}
 use Rattle.model.proofs.base.Counts.{length-filter}
 use Rattle.model.proofs.base.Truths.{both-true}
@@ -155,16 +156,19 @@ module _ (n w start many : ℕ) (bytes first ranks : List ℕ) (last at k : ℕ)
     step-left s q =
         let e : many - k ≡ suc (many - (k + 1)) = omega arith in
         q .left ∙ ap (λ (m : ℕ). getOrder s m (q .before) (drop at bytes)) e
-        ∙ ap (λ (g : Got ℕ). next g (λ i. getOrder s (many - (k + 1)) (q .before ++ (i ∷ [])))) (read-same s n ranks last (q .before) (q .placed) (p .least) (drop at bytes))
+        ∙ ap (λ (g : Got ℕ). next g (λ i. getOrder s (many - (k + 1)) (q .before ++ (i ∷ []))))
+        (read-same s n ranks last (q .before) (q .placed) (p .least) (drop at bytes))
 
     stops : (exit : List ℕ) → Taken n last at bytes ranks exit NoPlace → OrderJudged start many n first bytes (Fault at)
     unfolding Went Found
     stops exit t s r = record {
-      is = step-left s (p .of s r) ∙ next-fault _ (λ i. getOrder s (many - (k + 1)) (p .of s r .before ++ (i ∷ []))) (drop at bytes) (t .found);
+      is = step-left s (p .of s r) ∙ next-fault _ (λ i. getOrder s (many - (k + 1)) (p .of s r .before ++ (i ∷ []))) (drop at bytes)
+          (t .found);
       within = p .room;
     }
 
-    goes-on : (exit : List ℕ) (x : ℕ) → Taken n last at bytes ranks exit (Rank x) → Reading n w start many bytes first exit x (at + 5) (k + 1)
+    goes-on : (exit : List ℕ) (x : ℕ) → Taken n last at bytes ranks exit (Rank x) → Reading n w start many bytes first exit x (at + 5)
+        (k + 1)
     unfolding Found
     goes-on exit x t =
         let f = t .found in
@@ -180,14 +184,16 @@ module _ (n w start many : ℕ) (bytes first ranks : List ℕ) (last at k : ℕ)
               let q = p .of s r in
               record {
                 before = q .before ++ (f .piece ∷ []);
-                placed = rw (f .taken, f .rank) (placed-next s n ranks last (q .before) (q .placed) (p .least) (f .piece) (f .passes) (omega (arith, p .long, p .wide)));
+                placed = rw (f .taken, f .rank) (placed-next s n ranks last (q .before) (q .placed) (p .least) (f .piece) (f .passes)
+                    (omega (arith, p .long, p .wide)));
                 left =
                     step-left s q
                     ∙ next-got _ (λ i. getOrder s (many - (k + 1)) (q .before ++ (i ∷ []))) (f .piece) (drop (at + 5) bytes) (f .is);
               };
         }
 
-    pub reading-fault : (exit : List ℕ) (r : PlaceRank) → Taken n last at bytes ranks exit r → r ≡ NoPlace → OrderJudged start many n first bytes (Fault at)
+    pub reading-fault : (exit : List ℕ) (r : PlaceRank) → Taken n last at bytes ranks exit r → r ≡ NoPlace → OrderJudged start many n
+        first bytes (Fault at)
     reading-fault exit r t e = stops exit (subst (Taken n last at bytes ranks exit) e t)
 
     pub reading-next : (exit : List ℕ) (r : PlaceRank) → Taken n last at bytes ranks exit r → (x : ℕ) → r ≡ Rank x
@@ -205,7 +211,8 @@ module _ (n w start many : ℕ) (bytes first ranks : List ℕ) (last at k : ℕ)
       }
 
 -- ---- a reader that ends with what it found
-pub went-on : {A B : Type 0} (bytes : List ℕ) (g : Got A) (f : A → B) (to : Place) → Went g bytes to → Went (next g (λ x. ret (f x))) bytes to
+pub went-on : {A B : Type 0} (bytes : List ℕ) (g : Got A) (f : A → B) (to : Place) → Went g bytes to → Went (next g (λ x. ret (f x)))
+    bytes to
 unfolding Went
 went-on bytes g f (At k) w =
     record { value = f (w .value); is = next-got g (λ x. ret (f x)) (w .value) (drop k bytes) (w .is); within = w .within }
@@ -236,5 +243,6 @@ module _ (at n : ℕ) (isDirty : Bool) (ranks bytes : List ℕ) (e : isDirty ≡
   listing-is s r many em =
       rw (e, many-is s r, em)
 
-  pub listing-fresh : (many : ℕ) → many ≡ rankedIn ranks n → (to : Place) → OrderJudged at many n ranks bytes to → ListingJudged at isDirty n ranks bytes to
+  pub listing-fresh : (many : ℕ) → many ≡ rankedIn ranks n → (to : Place) → OrderJudged at many n ranks bytes to → ListingJudged at
+      isDirty n ranks bytes to
   listing-fresh many em to o s r = rw (listing-is s r many em) (went-on bytes (getOrder s many [] (drop at bytes)) fresh to (o s r))

@@ -1,13 +1,14 @@
 -- `block_state` meets its contract. Assumes nothing.
-use Rattle.ask_block.proofs.BlockAnswers.{asked-of}
-use Rattle.ask_block.specs.Blocks.{BlockTold}
-use Rattle.ask_block.specs.Blocks.{numberReply}
-use Rattle.memory_rows.specs.Lookup.{pickerIn}
-use Rattle.model.specs.ask.Questions.{replyBlock, blockIn, ofBlockThere, one, block-state}
-use Rattle.model.specs.change.Partials.{partialOf}
+-- Written by tools/asks.py, and not by hand.
 use mathlib.Core.Option.{none}
 use mathlib.Core.Path.{subst, ap, _∙_}
 use borrow.Author.Needs.{needs}
+use Rattle.ask_block.specs.Blocks.{numberReply}
+use Rattle.model.specs.ask.Questions.{replyBlock, blockIn, ofBlockThere, one, block-state}
+use Rattle.model.specs.change.Partials.{partialOf}
+use Rattle.memory_rows.specs.Lookup.{pickerIn}
+use Rattle.ask_block.specs.Blocks.{BlockTold}
+use Rattle.ask_block.proofs.BlockAnswers.{asked-of}
 use Rattle.ask_block.proofs.states.block_state.Statement.{statement}
 use Rattle.ask_block.proofs.states.block_state.Tie as tie
 
@@ -23,22 +24,20 @@ enum-told c = search needs
 returns : tie.Need-returns
 unfolding replyBlock ofBlockThere numberReply
 returns c =
-    let c2 = c .before .before in
-    let c6 = c2 .before .before .before .before in
-    let a = c6 .args in
+    let called = c .before .before in
+    let a = called .before .before .before .before .args in
     let d = pickerIn (a .live) (a .rows .now) (a .words .now) (a .cells .now) in
-    let t = subst (BlockTold (blockIn (partialOf d (a .i)) (a .j))) (c .enum-told .given .1) (c2 .block-of .ensures) in
+    let t = subst (BlockTold (blockIn (partialOf d (a .i)) (a .j))) (c .enum-told .given .1) (called .block-of .ensures) in
     asked-of d (a .i) (a .j) block-state none t
 
 returns-2 : tie.Need-returns-2
 unfolding replyBlock ofBlockThere numberReply
 returns-2 c =
-    let c1 = c .before in
-    let c3 = c1 .before .before in
-    let c7 = c3 .before .before .before .before in
-    let a = c7 .args in
+    let taken = c .before in
+    let called = taken .before .before in
+    let a = called .before .before .before .before .args in
     let d = pickerIn (a .live) (a .rows .now) (a .words .now) (a .cells .now) in
-    let t = subst (BlockTold (blockIn (partialOf d (a .i)) (a .j))) (c1 .x .given .1) (c3 .block-of .ensures) in
+    let t = subst (BlockTold (blockIn (partialOf d (a .i)) (a .j))) (taken .x .given .1) (called .block-of .ensures) in
     ap one (t .1) ∙ asked-of d (a .i) (a .j) block-state _ (t .0)
 
 pub block-state-spec : {M : Type 1} → statement M

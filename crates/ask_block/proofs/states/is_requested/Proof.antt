@@ -1,15 +1,16 @@
 -- `is_requested` meets its contract. Assumes nothing.
-use Prim.Native.Nat.{ℕ}
-use Rattle.ask_block.proofs.BlockAnswers.{asked-of}
-use Rattle.ask_block.specs.Blocks.{BlockTold}
-use Rattle.memory_rows.specs.Lookup.{pickerIn}
-use Rattle.model.specs.State.{sameBlockState}
-use Rattle.model.specs.ask.Questions.{replyBlock, blockIn, blockTest, flag, is-requested}
-use Rattle.model.specs.change.Partials.{partialOf}
-use lib.Dec.{eqb}
+-- Written by tools/asks.py, and not by hand.
 use mathlib.Core.Option.{none}
 use mathlib.Core.Path.{subst, ap, _∙_}
 use borrow.Author.Needs.{needs}
+use Prim.Native.Nat.{ℕ}
+use lib.Dec.{eqb}
+use Rattle.model.specs.State.{sameBlockState}
+use Rattle.model.specs.ask.Questions.{replyBlock, blockIn, blockTest, flag, is-requested}
+use Rattle.model.specs.change.Partials.{partialOf}
+use Rattle.memory_rows.specs.Lookup.{pickerIn}
+use Rattle.ask_block.specs.Blocks.{BlockTold}
+use Rattle.ask_block.proofs.BlockAnswers.{asked-of}
 use Rattle.ask_block.proofs.states.is_requested.Statement.{statement}
 use Rattle.ask_block.proofs.states.is_requested.Tie as tie
 
@@ -25,22 +26,20 @@ enum-told c = search needs
 returns : tie.Need-returns
 unfolding replyBlock blockTest sameBlockState
 returns c =
-    let c2 = c .before .before in
-    let c6 = c2 .before .before .before .before in
-    let a = c6 .args in
+    let called = c .before .before in
+    let a = called .before .before .before .before .args in
     let d = pickerIn (a .live) (a .rows .now) (a .words .now) (a .cells .now) in
-    let t = subst (BlockTold (blockIn (partialOf d (a .i)) (a .j))) (c .enum-told .given .1) (c2 .block-of .ensures) in
+    let t = subst (BlockTold (blockIn (partialOf d (a .i)) (a .j))) (c .enum-told .given .1) (called .block-of .ensures) in
     asked-of d (a .i) (a .j) is-requested none t
 
 returns-2 : tie.Need-returns-2
 unfolding replyBlock blockTest sameBlockState
 returns-2 c =
-    let c2 = c .before .before in
-    let c4 = c2 .before .before in
-    let c8 = c4 .before .before .before .before in
-    let a = c8 .args in
+    let taken = c .before .before in
+    let called = taken .before .before in
+    let a = called .before .before .before .before .args in
     let d = pickerIn (a .live) (a .rows .now) (a .words .now) (a .cells .now) in
-    let t = subst (BlockTold (blockIn (partialOf d (a .i)) (a .j))) (c2 .x .given .1) (c4 .block-of .ensures) in
+    let t = subst (BlockTold (blockIn (partialOf d (a .i)) (a .j))) (taken .x .given .1) (called .block-of .ensures) in
     ap (λ (n : ℕ). flag (eqb n 1)) (t .1) ∙ asked-of d (a .i) (a .j) is-requested _ (t .0)
 
 pub is-requested-spec : {M : Type 1} → statement M

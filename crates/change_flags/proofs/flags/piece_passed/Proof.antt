@@ -4,7 +4,8 @@ use borrow.Author.Needs.{needs}
 use Rattle.memory_layout.proofs.StandingLaws.{stands-shape}
 use Rattle.memory_records.specs.Rows.{recordsIn}
 use Rattle.memory_rows.specs.Lookup.{FoundIn}
-use Rattle.change_flags.proofs.RowEdits.{rows-few, rows-rising, row-there, has-partial}
+use Rattle.change_steps.proofs.RoomLaws.{keep-room, replace-room, remove-room}
+use Rattle.change_flags.proofs.RowEdits.{rows-within, rows-few, rows-rising, row-there, has-partial}
 use Rattle.change_flags.proofs.PassLaws.{pass-nothing, pass-locked, pass-flagged, pass-flushed}
 use Rattle.change_flags.proofs.flags.piece_passed.Statement.{statement}
 use Rattle.change_flags.proofs.flags.piece_passed.Tie as tie
@@ -29,8 +30,11 @@ returns c =
     let f = c .before .before in
     let o = f .before .before .before .before .before in
     let a = o .args in
-    pass-nothing (a .s) (a .live) (a .rows .now) (a .counts .now) (a .words .now) (a .cells .now) (o .pre .0) (a .i)
-    (subst (FoundIn (a .live) (a .rows .now) (a .i)) (c .enum-told .given .1) (f .find .ensures .1))
+    let g = o .pre .0 in
+    let w = rows-within (a .s) (a .live) (a .rows .now) (a .words .now) (a .cells .now) (g .stands) (g .many) in
+    let b = pass-nothing (a .s) (a .live) (a .rows .now) (a .counts .now) (a .words .now) (a .cells .now) (o .pre .0) (a .i)
+    (subst (FoundIn (a .live) (a .rows .now) (a .i)) (c .enum-told .given .1) (f .find .ensures .1)) in
+    (b, keep-room (a .s) (a .live) w)
 
 row-requires : tie.Need-row-requires
 row-requires c κs =
@@ -53,9 +57,12 @@ returns-2 c =
     let f = k .before .before in
     let o = f .before .before .before .before .before in
     let a = o .args in
+    let g = o .pre .0 in
     let x = subst (FoundIn (a .live) (a .rows .now) (a .i)) (k .k .given .1) (f .find .ensures .1) in
-    pass-locked (a .s) (a .live) (a .rows .now) (a .counts .now) (a .words .now) (a .cells .now) (o .pre .0) (a .i) _ x (r .row .result) (r .row .ensures)
-    (l .is-locked .result) (l .is-locked .ensures) (c .if1 .taken)
+    let w = rows-within (a .s) (a .live) (a .rows .now) (a .words .now) (a .cells .now) (g .stands) (g .many) in
+    let b = pass-locked (a .s) (a .live) (a .rows .now) (a .counts .now) (a .words .now) (a .cells .now) (o .pre .0) (a .i) _ x
+    (r .row .result) (r .row .ensures) (l .is-locked .result) (l .is-locked .ensures) (c .if1 .taken) in
+    (b, keep-room (a .s) (a .live) w)
 
 blocks-in-piece-requires : tie.Need-blocks-in-piece-requires
 blocks-in-piece-requires c κs =
@@ -111,11 +118,14 @@ returns-3 c =
     let f = k .before .before in
     let o = f .before .before .before .before .before in
     let a = o .args in
+    let g = o .pre .0 in
     let x = subst (FoundIn (a .live) (a .rows .now) (a .i)) (k .k .given .1) (f .find .ensures .1) in
-    pass-flushed (a .s) (a .live) (a .rows .now) (a .counts .now) (a .words .now) (a .cells .now) (o .pre .0) (a .i) _ x (r .row .result) (r .row .ensures)
-    (l .is-locked .result) (l .is-locked .ensures) (m .before .before .if1 .left) (m .blocks-in-piece .result)
-    (m .blocks-in-piece .ensures) (n .finished .result) (n .finished .ensures) (y .u16-to-usize .result)
-    (y .u16-to-usize .ensures) (t .if2 .taken) _ _ (u .piece-flushed .ensures)
+    let w = rows-within (a .s) (a .live) (a .rows .now) (a .words .now) (a .cells .now) (g .stands) (g .many) in
+    let b = pass-flushed (a .s) (a .live) (a .rows .now) (a .counts .now) (a .words .now) (a .cells .now) (o .pre .0) (a .i) _ x
+    (r .row .result) (r .row .ensures) (l .is-locked .result) (l .is-locked .ensures) (m .before .before .if1 .left)
+    (m .blocks-in-piece .result) (m .blocks-in-piece .ensures) (n .finished .result) (n .finished .ensures) (y .u16-to-usize .result)
+    (y .u16-to-usize .ensures) (t .if2 .taken) _ _ (u .piece-flushed .ensures) in
+    (b, remove-room (a .s) (a .live) w _)
 
 with-flags-requires : tie.Need-with-flags-requires
 with-flags-requires c κs = search needs
@@ -134,11 +144,14 @@ returns-4 c =
     let f = k .before .before in
     let o = f .before .before .before .before .before in
     let a = o .args in
+    let g = o .pre .0 in
     let x = subst (FoundIn (a .live) (a .rows .now) (a .i)) (k .k .given .1) (f .find .ensures .1) in
-    pass-flagged (a .s) (a .live) (a .rows .now) (a .counts .now) (a .words .now) (a .cells .now) (o .pre .0) (a .i) _ x (r .row .result) (r .row .ensures)
-    (l .is-locked .result) (l .is-locked .ensures) (m .before .before .if1 .left) (m .blocks-in-piece .result)
-    (m .blocks-in-piece .ensures) (n .finished .result) (n .finished .ensures) (y .u16-to-usize .result)
-    (y .u16-to-usize .ensures) (c .before .if2 .left) (c .with-flags .result) (c .with-flags .ensures)
+    let w = rows-within (a .s) (a .live) (a .rows .now) (a .words .now) (a .cells .now) (g .stands) (g .many) in
+    let b = pass-flagged (a .s) (a .live) (a .rows .now) (a .counts .now) (a .words .now) (a .cells .now) (o .pre .0) (a .i) _ x
+    (r .row .result) (r .row .ensures) (l .is-locked .result) (l .is-locked .ensures) (m .before .before .if1 .left)
+    (m .blocks-in-piece .result) (m .blocks-in-piece .ensures) (n .finished .result) (n .finished .ensures) (y .u16-to-usize .result)
+    (y .u16-to-usize .ensures) (c .before .if2 .left) (c .with-flags .result) (c .with-flags .ensures) in
+    (b, replace-room (a .s) (a .live) w _)
 
 pub piece-passed-spec : {M : Type 1} → statement M
 piece-passed-spec =

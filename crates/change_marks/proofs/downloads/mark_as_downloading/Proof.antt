@@ -3,7 +3,7 @@ use native.Mathlib.Omega.{arith}
 use borrow.Author.Needs.{needs}
 use Rattle.model.specs.change.Changes.{reverseAsked, affinityAsked, markDownloadingIn, markAsDownloading}
 use Rattle.change_blocks.specs.Replacing.{namedPeer}
-use Rattle.change_returns.proofs.WholeLaws.{find-asks, standing-asks}
+use Rattle.change_returns.proofs.WholeLaws.{find-asks, kept-room, standing-asks}
 use Rattle.change_marks.proofs.WholeLaws.{vacant-room, rows-vacant, downloading-opened, request-beside, marked-found}
 use Rattle.change_marks.proofs.downloads.mark_as_downloading.Statement.{statement}
 use Rattle.change_marks.proofs.downloads.mark_as_downloading.Tie as tie
@@ -61,9 +61,10 @@ returns c =
     let a = o .args in
     let v = rows-vacant (a .s) (a .live) (a .rows .now) (a .counts .now) (a .words .now) (a .cells .now) (o .pre .0) (a .i)
     (f .find .result) (n .enum-told .given .1) (f .find .ensures .1) in
-    downloading-opened (a .s) (a .live) (a .rows .now) (a .words .now) (a .cells .now) (a .i) v (a .draws .now) (a .j) (a .has-peer)
+    let r = downloading-opened (a .s) (a .live) (a .rows .now) (a .words .now) (a .cells .now) (a .i) v (a .draws .now) (a .j) (a .has-peer)
     (a .peer) _ _ _ _ _ (a .options .0) (b .contains .result) (t .contains2 .result) (q .first-state .result)
-    (b .contains .ensures) (t .contains2 .ensures) (q .first-state .ensures) (m .open-mark .ensures)
+    (b .contains .ensures) (t .contains2 .ensures) (q .first-state .ensures) (m .open-mark .ensures .0) in
+    (r, m .open-mark .ensures .1)
 
 standing-in-requires : tie.Need-standing-in-requires
 standing-in-requires c κs =
@@ -101,10 +102,11 @@ returns-2 c =
     let b = f .before .before in
     let o = b .before .before .before .before .before .before in
     let a = o .args in
-    marked-found (a .s) (a .live) (a .rows .now) (a .counts .now) (a .words .now) (a .cells .now) (o .pre .0) (a .i) _
+    let r = marked-found (a .s) (a .live) (a .rows .now) (a .counts .now) (a .words .now) (a .cells .now) (o .pre .0) (a .i) _
     (f .find .result) (e .k .given .1) (f .find .ensures .1) (d .standing-in .result) (d .standing-in .ensures) (a .j) (o .pre .1 .0 .1)
     (λ found w. markDownloadingIn (a .draws .now) (a .i) found (a .j) (namedPeer (a .has-peer) (a .peer)) (a .options .0) w) _ _
-    (u .request-block .result) (u .request-block .ensures .marks (a .options .0) (b .contains .ensures))
+    (u .request-block .result) (u .request-block .ensures .marks (a .options .0) (b .contains .ensures)) in
+    (r, kept-room (a .s) (a .live) (a .rows .now) (a .counts .now) (a .words .now) (a .cells .now) (o .pre .0))
 
 pub mark-as-downloading-spec : {M : Type 1} → statement M
 mark-as-downloading-spec =

@@ -48,8 +48,9 @@ returns c =
     let a = o .args in
     let v = rows-vacant (a .s) (a .live) (a .rows .now) (a .counts .now) (a .words .now) (a .cells .now) (o .pre .0) (a .i)
     (f .find .result) (n .enum-told .given .1) (f .find .ensures .1) in
-    finished-opened (a .s) (a .live) (a .rows .now) (a .words .now) (a .cells .now) (a .i) v (a .draws .now) (a .j) (a .has-peer)
-    (a .peer) _ _ _ _ _ (m .open-arrived .ensures)
+    let r = finished-opened (a .s) (a .live) (a .rows .now) (a .words .now) (a .cells .now) (a .i) v (a .draws .now) (a .j) (a .has-peer)
+    (a .peer) _ _ _ _ _ (m .open-arrived .ensures .0) in
+    (r, m .open-arrived .ensures .1)
 
 standing-in-requires : tie.Need-standing-in-requires
 standing-in-requires c κs =

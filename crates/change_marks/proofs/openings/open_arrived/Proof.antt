@@ -1,7 +1,9 @@
 -- `open_arrived` meets its contract. Assumes nothing.
 use mathlib.Core.Path.{sym, _∙_}
+use native.Mathlib.Omega.{arith}
 use borrow.Author.Needs.{needs}
 use Rattle.memory_records.specs.Rows.{recordsIn}
+use Rattle.change_steps.proofs.RoomLaws.{keep-room}
 use Rattle.change_marks.proofs.WholeLaws.{vacant-room, vacant-ignored, vacant-opened}
 use Rattle.change_marks.proofs.openings.open_arrived.Statement.{statement}
 use Rattle.change_marks.proofs.openings.open_arrived.Tie as tie
@@ -18,8 +20,9 @@ returns c =
     let f = c .before in
     let o = f .before .before .before .before .before .before in
     let a = o .args in
-    vacant-ignored (a .s) (a .live) (a .rows .now) (a .words .now) (a .cells .now) (a .i) (o .pre .0) _ (a .j) _
-    (sym (f .flushed .ensures .is (recordsIn (a .live) (a .rows .now)) (a .words .now) (o .pre .0 .stands .bounds)) ∙ c .if1 .taken)
+    let b = vacant-ignored (a .s) (a .live) (a .rows .now) (a .words .now) (a .cells .now) (a .i) (o .pre .0) _ (a .j) _
+    (sym (f .flushed .ensures .is (recordsIn (a .live) (a .rows .now)) (a .words .now) (o .pre .0 .stands .bounds)) ∙ c .if1 .taken) in
+    (b, keep-room (a .s) (a .live) (omega (arith, o .pre .0 .many, o .pre .0 .stands .bounds .partials)))
 
 open-mark-requires : tie.Need-open-mark-requires
 open-mark-requires c κs =
@@ -46,8 +49,9 @@ returns-2 c =
     let o = f .before .before .before .before .before .before in
     let a = o .args in
     let e = sym (f .flushed .ensures .is (recordsIn (a .live) (a .rows .now)) (a .words .now) (o .pre .0 .stands .bounds)) ∙ t .if1 .left in
-    vacant-opened (a .s) (a .live) (a .rows .now) (a .words .now) (a .cells .now) (a .i) (o .pre .0) _ (a .j) _ e _ _ _ _ _
-    (m .open-mark .ensures)
+    let b = vacant-opened (a .s) (a .live) (a .rows .now) (a .words .now) (a .cells .now) (a .i) (o .pre .0) _ (a .j) _ e _ _ _ _ _
+    (m .open-mark .ensures .0) in
+    (b, m .open-mark .ensures .1)
 
 pub open-arrived-spec : {M : Type 1} → statement M
 open-arrived-spec =

@@ -1,6 +1,7 @@
 -- `open_mark` meets its contract. Assumes nothing.
 use native.Mathlib.Omega.{arith}
 use borrow.Author.Needs.{needs}
+use Rattle.change_steps.proofs.RoomLaws.{insert-room}
 use Rattle.change_marks.proofs.OpenedLaws.{room-beside, opened-done}
 use Rattle.change_marks.proofs.openings.open_mark.Statement.{statement}
 use Rattle.change_marks.proofs.openings.open_mark.Tie as tie
@@ -24,8 +25,9 @@ returns c =
     let m = c .before .before .before .before .before in
     let o = m .before .before .before .before .before .before .before in
     let a = o .args in
-    opened-done (a .s) (a .live) (a .rows .now) (a .words .now) (a .cells .now) (a .i) (o .pre .0) _ (a .q) (a .affinity) (a .j) (a .x)
-    _ _ (m .mark-opening .result) (m .mark-opening .ensures)
+    let b = opened-done (a .s) (a .live) (a .rows .now) (a .words .now) (a .cells .now) (a .i) (o .pre .0) _ (a .q) (a .affinity) (a .j)
+    (a .x) _ _ (m .mark-opening .result) (m .mark-opening .ensures) in
+    (b, insert-room (a .s) (a .live) (o .pre .1 .0 .1 .1) _)
 
 pub open-mark-spec : {M : Type 1} → statement M
 open-mark-spec = tie.close (tie.spec mark-opening-requires same-length same-length-2 returns)

@@ -4,7 +4,7 @@ use native.Mathlib.Omega.{arith}
 use borrow.Author.Needs.{needs}
 use Rattle.model.specs.change.Changes.{markWritingIn, markAsWriting}
 use Rattle.change_blocks.specs.Replacing.{namedPeer}
-use Rattle.change_returns.proofs.WholeLaws.{find-asks, standing-asks, tally-beside}
+use Rattle.change_returns.proofs.WholeLaws.{find-asks, kept-room, standing-asks, tally-beside}
 use Rattle.change_marks.proofs.WholeLaws.{rows-vacant, writing-opened, marked-found}
 use Rattle.change_marks.proofs.receipts.mark_as_writing.Statement.{statement}
 use Rattle.change_marks.proofs.receipts.mark_as_writing.Tie as tie
@@ -47,8 +47,9 @@ returns c =
     let a = o .args in
     let v = rows-vacant (a .s) (a .live) (a .rows .now) (a .counts .now) (a .words .now) (a .cells .now) (o .pre .0) (a .i)
     (f .find .result) (n .enum-told .given .1) (f .find .ensures .1) in
-    writing-opened (a .s) (a .live) (a .rows .now) (a .words .now) (a .cells .now) (a .i) v (a .draws .now) (a .j) (a .has-peer)
-    (a .peer) _ _ _ _ _ (m .open-arrived .ensures)
+    let r = writing-opened (a .s) (a .live) (a .rows .now) (a .words .now) (a .cells .now) (a .i) v (a .draws .now) (a .j) (a .has-peer)
+    (a .peer) _ _ _ _ _ (m .open-arrived .ensures .0) in
+    (r, m .open-arrived .ensures .1)
 
 standing-in-requires : tie.Need-standing-in-requires
 standing-in-requires c κs =
@@ -85,10 +86,11 @@ returns-2 c =
     let f = e .before .before in
     let o = f .before .before .before .before .before .before in
     let a = o .args in
-    marked-found (a .s) (a .live) (a .rows .now) (a .counts .now) (a .words .now) (a .cells .now) (o .pre .0) (a .i) _
+    let r = marked-found (a .s) (a .live) (a .rows .now) (a .counts .now) (a .words .now) (a .cells .now) (o .pre .0) (a .i) _
     (f .find .result) (e .k .given .1) (f .find .ensures .1) (d .standing-in .result) (d .standing-in .ensures) (a .j) (o .pre .1 .0 .1)
     (λ found w. markWritingIn (a .draws .now) (a .i) found (a .j) (namedPeer (a .has-peer) (a .peer)) w) _ _
-    (u .write-block .result) (u .write-block .ensures .marks)
+    (u .write-block .result) (u .write-block .ensures .marks) in
+    (r, kept-room (a .s) (a .live) (a .rows .now) (a .counts .now) (a .words .now) (a .cells .now) (o .pre .0))
 
 pub mark-as-writing-spec : {M : Type 1} → statement M
 mark-as-writing-spec =

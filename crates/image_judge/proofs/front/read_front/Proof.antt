@@ -32,9 +32,18 @@ slice-aggregate-read-pieces c = search needs
 
 read-pieces-requires : tie.Need-read-pieces-requires
 read-pieces-requires c κs =
-    let bytes = c .before .before .before .before .before .before .before .before .args .bytes .now in
-    let g = head-got bytes _ (sym (c .before .before .before .before .head .given .1) ∙ c .before .before .before .before .before .before .read-head .ensures) in
-    (g .headed, (c .before .u64-to-usize .ensures ∙ c .before .before .num-pieces .ensures, omega (arith, head-pieces _ (g .headed .ok), c .before .u64-to-usize .ensures ∙ c .before .before .num-pieces .ensures)))
+    let c4 = c .before .before .before .before in
+    let c6 = c4 .before .before in
+    let c8 = c6 .before .before in
+    let bytes = c8 .args .bytes .now in
+    let g = head-got bytes _ (sym (c4 .head .given .1) ∙ c6 .read-head .ensures) in (
+      g .headed,
+      (
+        c .before .u64-to-usize .ensures ∙ c .before .before .num-pieces .ensures,
+        omega
+            (arith, head-pieces _ (g .headed .ok), c .before .u64-to-usize .ensures ∙ c .before .before .num-pieces .ensures),
+      ),
+    )
 
 enum-told-2 : tie.Need-enum-told-2
 enum-told-2 c = search needs
@@ -44,24 +53,55 @@ slice-aggregate-read-body c = search needs
 
 read-body-requires : tie.Need-read-body-requires
 read-body-requires c κs =
-    let bytes = c .before .before .before .before .before .before .before .before .before .before .before .before .before .args .bytes .now in
-    let g = head-got bytes _ (sym (c .before .before .before .before .before .before .before .before .before .head .given .1) ∙ c .before .before .before .before .before .before .before .before .before .before .before .read-head .ensures) in
-    ((g .headed, pieces-stand bytes _ g _ (c .before .before .before .before .before .before .u64-to-usize .ensures ∙ c .before .before .before .before .before .before .before .num-pieces .ensures) _ _ (c .before .before .before .before .read-pieces .ensures .0) _ (c .before .enum-told2 .given .1)), (c .before .before .before .before .before .before .u64-to-usize .ensures ∙ c .before .before .before .before .before .before .before .num-pieces .ensures, omega (arith, head-pieces _ (g .headed .ok), c .before .before .before .before .before .before .u64-to-usize .ensures ∙ c .before .before .before .before .before .before .before .num-pieces .ensures, c .before .before .before .before .read-pieces .ensures .1)))
+    let c4 = c .before .before .before .before in
+    let c6 = c4 .before .before in
+    let c7 = c6 .before in
+    let c9 = c7 .before .before in
+    let c11 = c9 .before .before in
+    let c13 = c11 .before .before in
+    let bytes = c13 .args .bytes .now in
+    let g = head-got bytes _ (sym (c9 .head .given .1) ∙ c11 .read-head .ensures) in (
+      (
+        g .headed,
+        pieces-stand bytes _ g _ (c6 .u64-to-usize .ensures ∙ c7 .num-pieces .ensures) _ _ (c4 .read-pieces .ensures .0) _
+            (c .before .enum-told2 .given .1),
+      ),
+      (
+        c6 .u64-to-usize .ensures ∙ c7 .num-pieces .ensures,
+        omega
+            (arith, head-pieces _ (g .headed .ok), c6 .u64-to-usize .ensures ∙ c7 .num-pieces .ensures, c4 .read-pieces .ensures .1),
+      ),
+    )
 
 enum-known-k : tie.Need-enum-known-k
 enum-known-k c = search needs
 
 returns-2 : tie.Need-returns-2
 returns-2 c =
-    let bytes = c .before .before .before .before .before .before .before .before .before .before .before .before .before .before .before .args .bytes .now in
-    let g = head-got bytes _ (sym (c .before .before .before .before .before .before .before .before .before .before .before .head .given .1) ∙ c .before .before .before .before .before .before .before .before .before .before .before .before .before .read-head .ensures) in
-    front-read bytes _ g _ (c .before .before .before .before .before .before .before .before .u64-to-usize .ensures ∙ c .before .before .before .before .before .before .before .before .before .num-pieces .ensures) _ _ (c .before .before .before .before .before .before .read-pieces .ensures .0) _ (c .before .before .before .enum-told2 .given .1) _ (c .before .read-body .ensures)
+    let c3 = c .before .before .before in
+    let c6 = c3 .before .before .before in
+    let c8 = c6 .before .before in
+    let c9 = c8 .before in
+    let c11 = c9 .before .before in
+    let c13 = c11 .before .before in
+    let c15 = c13 .before .before in
+    let bytes = c15 .args .bytes .now in
+    let g = head-got bytes _ (sym (c11 .head .given .1) ∙ c13 .read-head .ensures) in
+    front-read bytes _ g _ (c8 .u64-to-usize .ensures ∙ c9 .num-pieces .ensures) _ _ (c6 .read-pieces .ensures .0) _
+    (c3 .enum-told2 .given .1) _ (c .before .read-body .ensures)
 
 returns-3 : tie.Need-returns-3
 returns-3 c =
-    let bytes = c .before .before .before .before .before .before .before .before .before .before .before .before .before .args .bytes .now in
-    let g = head-got bytes _ (sym (c .before .before .before .before .before .before .before .before .before .head .given .1) ∙ c .before .before .before .before .before .before .before .before .before .before .before .read-head .ensures) in
-    pieces-fail bytes _ g _ (c .before .before .before .before .before .before .u64-to-usize .ensures ∙ c .before .before .before .before .before .before .before .num-pieces .ensures) _ _ (c .before .before .before .before .read-pieces .ensures .0) _ (c .before .k .given .1)
+    let c4 = c .before .before .before .before in
+    let c6 = c4 .before .before in
+    let c7 = c6 .before in
+    let c9 = c7 .before .before in
+    let c11 = c9 .before .before in
+    let c13 = c11 .before .before in
+    let bytes = c13 .args .bytes .now in
+    let g = head-got bytes _ (sym (c9 .head .given .1) ∙ c11 .read-head .ensures) in
+    pieces-fail bytes _ g _ (c6 .u64-to-usize .ensures ∙ c7 .num-pieces .ensures) _ _ (c4 .read-pieces .ensures .0) _
+    (c .before .k .given .1)
 
 pub read-front-spec : {M : Type 1} → statement M
 read-front-spec =

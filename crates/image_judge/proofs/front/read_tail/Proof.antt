@@ -22,10 +22,16 @@ enum-known-k c = search needs
 
 read-listing-requires : tie.Need-read-listing-requires
 read-listing-requires c κs =
-    let a = c .before .before .before .before .before .before .before .before .before .before .args in (
-      c .before .before .before .before .before .before .before .before .before .before .pre .1 .0,
-      extents-within (a .at) (a .head) (a .n) (a .bytes .now) _ _ _ (c .before .before .before .before .before .num-extents .ensures) (c .before .before .before .before .before .before .before .usize-to-u64 .ensures) (c .before .before .before .before .before .before .blocks-per-piece .ensures) _
-          (c .before .before .before .before .read-extents .ensures) _ (c .before .before .before .before .before .before .before .before .before .before .pre .0) _ (c .before .before .k .given .1),
+    let c4 = c .before .before .before .before in
+    let c5 = c4 .before in
+    let c6 = c5 .before in
+    let c7 = c6 .before in
+    let c10 = c7 .before .before .before in
+    let a = c10 .args in (
+      c10 .pre .1 .0,
+      extents-within (a .at) (a .head) (a .n) (a .bytes .now) _ _ _ (c5 .num-extents .ensures) (c7 .usize-to-u64 .ensures)
+          (c6 .blocks-per-piece .ensures) _
+          (c4 .read-extents .ensures) _ (c10 .pre .0) _ (c .before .before .k .given .1),
     )
 
 enum-known-k-2 : tie.Need-enum-known-k-2
@@ -36,15 +42,28 @@ same-length c = search needs
 
 returns : tie.Need-returns
 returns c =
-    let a = c .before .before .before .before .before .before .before .before .before .before .before .before .before .args in
-    tail-read (a .at) (a .head) (a .n) (a .bytes .now) _ _ _ (c .before .before .before .before .before .before .before .before .num-extents .ensures) (c .before .before .before .before .before .before .before .before .before .before .usize-to-u64 .ensures) (c .before .before .before .before .before .before .before .before .before .blocks-per-piece .ensures) _
-    (c .before .before .before .before .before .before .before .read-extents .ensures) _ (c .before .before .before .before .before .before .before .before .before .before .before .before .before .pre .0) _ (c .before .before .before .before .before .k .given .1) _ (c .before .before .read-listing .ensures)
+    let c5 = c .before .before .before .before .before in
+    let c7 = c5 .before .before in
+    let c8 = c7 .before in
+    let c9 = c8 .before in
+    let c10 = c9 .before in
+    let c13 = c10 .before .before .before in
+    let a = c13 .args in
+    tail-read (a .at) (a .head) (a .n) (a .bytes .now) _ _ _ (c8 .num-extents .ensures) (c10 .usize-to-u64 .ensures)
+    (c9 .blocks-per-piece .ensures) _
+    (c7 .read-extents .ensures) _ (c13 .pre .0) _ (c5 .k .given .1) _ (c .before .before .read-listing .ensures)
 
 returns-2 : tie.Need-returns-2
 returns-2 c =
-    let a = c .before .before .before .before .before .before .before .before .before .args in
-    extents-fail (a .at) (a .head) (a .n) (a .bytes .now) _ _ _ (c .before .before .before .before .num-extents .ensures) (c .before .before .before .before .before .before .usize-to-u64 .ensures) (c .before .before .before .before .before .blocks-per-piece .ensures) _
-    (c .before .before .before .read-extents .ensures) _ (c .before .k2 .given .1)
+    let c3 = c .before .before .before in
+    let c4 = c3 .before in
+    let c5 = c4 .before in
+    let c6 = c5 .before in
+    let c9 = c6 .before .before .before in
+    let a = c9 .args in
+    extents-fail (a .at) (a .head) (a .n) (a .bytes .now) _ _ _ (c4 .num-extents .ensures) (c6 .usize-to-u64 .ensures)
+    (c5 .blocks-per-piece .ensures) _
+    (c3 .read-extents .ensures) _ (c .before .k2 .given .1)
 
 pub read-tail-spec : {M : Type 1} → statement M
 read-tail-spec =

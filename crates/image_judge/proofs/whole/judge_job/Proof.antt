@@ -12,16 +12,25 @@ enum-known-k : tie.Need-enum-known-k
 enum-known-k c = search needs
 
 judge-pick-requires : tie.Need-judge-pick-requires
-judge-pick-requires c κs = image-ended (c .before .before .before .before .before .args .bytes .now) _ (c .before .before .before .read-front .ensures) _ (c .before .k .given .1) .within
+judge-pick-requires c κs =
+    let c3 = c .before .before .before in
+    let c5 = c3 .before .before in
+    image-ended (c5 .args .bytes .now) _ (c3 .read-front .ensures) _ (c .before .k .given .1) .within
 
 enum-known-k-2 : tie.Need-enum-known-k-2
 enum-known-k-2 c = search needs
 
 returns : tie.Need-returns
-returns c = job-pick (c .before .before .before .before .before .before .args .bytes .now) _ (c .before .before .before .before .read-front .ensures) _ (c .before .before .k .given .1) _ (c .judge-pick .ensures)
+returns c =
+    let c4 = c .before .before .before .before in
+    let c6 = c4 .before .before in
+    job-pick (c6 .args .bytes .now) _ (c4 .read-front .ensures) _ (c .before .before .k .given .1) _ (c .judge-pick .ensures)
 
 returns-2 : tie.Need-returns-2
-returns-2 c = job-fault (c .before .before .before .before .before .args .bytes .now) _ (c .before .before .before .read-front .ensures) _ (c .before .k2 .given .1)
+returns-2 c =
+    let c3 = c .before .before .before in
+    let c5 = c3 .before .before in
+    job-fault (c5 .args .bytes .now) _ (c3 .read-front .ensures) _ (c .before .k2 .given .1)
 
 pub judge-job-spec : {M : Type 1} → statement M
 judge-job-spec =

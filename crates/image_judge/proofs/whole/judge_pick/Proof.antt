@@ -18,26 +18,33 @@ enum-told c = search needs
 
 returns : tie.Need-returns
 returns c =
-    let a = c .before .before .before .before .args in
+    let c4 = c .before .before .before .before in
+    let a = c4 .args in
     let f = subst (PickJudged (a .at) (a .bytes .now)) (c .enum-told .given .1) (c .before .before .read-pick .ensures) in
-    pick-fails (a .at) (a .bytes .now) (c .before .before .before .before .pre) f
+    pick-fails (a .at) (a .bytes .now) (c4 .pre) f
 
 add-end : tie.Need-add-end
 add-end c =
-    let a = c .before .before .before .before .before .args in
-    let f = subst (PickJudged (a .at) (a .bytes .now)) (c .before .p .given .1) (c .before .before .before .read-pick .ensures) in
+    let c3 = c .before .before .before in
+    let c5 = c3 .before .before in
+    let a = c5 .args in
+    let f = subst (PickJudged (a .at) (a .bytes .now)) (c .before .p .given .1) (c3 .read-pick .ensures) in
     omega (arith, pick-got (a .at) (a .bytes .now) _ f 0 .room)
 
 returns-2 : tie.Need-returns-2
 returns-2 c =
-    let a = c .before .before .before .before .before .before .args in
-    let f = subst (PickJudged (a .at) (a .bytes .now)) (c .before .before .p .given .1) (c .before .before .before .before .read-pick .ensures) in
+    let c4 = c .before .before .before .before in
+    let c6 = c4 .before .before in
+    let a = c6 .args in
+    let f = subst (PickJudged (a .at) (a .bytes .now)) (c .before .before .p .given .1) (c4 .read-pick .ensures) in
     pick-more (a .at) (a .bytes .now) _ f (c .if1 .taken)
 
 returns-3 : tie.Need-returns-3
 returns-3 c =
-    let a = c .before .before .before .before .before .before .args in
-    let f = subst (PickJudged (a .at) (a .bytes .now)) (c .before .before .p .given .1) (c .before .before .before .before .read-pick .ensures) in
+    let c4 = c .before .before .before .before in
+    let c6 = c4 .before .before in
+    let a = c6 .args in
+    let f = subst (PickJudged (a .at) (a .bytes .now)) (c .before .before .p .given .1) (c4 .read-pick .ensures) in
     pick-done (a .at) (a .bytes .now) _ f (c .if1 .left)
 
 pub judge-pick-spec : {M : Type 1} → statement M

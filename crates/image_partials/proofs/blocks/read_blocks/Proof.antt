@@ -30,9 +30,11 @@ enum-told c = search needs
 returns : tie.Need-returns Inv-loop μ-loop
 unfolding BlocksJudged
 returns c =
+    let c4 = c .before .before .before .before in
+    let c6 = c4 .before .before in
     let e = sym (c .enum-told .given .1) ∙ c .before .before .read-block .ensures in
-    let p = c .before .before .before .before .loop in
-    let a = c .before .before .before .before .before .before .args in
+    let p = c4 .loop in
+    let a = c6 .args in
     reading-fault _ _ _ _ _ _ (p .inv) (omega arith) (block-bad (p .at) (a .bytes .now) e)
 
 count-block-requires : tie.Need-count-block-requires Inv-loop μ-loop
@@ -42,9 +44,12 @@ count-block-requires c κs =
 
 add-at : tie.Need-add-at Inv-loop μ-loop
 add-at c =
-    let e = sym (c .before .before .b .given .1) ∙ c .before .before .before .before .read-block .ensures in
-    let p = c .before .before .before .before .before .before .loop in
-    let a = c .before .before .before .before .before .before .before .before .args in
+    let c4 = c .before .before .before .before in
+    let c6 = c4 .before .before in
+    let c8 = c6 .before .before in
+    let e = sym (c .before .before .b .given .1) ∙ c4 .read-block .ensures in
+    let p = c6 .loop in
+    let a = c8 .args in
     omega (arith, block-got (p .at) (a .bytes .now) _ e .room)
 
 add-j : tie.Need-add-j Inv-loop μ-loop
@@ -55,9 +60,12 @@ loop-less c = search needs
 
 loop-again : tie.Need-loop-again Inv-loop μ-loop
 loop-again c =
-    let e = sym (c .before .before .b .given .1) ∙ c .before .before .before .before .read-block .ensures in
-    let p = c .before .before .before .before .before .before .loop in
-    let a = c .before .before .before .before .before .before .before .before .args in
+    let c4 = c .before .before .before .before in
+    let c6 = c4 .before .before in
+    let c8 = c6 .before .before in
+    let e = sym (c .before .before .b .given .1) ∙ c4 .read-block .ensures in
+    let p = c6 .loop in
+    let a = c8 .args in
     reading-next _ _ _ _ _ _ (p .inv) (omega arith) _ (block-got (p .at) (a .bytes .now) _ e) _ (c .count-block .ensures)
 
 returns-2 : tie.Need-returns-2 Inv-loop μ-loop

@@ -25,22 +25,30 @@ enum-told c = search needs
 
 returns : tie.Need-returns
 returns c =
-    let a = c .before .before .before .before .args in
+    let c4 = c .before .before .before .before in
+    let a = c4 .args in
     λ s p em es ep. record-fails s (a .i) (a .n) (a .at) p (a .bytes .now)
-    (number-bad partialKind (readPartial (a .i) (a .n)) (a .at) (a .bytes .now) (sym (c .enum-told .given .1) ∙ c .before .before .read-partial .ensures)) (c .before .before .before .before .pre .1)
+    (number-bad partialKind (readPartial (a .i) (a .n)) (a .at) (a .bytes .now)
+    (sym (c .enum-told .given .1) ∙ c .before .before .read-partial .ensures)) (c4 .pre .1)
 
 add-start : tie.Need-add-start
 unfolding bodyLength nth
 add-start c =
-    let a = c .before .before .before .before .before .args in
-    let g = number-got partialKind (readPartial (a .i) (a .n)) (a .at) (a .bytes .now) _ (sym (c .before .flags .given .1) ∙ c .before .before .before .read-partial .ensures) in
+    let c3 = c .before .before .before in
+    let c5 = c3 .before .before in
+    let a = c5 .args in
+    let g = number-got partialKind (readPartial (a .i) (a .n)) (a .at) (a .bytes .now) _
+    (sym (c .before .flags .given .1) ∙ c3 .read-partial .ensures) in
     omega (arith, g .room)
 
 read-blocks-requires : tie.Need-read-blocks-requires
 unfolding bodyLength nth
 read-blocks-requires c κs =
-    let a = c .before .before .before .before .before .args in
-    let g = number-got partialKind (readPartial (a .i) (a .n)) (a .at) (a .bytes .now) _ (sym (c .before .flags .given .1) ∙ c .before .before .before .read-partial .ensures) in
+    let c3 = c .before .before .before in
+    let c5 = c3 .before .before in
+    let a = c5 .args in
+    let g = number-got partialKind (readPartial (a .i) (a .n)) (a .at) (a .bytes .now) _
+    (sym (c .before .flags .given .1) ∙ c3 .read-partial .ensures) in
     (omega (arith, g .room), omega arith, omega arith)
 
 enum-known-t : tie.Need-enum-known-t
@@ -52,9 +60,14 @@ mul-end c = search needs
 add-end : tie.Need-add-end
 unfolding bodyLength nth BlocksJudged
 add-end c =
-    let a = c .before .before .before .before .before .before .before .before .before .args in
-    let g = number-got partialKind (readPartial (a .i) (a .n)) (a .at) (a .bytes .now) _ (sym (c .before .before .before .before .before .flags .given .1) ∙ c .before .before .before .before .before .before .before .read-partial .ensures) in
-    let b = subst (BlocksJudged (a .at + 6) (a .many) (a .bytes .now)) (c .before .t .given .1) (c .before .before .before .read-blocks .ensures) in
+    let c3 = c .before .before .before in
+    let c5 = c3 .before .before in
+    let c7 = c5 .before .before in
+    let c9 = c7 .before .before in
+    let a = c9 .args in
+    let g = number-got partialKind (readPartial (a .i) (a .n)) (a .at) (a .bytes .now) _
+    (sym (c5 .flags .given .1) ∙ c7 .read-partial .ensures) in
+    let b = subst (BlocksJudged (a .at + 6) (a .many) (a .bytes .now)) (c .before .t .given .1) (c3 .read-blocks .ensures) in
     omega (arith, b .room)
 
 usize-to-u64-requires : tie.Need-usize-to-u64-requires
@@ -63,9 +76,14 @@ usize-to-u64-requires c κs = search needs
 state-fits-requires : tie.Need-state-fits-requires
 unfolding BlocksJudged
 state-fits-requires c κs =
-    let a = c .before .before .before .before .before .before .before .before .before .before .args in
-    let g = number-got partialKind (readPartial (a .i) (a .n)) (a .at) (a .bytes .now) _ (sym (c .before .before .before .before .before .before .flags .given .1) ∙ c .before .before .before .before .before .before .before .before .read-partial .ensures) in
-    let b = subst (BlocksJudged (a .at + 6) (a .many) (a .bytes .now)) (c .before .before .t .given .1) (c .before .before .before .before .read-blocks .ensures) in
+    let c4 = c .before .before .before .before in
+    let c6 = c4 .before .before in
+    let c8 = c6 .before .before in
+    let c10 = c8 .before .before in
+    let a = c10 .args in
+    let g = number-got partialKind (readPartial (a .i) (a .n)) (a .at) (a .bytes .now) _
+    (sym (c6 .flags .given .1) ∙ c8 .read-partial .ensures) in
+    let b = subst (BlocksJudged (a .at + 6) (a .many) (a .bytes .now)) (c .before .before .t .given .1) (c4 .read-blocks .ensures) in
     let few = tallied-few _ (b .blocks) (b .tallied) in (
       omega arith,
       omega arith,
@@ -77,10 +95,17 @@ state-fits-requires c κs =
 returns-2 : tie.Need-returns-2
 unfolding BlocksJudged
 returns-2 c =
-    let a = c .before .before .before .before .before .before .before .before .before .before .before .before .args in
-    let g = number-got partialKind (readPartial (a .i) (a .n)) (a .at) (a .bytes .now) _ (sym (c .before .before .before .before .before .before .before .before .flags .given .1) ∙ c .before .before .before .before .before .before .before .before .before .before .read-partial .ensures) in
-    let b = subst (BlocksJudged (a .at + 6) (a .many) (a .bytes .now)) (c .before .before .before .before .t .given .1) (c .before .before .before .before .before .before .read-blocks .ensures) in
-    let m = ap (λ (k : ℕ). stateBy (a .state) (a .priority) (c .before .before .before .before .t .given .0 .0 .requested) (k - c .before .before .before .before .t .given .0 .0 .free) k (leb 4 (c .before .before .before .before .before .before .before .before .flags .given .0 .0)))
+    let c4 = c .before .before .before .before in
+    let c6 = c4 .before .before in
+    let c8 = c6 .before .before in
+    let c10 = c8 .before .before in
+    let c12 = c10 .before .before in
+    let a = c12 .args in
+    let g = number-got partialKind (readPartial (a .i) (a .n)) (a .at) (a .bytes .now) _
+    (sym (c8 .flags .given .1) ∙ c10 .read-partial .ensures) in
+    let b = subst (BlocksJudged (a .at + 6) (a .many) (a .bytes .now)) (c4 .t .given .1) (c6 .read-blocks .ensures) in
+    let m = ap (λ (k : ℕ). stateBy (a .state) (a .priority) (c4 .t .given .0 .0 .requested) (k - c4 .t .given .0 .0 .free) k
+    (leb 4 (c8 .flags .given .0 .0)))
     (c .before .before .usize-to-u64 .ensures) in
     λ s p em es ep. partial-ends s (a .i) (a .n) (a .at) p (a .bytes .now) _ g (a .many) em _ b _ _ es ep
     (sym (c .before .state-fits .ensures ∙ m) ∙ c .if1 .taken)
@@ -94,10 +119,17 @@ enum-known-k c = search needs
 returns-3 : tie.Need-returns-3
 unfolding BlocksJudged
 returns-3 c =
-    let a = c .before .before .before .before .before .before .before .before .before .before .before .before .args in
-    let g = number-got partialKind (readPartial (a .i) (a .n)) (a .at) (a .bytes .now) _ (sym (c .before .before .before .before .before .before .before .before .flags .given .1) ∙ c .before .before .before .before .before .before .before .before .before .before .read-partial .ensures) in
-    let b = subst (BlocksJudged (a .at + 6) (a .many) (a .bytes .now)) (c .before .before .before .before .t .given .1) (c .before .before .before .before .before .before .read-blocks .ensures) in
-    let m = ap (λ (k : ℕ). stateBy (a .state) (a .priority) (c .before .before .before .before .t .given .0 .0 .requested) (k - c .before .before .before .before .t .given .0 .0 .free) k (leb 4 (c .before .before .before .before .before .before .before .before .flags .given .0 .0)))
+    let c4 = c .before .before .before .before in
+    let c6 = c4 .before .before in
+    let c8 = c6 .before .before in
+    let c10 = c8 .before .before in
+    let c12 = c10 .before .before in
+    let a = c12 .args in
+    let g = number-got partialKind (readPartial (a .i) (a .n)) (a .at) (a .bytes .now) _
+    (sym (c8 .flags .given .1) ∙ c10 .read-partial .ensures) in
+    let b = subst (BlocksJudged (a .at + 6) (a .many) (a .bytes .now)) (c4 .t .given .1) (c6 .read-blocks .ensures) in
+    let m = ap (λ (k : ℕ). stateBy (a .state) (a .priority) (c4 .t .given .0 .0 .requested) (k - c4 .t .given .0 .0 .free) k
+    (leb 4 (c8 .flags .given .0 .0)))
     (c .before .before .usize-to-u64 .ensures) in
     λ s p em es ep. partial-stops s (a .i) (a .n) (a .at) p (a .bytes .now) _ g (a .many) em _ b _ _ es ep
     (sym (c .before .state-fits .ensures ∙ m) ∙ c .if1 .left)
@@ -105,9 +137,14 @@ returns-3 c =
 returns-4 : tie.Need-returns-4
 unfolding BlocksJudged
 returns-4 c =
-    let a = c .before .before .before .before .before .before .before .before .before .args in
-    let g = number-got partialKind (readPartial (a .i) (a .n)) (a .at) (a .bytes .now) _ (sym (c .before .before .before .before .before .flags .given .1) ∙ c .before .before .before .before .before .before .before .read-partial .ensures) in
-    let b = subst (BlocksJudged (a .at + 6) (a .many) (a .bytes .now)) (c .before .k .given .1) (c .before .before .before .read-blocks .ensures) in
+    let c3 = c .before .before .before in
+    let c5 = c3 .before .before in
+    let c7 = c5 .before .before in
+    let c9 = c7 .before .before in
+    let a = c9 .args in
+    let g = number-got partialKind (readPartial (a .i) (a .n)) (a .at) (a .bytes .now) _
+    (sym (c5 .flags .given .1) ∙ c7 .read-partial .ensures) in
+    let b = subst (BlocksJudged (a .at + 6) (a .many) (a .bytes .now)) (c .before .k .given .1) (c3 .read-blocks .ensures) in
     λ s p em es ep. block-fails s (a .i) (a .n) (a .at) p (a .bytes .now) _ g (a .many) em _ b
 
 pub read-whole-spec : {M : Type 1} → statement M

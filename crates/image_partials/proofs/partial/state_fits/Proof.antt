@@ -26,7 +26,17 @@ state-ok-requires : tie.Need-state-ok-requires
 state-ok-requires c κs = search needs
 
 returns : tie.Need-returns
-returns c = c .state-ok .ensures ∙ rw (c .before .before .before .before .before .before .u64-to-u16 .ensures, c .before .before .before .before .before .u64-to-u162 .ensures, c .before .before .before .before .u64-to-u163 .ensures, c .before .before .u64-to-u164 .ensures, c .before .u64-to-u165 .ensures)
+returns c =
+    let c4 = c .before .before .before .before in
+    let c5 = c4 .before in
+    let c6 = c5 .before in
+    c .state-ok .ensures ∙ rw (
+      c6 .u64-to-u16 .ensures,
+      c5 .u64-to-u162 .ensures,
+      c4 .u64-to-u163 .ensures,
+      c .before .before .u64-to-u164 .ensures,
+      c .before .u64-to-u165 .ensures,
+    )
 
 pub state-fits-spec : {M : Type 1} → statement M
 state-fits-spec =

@@ -24,7 +24,9 @@ loop-holds : tie.Need-loop-holds Inv-loop μ-loop
 loop-holds c = walking-start _ _ _ (c .before .pre .0 .1 .room)
 
 pass-piece-requires : tie.Need-pass-piece-requires Inv-loop μ-loop
-pass-piece-requires c κs = (c .before .before .before .pre .0, ((c .before .before .before .pre .1, omega arith), (c .before .loop .inv .room, c .before .loop .inv .few)))
+pass-piece-requires c κs =
+    let c3 = c .before .before .before in
+    (c3 .pre .0, ((c3 .pre .1, omega arith), (c .before .loop .inv .room, c .before .loop .inv .few)))
 
 enum-known-next : tie.Need-enum-known-next Inv-loop μ-loop
 enum-known-next c = search needs
@@ -35,9 +37,13 @@ enum-known-k c = search needs
 returns : tie.Need-returns Inv-loop μ-loop
 unfolding Stepped
 returns c =
-    let a = c .before .before .before .before .before .before .before .args in
-    let p = c .before .before .before .before .before .loop in
-    walking-fault _ _ _ _ _ (p .inv) (omega arith) _ (subst (Stepped (a .head) (p .i) (p .w) (a .bytes .now)) (c .before .k .given .1) (c .before .before .before .pass-piece .ensures))
+    let c3 = c .before .before .before in
+    let c5 = c3 .before .before in
+    let c7 = c5 .before .before in
+    let a = c7 .args in
+    let p = c5 .loop in
+    walking-fault _ _ _ _ _ (p .inv) (omega arith) _ (subst (Stepped (a .head) (p .i) (p .w) (a .bytes .now)) (c .before .k .given .1)
+    (c3 .pass-piece .ensures))
 
 add-i : tie.Need-add-i Inv-loop μ-loop
 add-i c = search needs
@@ -48,9 +54,13 @@ loop-less c = search needs
 loop-again : tie.Need-loop-again Inv-loop μ-loop
 unfolding Stepped
 loop-again c =
-    let a = c .before .before .before .before .before .before .before .args in
-    let p = c .before .before .before .before .before .loop in
-    walking-next _ _ _ _ _ (p .inv) (omega arith) _ (subst (Stepped (a .head) (p .i) (p .w) (a .bytes .now)) (c .before .next .given .1) (c .before .before .before .pass-piece .ensures))
+    let c3 = c .before .before .before in
+    let c5 = c3 .before .before in
+    let c7 = c5 .before .before in
+    let a = c7 .args in
+    let p = c5 .loop in
+    walking-next _ _ _ _ _ (p .inv) (omega arith) _ (subst (Stepped (a .head) (p .i) (p .w) (a .bytes .now)) (c .before .next .given .1)
+    (c3 .pass-piece .ensures))
 
 returns-2 : tie.Need-returns-2 Inv-loop μ-loop
 returns-2 c = walking-end _ _ _ _ _ (c .before .loop .inv) (omega arith)

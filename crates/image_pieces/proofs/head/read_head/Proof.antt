@@ -46,10 +46,32 @@ head-ok-requires : tie.Need-head-ok-requires
 head-ok-requires c κs = search needs
 
 returns-2 : tie.Need-returns-2
-returns-2 c = head-found _ (sym (c .before .before .before .before .before .before .before .before .before .before .stands .ensures) ∙ not-false _ (c .before .before .before .before .before .before .before .before .before .if1 .left)) _ (c .before .before .before .before .before .before .before .before .body-of .ensures) _ _ _ _ _ _ (c .before .before .before .before .before .before .before .read8 .ensures .is) (c .before .before .before .before .before .before .read4 .ensures .is) (c .before .before .before .before .before .read2 .ensures .is) (c .before .before .before .before .read42 .ensures .is) (c .before .before .before .read43 .ensures .is) (c .before .before .read1 .ensures .is) (sym (c .before .head-ok .ensures) ∙ c .if2 .taken)
+returns-2 c =
+    let c3 = c .before .before .before in
+    let c4 = c3 .before in
+    let c5 = c4 .before in
+    let c6 = c5 .before in
+    let c7 = c6 .before in
+    let c8 = c7 .before in
+    let c9 = c8 .before in
+    let c10 = c9 .before in
+    head-found _ (sym (c10 .stands .ensures) ∙ not-false _ (c9 .if1 .left)) _ (c8 .body-of .ensures) _ _ _ _ _ _ (c7 .read8 .ensures .is)
+    (c6 .read4 .ensures .is) (c5 .read2 .ensures .is) (c4 .read42 .ensures .is) (c3 .read43 .ensures .is)
+    (c .before .before .read1 .ensures .is) (sym (c .before .head-ok .ensures) ∙ c .if2 .taken)
 
 returns-3 : tie.Need-returns-3
-returns-3 c = head-fault _ (sym (c .before .before .before .before .before .before .before .before .before .before .stands .ensures) ∙ not-false _ (c .before .before .before .before .before .before .before .before .before .if1 .left)) _ (c .before .before .before .before .before .before .before .before .body-of .ensures) _ _ _ _ _ _ (c .before .before .before .before .before .before .before .read8 .ensures .is) (c .before .before .before .before .before .before .read4 .ensures .is) (c .before .before .before .before .before .read2 .ensures .is) (c .before .before .before .before .read42 .ensures .is) (c .before .before .before .read43 .ensures .is) (c .before .before .read1 .ensures .is) (sym (c .before .head-ok .ensures) ∙ c .if2 .left)
+returns-3 c =
+    let c3 = c .before .before .before in
+    let c4 = c3 .before in
+    let c5 = c4 .before in
+    let c6 = c5 .before in
+    let c7 = c6 .before in
+    let c8 = c7 .before in
+    let c9 = c8 .before in
+    let c10 = c9 .before in
+    head-fault _ (sym (c10 .stands .ensures) ∙ not-false _ (c9 .if1 .left)) _ (c8 .body-of .ensures) _ _ _ _ _ _ (c7 .read8 .ensures .is)
+    (c6 .read4 .ensures .is) (c5 .read2 .ensures .is) (c4 .read42 .ensures .is) (c3 .read43 .ensures .is)
+    (c .before .before .read1 .ensures .is) (sym (c .before .head-ok .ensures) ∙ c .if2 .left)
 
 pub read-head-spec : {M : Type 1} → statement M
 read-head-spec =

@@ -50,20 +50,29 @@ same-length c = search needs
 returns : tie.Need-returns Inv-loop μ-loop
 unfolding headPicker pieceSizeAt PiecesRead
 returns c =
-    let a = c .before .before .before .before .before .before .before .before .before .args in
-    let i = c .before .before .before .before .before .before .loop .i in
-    let size = sym (c .before .before .before .piece-length .ensures ∙ ap (pieceLength (a .head .total) (a .head .size)) (c .before .before .before .before .usize-to-u64 .ensures)) in
+    let c3 = c .before .before .before in
+    let c4 = c3 .before in
+    let c6 = c4 .before .before in
+    let c9 = c6 .before .before .before in
+    let a = c9 .args in
+    let i = c6 .loop .i in
+    let size = sym (c3 .piece-length .ensures ∙ ap (pieceLength (a .head .total) (a .head .size)) (c4 .usize-to-u64 .ensures)) in
     let e = sym (c .enum-told .given .1) ∙ c .before .before .read-piece .ensures (headPicker (a .head)) i refl size in
-    let inv = c .before .before .before .before .before .before .loop .inv in
+    let inv = c6 .loop .inv in
     (reading-fault _ _ _ _ _ _ inv (omega arith) (piece-bad (headPicker (a .head)) i (24 + 10 * i) (a .bytes .now) e), inv .wide)
 
 rank-of-requires : tie.Need-rank-of-requires Inv-loop μ-loop
 unfolding headPicker pieceSizeAt
 rank-of-requires c κs =
-    let a = c .before .before .before .before .before .before .before .before .before .before .args in
-    let i = c .before .before .before .before .before .before .before .loop .i in
-    let size = sym (c .before .before .before .before .piece-length .ensures ∙ ap (pieceLength (a .head .total) (a .head .size)) (c .before .before .before .before .before .usize-to-u64 .ensures)) in
-    let e = sym (c .before .p .given .1) ∙ c .before .before .before .read-piece .ensures (headPicker (a .head)) i refl size in
+    let c3 = c .before .before .before in
+    let c4 = c3 .before in
+    let c5 = c4 .before in
+    let c7 = c5 .before .before in
+    let c10 = c7 .before .before .before in
+    let a = c10 .args in
+    let i = c7 .loop .i in
+    let size = sym (c4 .piece-length .ensures ∙ ap (pieceLength (a .head .total) (a .head .size)) (c5 .usize-to-u64 .ensures)) in
+    let e = sym (c .before .p .given .1) ∙ c3 .read-piece .ensures (headPicker (a .head)) i refl size in
     let g = piece-got (headPicker (a .head)) i (24 + 10 * i) (a .bytes .now) _ e in
     (g .count-most, g .priority-most)
 
@@ -82,11 +91,16 @@ loop-less c = search needs
 loop-again : tie.Need-loop-again Inv-loop μ-loop
 unfolding headPicker pieceSizeAt
 loop-again c =
-    let a = c .before .before .before .before .before .before .before .before .before .before .before .args in
-    let i = c .before .before .before .before .before .before .before .before .loop .i in
-    let size = sym (c .before .before .before .before .before .piece-length .ensures ∙ ap (pieceLength (a .head .total) (a .head .size)) (c .before .before .before .before .before .before .usize-to-u64 .ensures)) in
-    let e = sym (c .before .before .p .given .1) ∙ c .before .before .before .before .read-piece .ensures (headPicker (a .head)) i refl size in
-    reading-next _ _ _ _ _ _ (c .before .before .before .before .before .before .before .before .loop .inv) (omega arith) _ (piece-got (headPicker (a .head)) i (24 + 10 * i) (a .bytes .now) _ e) _
+    let c4 = c .before .before .before .before in
+    let c5 = c4 .before in
+    let c6 = c5 .before in
+    let c8 = c6 .before .before in
+    let c11 = c8 .before .before .before in
+    let a = c11 .args in
+    let i = c8 .loop .i in
+    let size = sym (c5 .piece-length .ensures ∙ ap (pieceLength (a .head .total) (a .head .size)) (c6 .usize-to-u64 .ensures)) in
+    let e = sym (c .before .before .p .given .1) ∙ c4 .read-piece .ensures (headPicker (a .head)) i refl size in
+    reading-next _ _ _ _ _ _ (c8 .loop .inv) (omega arith) _ (piece-got (headPicker (a .head)) i (24 + 10 * i) (a .bytes .now) _ e) _
     (c .rank-of .ensures)
 
 mul-t15 : tie.Need-mul-t15 Inv-loop μ-loop

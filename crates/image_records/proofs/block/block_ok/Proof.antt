@@ -12,7 +12,8 @@ peer-fits-requires c κs = search needs
 
 returns : tie.Need-returns
 unfolding blockTest
-returns c = and-assoc (leb (c .before .args .state) 3) (c .peer-fits .result) (leb (c .before .args .num-peers) 1000) ∙ ap (λ (t : Bool). leb (c .before .args .state) 3 && (t && leb (c .before .args .num-peers) 1000)) (c .peer-fits .ensures)
+returns c = and-assoc (leb (c .before .args .state) 3) (c .peer-fits .result) (leb (c .before .args .num-peers) 1000) ∙ ap
+    (λ (t : Bool). leb (c .before .args .state) 3 && (t && leb (c .before .args .num-peers) 1000)) (c .peer-fits .ensures)
 
 pub block-ok-spec : {M : Type 1} → statement M
 block-ok-spec = tie.close (tie.spec peer-fits-requires returns)

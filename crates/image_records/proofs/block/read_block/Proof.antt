@@ -13,7 +13,8 @@ stands-requires : tie.Need-stands-requires
 stands-requires c κs = search needs
 
 returns : tie.Need-returns
-returns c = block-none (c .before .before .before .args .at) (c .before .before .before .args .bytes .now) (sym (c .before .stands .ensures) ∙ not-true _ (c .if1 .taken))
+returns c = block-none (c .before .before .before .args .at) (c .before .before .before .args .bytes .now)
+    (sym (c .before .stands .ensures) ∙ not-true _ (c .if1 .taken))
 
 body-of-requires : tie.Need-body-of-requires
 body-of-requires c κs = ((omega arith, omega arith), sym (c .before .stands .ensures) ∙ not-false _ (c .if1 .left))
@@ -38,10 +39,28 @@ block-ok-requires : tie.Need-block-ok-requires
 block-ok-requires c κs = search needs
 
 returns-2 : tie.Need-returns-2
-returns-2 c = block-found _ _ (sym (c .before .before .before .before .before .before .before .before .stands .ensures) ∙ not-false _ (c .before .before .before .before .before .before .before .if1 .left)) _ (c .before .before .before .before .before .before .body-of .ensures) _ _ _ _ (c .before .before .before .before .before .read1 .ensures .is) (c .before .before .before .before .read2 .ensures .is) (c .before .before .before .read12 .ensures .is) (c .before .before .read8 .ensures .is) (c .before .before .read8 .ensures .small) (sym (c .before .block-ok .ensures) ∙ c .if2 .taken)
+returns-2 c =
+    let c3 = c .before .before .before in
+    let c4 = c3 .before in
+    let c5 = c4 .before in
+    let c6 = c5 .before in
+    let c7 = c6 .before in
+    let c8 = c7 .before in
+    block-found _ _ (sym (c8 .stands .ensures) ∙ not-false _ (c7 .if1 .left)) _ (c6 .body-of .ensures) _ _ _ _ (c5 .read1 .ensures .is)
+    (c4 .read2 .ensures .is) (c3 .read12 .ensures .is) (c .before .before .read8 .ensures .is)
+    (c .before .before .read8 .ensures .small) (sym (c .before .block-ok .ensures) ∙ c .if2 .taken)
 
 returns-3 : tie.Need-returns-3
-returns-3 c = block-fault _ _ (sym (c .before .before .before .before .before .before .before .before .stands .ensures) ∙ not-false _ (c .before .before .before .before .before .before .before .if1 .left)) _ (c .before .before .before .before .before .before .body-of .ensures) _ _ _ _ (c .before .before .before .before .before .read1 .ensures .is) (c .before .before .before .before .read2 .ensures .is) (c .before .before .before .read12 .ensures .is) (c .before .before .read8 .ensures .is) (c .before .before .read8 .ensures .small) (sym (c .before .block-ok .ensures) ∙ c .if2 .left)
+returns-3 c =
+    let c3 = c .before .before .before in
+    let c4 = c3 .before in
+    let c5 = c4 .before in
+    let c6 = c5 .before in
+    let c7 = c6 .before in
+    let c8 = c7 .before in
+    block-fault _ _ (sym (c8 .stands .ensures) ∙ not-false _ (c7 .if1 .left)) _ (c6 .body-of .ensures) _ _ _ _ (c5 .read1 .ensures .is)
+    (c4 .read2 .ensures .is) (c3 .read12 .ensures .is) (c .before .before .read8 .ensures .is)
+    (c .before .before .read8 .ensures .small) (sym (c .before .block-ok .ensures) ∙ c .if2 .left)
 
 pub read-block-spec : {M : Type 1} → statement M
 read-block-spec =

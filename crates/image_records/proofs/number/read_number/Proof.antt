@@ -12,16 +12,20 @@ stands-requires : tie.Need-stands-requires
 stands-requires c κs = search needs
 
 returns : tie.Need-returns
-returns c = number-none _ (c .before .before .before .args .at) (c .before .before .before .args .bytes .now) (sym (c .before .stands .ensures) ∙ not-true _ (c .if1 .taken))
+returns c = number-none _ (c .before .before .before .args .at) (c .before .before .before .args .bytes .now)
+    (sym (c .before .stands .ensures) ∙ not-true _ (c .if1 .taken))
 
 body-of-requires : tie.Need-body-of-requires
 body-of-requires c κs = ((omega arith, omega arith), sym (c .before .stands .ensures) ∙ not-false _ (c .if1 .left))
 
 read4-requires : tie.Need-read4-requires
-read4-requires c κs = omega (arith, c .body-of .ensures .long, four _ (c .before .before .before .before .pre .0) (c .before .before .before .before .pre .1))
+read4-requires c κs =
+    let c4 = c .before .before .before .before in
+    omega (arith, c .body-of .ensures .long, four _ (c4 .pre .0) (c4 .pre .1))
 
 returns-2 : tie.Need-returns-2
-returns-2 c = number-found _ _ _ (sym (c .before .before .before .stands .ensures) ∙ not-false _ (c .before .before .if1 .left)) _ (c .before .body-of .ensures) _ (c .read4 .ensures .is)
+returns-2 c = number-found _ _ _ (sym (c .before .before .before .stands .ensures) ∙ not-false _ (c .before .before .if1 .left)) _
+    (c .before .body-of .ensures) _ (c .read4 .ensures .is)
 
 pub read-number-spec : {M : Type 1} → statement M
 read-number-spec =

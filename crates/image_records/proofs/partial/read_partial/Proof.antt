@@ -13,7 +13,8 @@ stands-requires : tie.Need-stands-requires
 stands-requires c κs = search needs
 
 returns : tie.Need-returns
-returns c = partial-none _ _ (c .before .before .before .args .at) (c .before .before .before .args .bytes .now) (sym (c .before .stands .ensures) ∙ not-true _ (c .if1 .taken))
+returns c = partial-none _ _ (c .before .before .before .args .at) (c .before .before .before .args .bytes .now)
+    (sym (c .before .stands .ensures) ∙ not-true _ (c .if1 .taken))
 
 body-of-requires : tie.Need-body-of-requires
 body-of-requires c κs = ((omega arith, omega arith), sym (c .before .stands .ensures) ∙ not-false _ (c .if1 .left))
@@ -27,10 +28,20 @@ unfolding bodyLength nth
 read4-requires c κs = omega (arith, c .before .body-of .ensures .long)
 
 returns-2 : tie.Need-returns-2
-returns-2 c = partial-found _ _ _ _ (sym (c .before .before .before .before .before .stands .ensures) ∙ not-false _ (c .before .before .before .before .if1 .left)) _ (c .before .before .before .body-of .ensures) _ _ (c .before .read4 .ensures .is) (c .before .before .read1 .ensures .is) (c .if2 .taken)
+returns-2 c =
+    let c3 = c .before .before .before in
+    let c4 = c3 .before in
+    let c5 = c4 .before in
+    partial-found _ _ _ _ (sym (c5 .stands .ensures) ∙ not-false _ (c4 .if1 .left)) _ (c3 .body-of .ensures) _ _
+    (c .before .read4 .ensures .is) (c .before .before .read1 .ensures .is) (c .if2 .taken)
 
 returns-3 : tie.Need-returns-3
-returns-3 c = partial-fault _ _ _ _ (sym (c .before .before .before .before .before .stands .ensures) ∙ not-false _ (c .before .before .before .before .if1 .left)) _ (c .before .before .before .body-of .ensures) _ _ (c .before .read4 .ensures .is) (c .before .before .read1 .ensures .is) (c .if2 .left)
+returns-3 c =
+    let c3 = c .before .before .before in
+    let c4 = c3 .before in
+    let c5 = c4 .before in
+    partial-fault _ _ _ _ (sym (c5 .stands .ensures) ∙ not-false _ (c4 .if1 .left)) _ (c3 .body-of .ensures) _ _
+    (c .before .read4 .ensures .is) (c .before .before .read1 .ensures .is) (c .if2 .left)
 
 pub read-partial-spec : {M : Type 1} → statement M
 read-partial-spec =

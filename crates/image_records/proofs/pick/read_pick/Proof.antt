@@ -13,7 +13,8 @@ stands-requires : tie.Need-stands-requires
 stands-requires c κs = search needs
 
 returns : tie.Need-returns
-returns c = pick-none (c .before .before .before .args .at) (c .before .before .before .args .bytes .now) (sym (c .before .stands .ensures) ∙ not-true _ (c .if1 .taken))
+returns c = pick-none (c .before .before .before .args .at) (c .before .before .before .args .bytes .now)
+    (sym (c .before .stands .ensures) ∙ not-true _ (c .if1 .taken))
 
 body-of-requires : tie.Need-body-of-requires
 body-of-requires c κs = ((omega arith, omega arith), sym (c .before .stands .ensures) ∙ not-false _ (c .if1 .left))
@@ -30,7 +31,13 @@ peer-fits-requires : tie.Need-peer-fits-requires
 peer-fits-requires c κs = search needs
 
 returns-2 : tie.Need-returns-2
-returns-2 c = pick-fault _ _ (sym (c .before .before .before .before .before .before .stands .ensures) ∙ not-false _ (c .before .before .before .before .before .if1 .left)) _ (c .before .before .before .before .body-of .ensures) _ _ (c .before .before .before .read1 .ensures .is) (c .before .before .read8 .ensures .is) (sym (c .before .peer-fits .ensures) ∙ not-true _ (c .if2 .taken))
+returns-2 c =
+    let c3 = c .before .before .before in
+    let c4 = c3 .before in
+    let c5 = c4 .before in
+    let c6 = c5 .before in
+    pick-fault _ _ (sym (c6 .stands .ensures) ∙ not-false _ (c5 .if1 .left)) _ (c4 .body-of .ensures) _ _ (c3 .read1 .ensures .is)
+    (c .before .before .read8 .ensures .is) (sym (c .before .peer-fits .ensures) ∙ not-true _ (c .if2 .taken))
 
 read2-requires : tie.Need-read2-requires
 unfolding bodyLength nth
@@ -49,7 +56,18 @@ unfolding bodyLength nth
 read2-requires-4 c κs = omega (arith, c .before .before .before .before .before .before .before .body-of .ensures .long)
 
 returns-3 : tie.Need-returns-3
-returns-3 c = pick-found _ _ (sym (c .before .before .before .before .before .before .before .before .before .before .stands .ensures) ∙ not-false _ (c .before .before .before .before .before .before .before .before .before .if1 .left)) _ (c .before .before .before .before .before .before .before .before .body-of .ensures) _ _ (c .before .before .before .before .before .before .before .read1 .ensures .is) (c .before .before .before .before .before .before .read8 .ensures .is) (sym (c .before .before .before .before .before .peer-fits .ensures) ∙ not-false _ (c .before .before .before .before .if2 .left)) _ _ _ _ (c .before .before .before .read2 .ensures .is) (c .before .before .read22 .ensures .is) (c .before .read23 .ensures .is) (c .read24 .ensures .is)
+returns-3 c =
+    let c3 = c .before .before .before in
+    let c4 = c3 .before in
+    let c5 = c4 .before in
+    let c6 = c5 .before in
+    let c7 = c6 .before in
+    let c8 = c7 .before in
+    let c9 = c8 .before in
+    let c10 = c9 .before in
+    pick-found _ _ (sym (c10 .stands .ensures) ∙ not-false _ (c9 .if1 .left)) _ (c8 .body-of .ensures) _ _ (c7 .read1 .ensures .is)
+    (c6 .read8 .ensures .is) (sym (c5 .peer-fits .ensures) ∙ not-false _ (c4 .if2 .left)) _ _ _ _ (c3 .read2 .ensures .is)
+    (c .before .before .read22 .ensures .is) (c .before .read23 .ensures .is) (c .read24 .ensures .is)
 
 pub read-pick-spec : {M : Type 1} → statement M
 read-pick-spec =

@@ -28,7 +28,8 @@ read4-requires : tie.Need-read4-requires Inv-loop μ-loop
 read4-requires c κs = omega (arith, c .before .before .before .pre .1)
 
 returns : tie.Need-returns Inv-loop μ-loop
-returns c = sought-found _ _ _ _ (c .before .before .before .loop .j) (c .before .before .before .loop .inv) (omega arith) _ (c .before .read4 .ensures) (c .if1 .taken)
+returns c = sought-found _ _ _ _ (c .before .before .before .loop .j) (c .before .before .before .loop .inv) (omega arith) _
+    (c .before .read4 .ensures) (c .if1 .taken)
 
 add-j : tie.Need-add-j Inv-loop μ-loop
 add-j c = search needs
@@ -37,7 +38,8 @@ loop-less : tie.Need-loop-less Inv-loop μ-loop
 loop-less c = search needs
 
 loop-again : tie.Need-loop-again Inv-loop μ-loop
-loop-again c = sought-next _ _ _ _ (c .before .before .before .loop .j) (c .before .before .before .loop .inv) (omega arith) _ (c .before .read4 .ensures) (c .if1 .left)
+loop-again c = sought-next _ _ _ _ (c .before .before .before .loop .j) (c .before .before .before .loop .inv) (omega arith) _
+    (c .before .read4 .ensures) (c .if1 .left)
 
 returns-2 : tie.Need-returns-2 Inv-loop μ-loop
 returns-2 c = sought-end _ _ _ _ (c .before .loop .j) (c .before .loop .inv) (omega arith)

@@ -7,7 +7,8 @@ use Rattle.model.specs.Lists.{nth}
 use Rattle.model.specs.image.Image.{bodyLength, extentKind}
 use Rattle.image_records.specs.Records.{numberIn}
 use Rattle.image_records.proofs.FoundLaws.{number-got, number-bad}
-use Rattle.image_tail.proofs.ExtentLaws.{Reading, reading-start, reading-ends, reading-full, reading-fault, reading-breaks, reading-next}
+use Rattle.image_tail.proofs.ExtentLaws.{Reading, reading-start, reading-ends, reading-full, reading-fault, reading-breaks}
+use Rattle.image_tail.proofs.ExtentLaws.{reading-next}
 use borrow.Author.Needs.{needs}
 use Rattle.image_tail.proofs.extents.read_extents.Statement.{statement}
 use Rattle.image_tail.proofs.extents.read_extents.Tie as tie
@@ -38,9 +39,13 @@ enum-told c = search needs
 
 returns-2 : tie.Need-returns-2 Inv-loop μ-loop
 returns-2 c =
-    let a = c .before .before .before .before .before .before .before .before .args in
-    let p = c .before .before .before .before .before .before .loop in
-    reading-fault _ _ _ _ _ (p .inv) (omega arith) (sym (c .before .before .before .before .comes .ensures) ∙ not-false _ (c .before .before .before .if1 .left))
+    let c3 = c .before .before .before in
+    let c4 = c3 .before in
+    let c6 = c4 .before .before in
+    let c8 = c6 .before .before in
+    let a = c8 .args in
+    let p = c6 .loop in
+    reading-fault _ _ _ _ _ (p .inv) (omega arith) (sym (c4 .comes .ensures) ∙ not-false _ (c3 .if1 .left))
     (number-bad extentKind numberIn (p .at) (a .bytes .now) (sym (c .enum-told .given .1) ∙ c .before .before .read-number .ensures))
 
 among-requires : tie.Need-among-requires Inv-loop μ-loop
@@ -50,17 +55,28 @@ among-requires c κs =
 
 returns-3 : tie.Need-returns-3 Inv-loop μ-loop
 returns-3 c =
-    let a = c .before .before .before .before .before .before .before .before .before .before .before .args in
-    let p = c .before .before .before .before .before .before .before .before .before .loop in
-    let g = number-got extentKind numberIn (p .at) (a .bytes .now) _ (sym (c .before .before .before .e .given .1) ∙ c .before .before .before .before .before .read-number .ensures) in
-    reading-breaks _ _ _ _ _ (p .inv) (omega arith) (sym (c .before .before .before .before .before .before .before .comes .ensures) ∙ not-false _ (c .before .before .before .before .before .before .if1 .left)) _ g _ (c .before .among .ensures) (c .if2 .taken)
+    let c3 = c .before .before .before in
+    let c5 = c3 .before .before in
+    let c6 = c5 .before in
+    let c7 = c6 .before in
+    let c9 = c7 .before .before in
+    let c11 = c9 .before .before in
+    let a = c11 .args in
+    let p = c9 .loop in
+    let g = number-got extentKind numberIn (p .at) (a .bytes .now) _ (sym (c3 .e .given .1) ∙ c5 .read-number .ensures) in
+    reading-breaks _ _ _ _ _ (p .inv) (omega arith) (sym (c7 .comes .ensures) ∙ not-false _ (c6 .if1 .left)) _ g _
+    (c .before .among .ensures) (c .if2 .taken)
 
 add-at : tie.Need-add-at Inv-loop μ-loop
 unfolding bodyLength nth
 add-at c =
-    let a = c .before .before .before .before .before .before .before .before .before .before .before .args in
-    let p = c .before .before .before .before .before .before .before .before .before .loop in
-    let g = number-got extentKind numberIn (p .at) (a .bytes .now) _ (sym (c .before .before .before .e .given .1) ∙ c .before .before .before .before .before .read-number .ensures) in
+    let c3 = c .before .before .before in
+    let c5 = c3 .before .before in
+    let c9 = c5 .before .before .before .before in
+    let c11 = c9 .before .before in
+    let a = c11 .args in
+    let p = c9 .loop in
+    let g = number-got extentKind numberIn (p .at) (a .bytes .now) _ (sym (c3 .e .given .1) ∙ c5 .read-number .ensures) in
     omega (arith, g .room)
 
 add-k : tie.Need-add-k Inv-loop μ-loop
@@ -71,10 +87,17 @@ loop-less c = search needs
 
 loop-again : tie.Need-loop-again Inv-loop μ-loop
 loop-again c =
-    let a = c .before .before .before .before .before .before .before .before .before .before .before .args in
-    let p = c .before .before .before .before .before .before .before .before .before .loop in
-    let g = number-got extentKind numberIn (p .at) (a .bytes .now) _ (sym (c .before .before .before .e .given .1) ∙ c .before .before .before .before .before .read-number .ensures) in
-    reading-next _ _ _ _ _ (p .inv) (omega arith) (sym (c .before .before .before .before .before .before .before .comes .ensures) ∙ not-false _ (c .before .before .before .before .before .before .if1 .left)) _ g _ (c .before .among .ensures) (c .if2 .left)
+    let c3 = c .before .before .before in
+    let c5 = c3 .before .before in
+    let c6 = c5 .before in
+    let c7 = c6 .before in
+    let c9 = c7 .before .before in
+    let c11 = c9 .before .before in
+    let a = c11 .args in
+    let p = c9 .loop in
+    let g = number-got extentKind numberIn (p .at) (a .bytes .now) _ (sym (c3 .e .given .1) ∙ c5 .read-number .ensures) in
+    reading-next _ _ _ _ _ (p .inv) (omega arith) (sym (c7 .comes .ensures) ∙ not-false _ (c6 .if1 .left)) _ g _
+    (c .before .among .ensures) (c .if2 .left)
 
 comes-requires-2 : tie.Need-comes-requires-2 Inv-loop μ-loop
 comes-requires-2 c κs = search needs

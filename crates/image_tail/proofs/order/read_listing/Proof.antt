@@ -18,7 +18,12 @@ same-length : tie.Need-same-length
 same-length c = search needs
 
 returns-2 : tie.Need-returns-2
-returns-2 c = listing-fresh (c .before .before .before .before .before .before .before .before .before .args .at) _ _ _ (c .before .before .before .before .before .before .before .before .before .args .bytes .now) (c .before .before .before .before .before .before .if1 .left) _ (c .before .before .before .before .ranked .ensures) (c .before .before .read-order .result) (c .before .before .read-order .ensures)
+returns-2 c =
+    let c4 = c .before .before .before .before in
+    let c6 = c4 .before .before in
+    let c9 = c6 .before .before .before in
+    listing-fresh (c9 .args .at) _ _ _ (c9 .args .bytes .now) (c6 .if1 .left) _ (c4 .ranked .ensures)
+    (c .before .before .read-order .result) (c .before .before .read-order .ensures)
 
 pub read-listing-spec : {M : Type 1} → statement M
 read-listing-spec =

@@ -31,10 +31,21 @@ same-length : tie.Need-same-length Inv-loop μ-loop
 same-length c = search needs
 
 returns : tie.Need-returns Inv-loop μ-loop
-returns c = reading-fault _ _ _ _ _ _ _ (c .before .before .before .before .before .before .before .loop .last) (c .before .before .before .before .before .before .before .loop .at) (c .before .before .before .before .before .before .before .loop .k) (c .before .before .before .before .before .before .before .loop .inv) (omega arith) _ _ (c .before .before .before .before .take-place .ensures) (c .enum-told .given .1)
+returns c =
+    let c4 = c .before .before .before .before in
+    let c7 = c4 .before .before .before in
+    reading-fault _ _ _ _ _ _ _ (c7 .loop .last) (c7 .loop .at) (c7 .loop .k) (c7 .loop .inv) (omega arith) _ _ (c4 .take-place .ensures)
+    (c .enum-told .given .1)
 
 add-at : tie.Need-add-at Inv-loop μ-loop
-add-at c = omega (arith, reading-next _ _ _ _ _ _ _ (c .before .before .before .before .before .before .before .before .loop .last) (c .before .before .before .before .before .before .before .before .loop .at) (c .before .before .before .before .before .before .before .before .loop .k) (c .before .before .before .before .before .before .before .before .loop .inv) (omega arith) _ _ (c .before .before .before .before .before .take-place .ensures) _ (c .before .rank .given .1) .room)
+add-at c =
+    let c5 = c .before .before .before .before .before in
+    let c8 = c5 .before .before .before in
+    omega (
+      arith,
+      reading-next _ _ _ _ _ _ _ (c8 .loop .last) (c8 .loop .at) (c8 .loop .k) (c8 .loop .inv) (omega arith) _ _
+          (c5 .take-place .ensures) _ (c .before .rank .given .1) .room,
+    )
 
 add-k : tie.Need-add-k Inv-loop μ-loop
 add-k c = search needs
@@ -43,13 +54,18 @@ loop-less : tie.Need-loop-less Inv-loop μ-loop
 loop-less c = search needs
 
 loop-again : tie.Need-loop-again Inv-loop μ-loop
-loop-again c = reading-next _ _ _ _ _ _ _ (c .before .before .before .before .before .before .before .before .loop .last) (c .before .before .before .before .before .before .before .before .loop .at) (c .before .before .before .before .before .before .before .before .loop .k) (c .before .before .before .before .before .before .before .before .loop .inv) (omega arith) _ _ (c .before .before .before .before .before .take-place .ensures) _ (c .before .rank .given .1)
+loop-again c =
+    let c5 = c .before .before .before .before .before in
+    let c8 = c5 .before .before .before in
+    reading-next _ _ _ _ _ _ _ (c8 .loop .last) (c8 .loop .at) (c8 .loop .k) (c8 .loop .inv) (omega arith) _ _ (c5 .take-place .ensures)
+    _ (c .before .rank .given .1)
 
 same-length-2 : tie.Need-same-length-2 Inv-loop μ-loop
 same-length-2 c = search needs
 
 returns-2 : tie.Need-returns-2 Inv-loop μ-loop
-returns-2 c = reading-end _ _ _ _ _ _ _ (c .before .loop .last) (c .before .loop .at) (c .before .loop .k) (c .before .loop .inv) (omega arith)
+returns-2 c = reading-end _ _ _ _ _ _ _ (c .before .loop .last) (c .before .loop .at) (c .before .loop .k) (c .before .loop .inv)
+    (omega arith)
 
 pub read-order-spec : {M : Type 1} → statement M
 read-order-spec =

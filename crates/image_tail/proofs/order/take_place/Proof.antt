@@ -29,8 +29,11 @@ usize-to-u64-requires c κs = search needs
 
 returns-2 : tie.Need-returns-2
 returns-2 c =
-    let a = c .before .before .before .before .before .before .before .before .args in
-    let g = number-got placeKind numberIn (a .at) (a .bytes .now) _ (sym (c .before .before .before .i .given .1) ∙ c .before .before .before .before .before .read-number .ensures) in
+    let c3 = c .before .before .before in
+    let c5 = c3 .before .before in
+    let c8 = c5 .before .before .before in
+    let a = c8 .args in
+    let g = number-got placeKind numberIn (a .at) (a .bytes .now) _ (sym (c3 .i .given .1) ∙ c5 .read-number .ensures) in
     past-pieces _ _ (a .at) (a .bytes .now) _ _ g _ (c .before .usize-to-u64 .ensures) (c .if1 .taken)
 
 u64-to-usize-requires : tie.Need-u64-to-usize-requires
@@ -44,9 +47,14 @@ slice-read-rank c = omega (arith, c .before .u64-to-usize .ensures, c .before .b
 
 returns-3 : tie.Need-returns-3
 returns-3 c =
-    let a = c .before .before .before .before .before .before .before .before .before .before .before .args in
-    let g = number-got placeKind numberIn (a .at) (a .bytes .now) _ (sym (c .before .before .before .before .before .before .i .given .1) ∙ c .before .before .before .before .before .before .before .before .read-number .ensures) in
-    too-low _ _ (a .at) (a .bytes .now) _ _ g _ (c .before .before .u64-to-usize .ensures) (omega (arith, c .before .before .before .before .usize-to-u64 .ensures)) _ refl (c .if2 .taken)
+    let c4 = c .before .before .before .before in
+    let c6 = c4 .before .before in
+    let c8 = c6 .before .before in
+    let c11 = c8 .before .before .before in
+    let a = c11 .args in
+    let g = number-got placeKind numberIn (a .at) (a .bytes .now) _ (sym (c6 .i .given .1) ∙ c8 .read-number .ensures) in
+    too-low _ _ (a .at) (a .bytes .now) _ _ g _ (c .before .before .u64-to-usize .ensures) (omega (arith, c4 .usize-to-u64 .ensures)) _
+    refl (c .if2 .taken)
 
 mul-ranks : tie.Need-mul-ranks
 mul-ranks c = omega (arith, c .before .before .u64-to-usize .ensures, c .before .before .before .before .usize-to-u64 .ensures)
@@ -59,9 +67,14 @@ same-length c = search needs
 
 returns-4 : tie.Need-returns-4
 returns-4 c =
-    let a = c .before .before .before .before .before .before .before .before .before .before .before .args in
-    let g = number-got placeKind numberIn (a .at) (a .bytes .now) _ (sym (c .before .before .before .before .before .before .i .given .1) ∙ c .before .before .before .before .before .before .before .before .read-number .ensures) in
-    taken _ _ (a .at) (a .bytes .now) _ _ g _ (c .before .before .u64-to-usize .ensures) (omega (arith, c .before .before .before .before .usize-to-u64 .ensures)) _ refl (c .if2 .left)
+    let c4 = c .before .before .before .before in
+    let c6 = c4 .before .before in
+    let c8 = c6 .before .before in
+    let c11 = c8 .before .before .before in
+    let a = c11 .args in
+    let g = number-got placeKind numberIn (a .at) (a .bytes .now) _ (sym (c6 .i .given .1) ∙ c8 .read-number .ensures) in
+    taken _ _ (a .at) (a .bytes .now) _ _ g _ (c .before .before .u64-to-usize .ensures) (omega (arith, c4 .usize-to-u64 .ensures)) _
+    refl (c .if2 .left)
 
 pub take-place-spec : {M : Type 1} → statement M
 take-place-spec =

@@ -17,7 +17,7 @@ same-length-2 : tie.Need-same-length-2
 same-length-2 c = search needs
 
 returns : tie.Need-returns
-returns c = changed-told _ _ _ _ _ _ _ _ _ _ _ (c .told .ensures) (c .before .before .before .before .before .piece-passed .ensures)
+returns c = changed-told _ _ _ _ _ _ _ _ _ _ _ (c .told .ensures) (c .before .before .before .before .before .piece-passed .ensures .0)
 
 pub ch-piece-passed-spec : {M : Type 1} → statement M
 ch-piece-passed-spec = tie.close (tie.spec piece-passed-requires told-requires same-length same-length-2 returns)

@@ -17,7 +17,7 @@ same-length-2 : tie.Need-same-length-2
 same-length-2 c = search needs
 
 returns : tie.Need-returns
-returns c = done-told _ _ _ _ _ _ _ _ _ _ _ (c .told .ensures) (c .before .before .before .before .before .abort-download .ensures)
+returns c = done-told _ _ _ _ _ _ _ _ _ _ _ (c .told .ensures) (c .before .before .before .before .before .abort-download .ensures .0)
 
 pub ch-abort-download-spec : {M : Type 1} → statement M
 ch-abort-download-spec = tie.close (tie.spec abort-download-requires told-requires same-length same-length-2 returns)

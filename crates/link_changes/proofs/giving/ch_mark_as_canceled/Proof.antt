@@ -17,7 +17,7 @@ same-length-2 : tie.Need-same-length-2
 same-length-2 c = search needs
 
 returns : tie.Need-returns
-returns c = done-told _ _ _ _ _ _ _ _ _ _ _ (c .told .ensures) (c .before .before .before .before .before .mark-as-canceled .ensures)
+returns c = done-told _ _ _ _ _ _ _ _ _ _ _ (c .told .ensures) (c .before .before .before .before .before .mark-as-canceled .ensures .0)
 
 pub ch-mark-as-canceled-spec : {M : Type 1} → statement M
 ch-mark-as-canceled-spec = tie.close (tie.spec mark-as-canceled-requires told-requires same-length same-length-2 returns)

@@ -17,7 +17,7 @@ same-length-2 : tie.Need-same-length-2
 same-length-2 c = search needs
 
 returns : tie.Need-returns
-returns c = done-told _ _ _ _ _ _ _ _ _ _ _ (c .told .ensures) (c .before .before .before .before .before .mark-as-finished .ensures)
+returns c = done-told _ _ _ _ _ _ _ _ _ _ _ (c .told .ensures) (c .before .before .before .before .before .mark-as-finished .ensures .0)
 
 pub ch-mark-as-finished-spec : {M : Type 1} → statement M
 ch-mark-as-finished-spec = tie.close (tie.spec mark-as-finished-requires told-requires same-length same-length-2 returns)

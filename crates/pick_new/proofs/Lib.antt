@@ -1,0 +1,4 @@
+pub mod BlockLaws
+pub mod RunLaws
+pub mod InLaws
+pub mod NewLaws

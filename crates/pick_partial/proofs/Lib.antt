@@ -1,0 +1,4 @@
+pub mod RoundLaws
+pub mod FreeLaws
+pub mod AddingLaws
+pub mod PartialLaws

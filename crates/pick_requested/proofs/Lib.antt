@@ -1,0 +1,2 @@
+pub mod RequestedLaws
+pub mod KnownLaws

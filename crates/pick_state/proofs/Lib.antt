@@ -1,0 +1,5 @@
+pub mod TakeLaws
+pub mod DidLaws
+pub mod RestLaws
+pub mod RangeLaws
+pub mod RoomLaws

@@ -1,0 +1,3 @@
+pub mod Requests
+pub mod PickStates
+pub mod Room

@@ -1,0 +1,5 @@
+pub mod LiveLaws
+pub mod AdmissionLaws
+pub mod CallLaws
+pub mod Values
+pub mod CoreLaws

@@ -1,0 +1,3 @@
+pub mod Calling
+pub mod Outcomes
+pub mod Cores
