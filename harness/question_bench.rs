@@ -1,6 +1,6 @@
 //! Times the proved questions behind the memory test against the Rust's getters, on the same pickers. `harness/bench` builds and runs it.
-//! A line for each question and size: nanoseconds here, and the ratio to the Rust. Questions of a piece or block are asked of 64 of them, every
-//! other one with a partial, and the time is that of one.
+//! A line for each question and size: nanoseconds here and in the Rust, and the ratio. Questions of a piece or block are asked of 64 of
+//! them, every other one with a partial, and the time is that of one.
 
 #[allow(dead_code)]
 mod lent;
