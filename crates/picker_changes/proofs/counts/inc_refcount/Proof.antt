@@ -39,8 +39,8 @@ inc-refcount-spec 𝓤 H 𝓜 𝓖 𝓡 =
       tells = λ κs a g r ws. id⊢ 𝓤 _;
       fits = λ a r w′ c′ h. h .done (a .1 .1 .0 .now) refl refl .0;
       ends = λ κs a g r w′ c′ zs h e. factI 𝓤 _ _
-          (subst (λ (ds : List DownloadingPiece). Called (lending (a .0 .now) (a .1 .0 .now) (a .1 .1 .0 .now)) _ (lending w′ c′ ds)
-          (answerOf (r .out)))
+          (subst (λ (ds : List DownloadingPiece). Called (lending (a .0 .now) (a .1 .0 .now) (a .1 .1 .0 .now))
+          (inc-refcount (numberOf (a .1 .1 .1 .1 .0 .0)) (a .1 .1 .1 .0 .now)) (lending w′ c′ ds) (answerOf (r .out)))
           (sym e) (h .done (a .1 .1 .0 .now) refl refl .1));
     })
     (code.unfolded 𝓤 H 𝓜 𝓡) code.calls-memory-records·live-records code.calls-memory-records·unpack code.calls-memory-records·apply
