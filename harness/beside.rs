@@ -9,6 +9,7 @@
 
 mod calls;
 mod draws;
+mod edits;
 mod lent;
 mod linked_changes;
 mod linked_questions;

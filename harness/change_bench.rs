@@ -4,6 +4,7 @@
 //! with the same draws, and have to end with the same image.
 
 #[allow(dead_code)]
+mod edits;
 mod lent;
 mod linked_changes;
 #[allow(dead_code)]

@@ -2,7 +2,8 @@
 //! is made by `Outcome::edit`.
 
 use crate::list_operations::Geometry;
-use crate::records::{self, DownloadingPiece, ROWS};
+use crate::edits;
+use crate::records::{DownloadingPiece, ROWS};
 use oracle::script::Change;
 
 /// What a change answers. The edit: 0 none, 1 a record replaced, 2 one put in, 3 that of a piece taken out.
@@ -147,9 +148,9 @@ impl Outcome {
     fn edit_record(&self, partials: &mut [DownloadingPiece], live: usize) -> bool {
         let d = DownloadingPiece { index: self.index, info_idx: self.info_idx, flags: self.flags };
         match self.kind {
-            1 => records::replace(&mut partials[..live], d),
-            2 => live < partials.len() && records::insert(&mut partials[..live + 1], d),
-            3 => records::remove(&mut partials[..live], d.index),
+            1 => edits::replace(&mut partials[..live], d),
+            2 => live < partials.len() && edits::insert(&mut partials[..live + 1], d),
+            3 => edits::remove(&mut partials[..live], d.index),
             _ => false,
         }
     }

@@ -3,6 +3,8 @@
 //! them, every other one with a partial, and the time is that of one.
 
 #[allow(dead_code)]
+mod edits;
+#[allow(dead_code)]
 mod lent;
 #[allow(dead_code)]
 mod linked_changes;
