@@ -1,18 +1,13 @@
+-- `append_blocks` meets its contract. Assumes nothing.
 use Rattle.pick_append.proofs.AppendLaws.{least-both, append-is}
 use native.Mathlib.Omega.{arith}
 use borrow.Author.Needs.{needs}
 use Rattle.pick_append.proofs.aside.append_blocks.Statement.{statement}
 use Rattle.pick_append.proofs.aside.append_blocks.Tie as tie
-use Rattle.pick_append.proofs.aside.append_blocks.Reads as reads
-use Rattle.pick_append.proofs.aside.append_blocks.Lts as lts
-use Rattle.pick_append.proofs.aside.copy_blocks.Reads as copy-blocks-reads
-use Rattle.pick_append.proofs.aside.least.Reads as least-reads
 
--- src/aside.rt:37:9
 least-requires : tie.Need-least-requires
 least-requires c κs = search needs
 
--- src/aside.rt:38:5
 copy-blocks-requires : tie.Need-copy-blocks-requires
 copy-blocks-requires c κs =
     let c1 = c .before in
@@ -20,21 +15,17 @@ copy-blocks-requires c κs =
     let u = least-both _ _ _ (c1 .least .ensures) in
     (omega (arith, p .0, u .1), omega (arith, p .1, u .0))
 
--- src/aside.rt:40:15
 sub-t9 : tie.Need-sub-t9
 sub-t9 c = omega (arith, least-both _ _ _ (c .before .before .before .before .before .least .ensures) .1)
 
--- src/aside.rt:45:14
 add-t10 : tie.Need-add-t10
 add-t10 c =
     let c5 = c .before .before .before .before .before in
     omega (arith, least-both _ _ _ (c5 .least .ensures) .1, c5 .before .before .before .pre .0)
 
--- src/aside.rt:32:1
 same-length : tie.Need-same-length
 same-length c = search needs
 
--- src/aside.rt:32:1
 returns : tie.Need-returns
 returns c =
     let c3 = c .before .before .before in

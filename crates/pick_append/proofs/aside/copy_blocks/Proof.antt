@@ -1,3 +1,4 @@
+-- `copy_blocks` meets its contract. Assumes nothing.
 use Rattle.pick_append.proofs.AppendLaws.{copy-start, copy-next, copy-end}
 use Rattle.pick_append.specs.Appending.{Copied}
 use native.Mathlib.Omega.{arith}
@@ -5,8 +6,6 @@ use Prim.Native.Nat.{_-_, _≤_}
 use borrow.Author.Needs.{needs}
 use Rattle.pick_append.proofs.aside.copy_blocks.Statement.{statement}
 use Rattle.pick_append.proofs.aside.copy_blocks.Tie as tie
-use Rattle.pick_append.proofs.aside.copy_blocks.Reads as reads
-use Rattle.pick_append.proofs.aside.copy_blocks.Lts as lts
 
 abbrev Inv-loop : tie.InvT-loop
 Inv-loop out₀ at aside n k₀ out k =
@@ -16,50 +15,39 @@ abbrev μ-loop : tie.MeasureT-loop
 μ-loop out₀ at aside n k₀ out k =
     n - k
 
--- src/aside.rt:25:5
 loop-holds : tie.Need-loop-holds Inv-loop μ-loop
 loop-holds c = (omega arith, copy-start _ _ _)
 
--- src/aside.rt:26:23
 mul-out : tie.Need-mul-out Inv-loop μ-loop
 mul-out c = search needs
 
--- src/aside.rt:26:23
 shared-slice-read-out : tie.Need-shared-slice-read-out Inv-loop μ-loop
 shared-slice-read-out c = search needs
 
--- src/aside.rt:26:13
 add-out : tie.Need-add-out Inv-loop μ-loop
 add-out c = search needs
 
--- src/aside.rt:26:9
 mul-out-2 : tie.Need-mul-out-2 Inv-loop μ-loop
 mul-out-2 c = search needs
 
--- src/aside.rt:26:9
 slice-write-out : tie.Need-slice-write-out Inv-loop μ-loop
 slice-write-out c = omega (arith, c .before .before .before .pre .0, c .before .before .loop .inv .1 .long)
 
--- src/aside.rt:27:9
 add-k : tie.Need-add-k Inv-loop μ-loop
 add-k c = search needs
 
--- src/aside.rt:25:5
 loop-less : tie.Need-loop-less Inv-loop μ-loop
 loop-less c = search needs
 
--- src/aside.rt:25:5
 loop-again : tie.Need-loop-again Inv-loop μ-loop
 loop-again c =
     let c2 = c .before .before in
     let p = c2 .before .pre in
     (omega arith, copy-next _ _ _ _ _ (c2 .loop .inv .1) (omega (arith, p .0)) (omega (arith, p .1)))
 
--- src/aside.rt:20:1
 same-length : tie.Need-same-length Inv-loop μ-loop
 same-length c = c .before .loop .inv .1 .long
 
--- src/aside.rt:20:1
 returns : tie.Need-returns Inv-loop μ-loop
 returns c = copy-end _ _ _ _ _ _ (c .before .loop .inv .1) (omega (arith, c .before .loop .inv .0))
 

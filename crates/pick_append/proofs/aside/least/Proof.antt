@@ -1,14 +1,11 @@
+-- `least` meets its contract. Assumes nothing.
 use Rattle.pick_append.proofs.AppendLaws.{least-first, least-second}
 use Rattle.pick_append.proofs.aside.least.Statement.{statement}
 use Rattle.pick_append.proofs.aside.least.Tie as tie
-use Rattle.pick_append.proofs.aside.least.Reads as reads
-use Rattle.pick_append.proofs.aside.least.Lts as lts
 
--- src/aside.rt:14:9
 returns : tie.Need-returns
 returns c = least-first _ _ (c .if1 .taken)
 
--- src/aside.rt:10:1
 returns-2 : tie.Need-returns-2
 returns-2 c = least-second _ _ (c .if1 .left)
 

@@ -2,6 +2,7 @@
 use mathlib.Core.Path.{_≡_}
 use borrow.Author.Needs.{needs}
 use Rattle.pick_state.specs.Requests.{requestOf}
+use Rattle.pick_extents.specs.Extents.{firstWalk}
 use Rattle.pick_extents.proofs.ExtentLaws.{extents-long}
 use Rattle.pick_extents.proofs.MoveLaws.{extents-moved}
 use Rattle.pick_extents.proofs.pick_extents.Statement.{statement}
@@ -17,12 +18,15 @@ same-length : tie.Need-same-length
 same-length c = c .before .before .before .forget-extent .ensures .became .kept .long
 
 same-length-2 : tie.Need-same-length-2
+unfolding firstWalk
 same-length-2 c = extents-long (c .before .before .before .before .before .before .before .before .before .before .before .walk-extents .ensures .0) (c .before .before .before .before .before .before .before .before .before .before .before .before .before .before .before .before .before .before .before .before .before .before .before .pre .1 .0) .0
 
 same-length-3 : tie.Need-same-length-3
+unfolding firstWalk
 same-length-3 c = extents-long (c .before .before .before .before .before .before .before .before .before .before .before .walk-extents .ensures .0) (c .before .before .before .before .before .before .before .before .before .before .before .before .before .before .before .before .before .before .before .before .before .before .before .pre .1 .0) .1
 
 same-length-4 : tie.Need-same-length-4
+unfolding firstWalk
 same-length-4 c = extents-long (c .before .before .before .before .before .before .before .before .before .before .before .walk-extents .ensures .0) (c .before .before .before .before .before .before .before .before .before .before .before .before .before .before .before .before .before .before .before .before .before .before .before .pre .1 .0) .2
 
 returns : tie.Need-returns

@@ -9,10 +9,10 @@ remove-recent-extent-requires : tie.Need-remove-recent-extent-requires
 remove-recent-extent-requires c κs = (c .before .before .before .pre .0, (c .before .before .before .pre .1 .0 (c .before .if1 .taken), c .before .before .before .pre .1 .1))
 
 same-length : tie.Need-same-length
-same-length c = ?
+same-length c = c .before .before .remove-recent-extent .ensures .became .kept .long
 
 returns : tie.Need-returns
-returns c = ?
+returns c = let a = c .before .before .before .before .before .before .args in forget-yes (a .s) (a .words .now) (a .found) (a .place) _ (c .before .before .before .before .if1 .taken) (c .before .before .remove-recent-extent .ensures)
 
 returns-2 : tie.Need-returns-2
 returns-2 c = let a = c .before .before .args in forget-no (a .s) (a .words .now) (a .found) (a .place) (c .if1 .left)

@@ -1,0 +1,3 @@
+pub mod ListLaws
+pub mod BusyLaws
+pub mod FullLaws
