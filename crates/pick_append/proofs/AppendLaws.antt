@@ -123,6 +123,8 @@ append-is t n out out′ aside e room l c =
         };
         within = let z = c .long in omega arith;
       };
+      total = omega arith;
+      used = refl;
     }
   where
     none-less : (x : ℕ) → x - 0 ≡ x

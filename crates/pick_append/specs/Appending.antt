@@ -17,6 +17,8 @@ pub record Copied (at n : ℕ) (aside out out′ : List ℕ) : Type 0 where
   pub blocks : (start : ℕ) → start ≤ at → blocksBetween start (at + n) out′ ≡ blocksBetween start at out ++ each blockFrom (take n aside)
   pub others : (k : ℕ) → (at ≤ k → k < at + n → ⊥) → getD out′ k 0 ≡ getD out k 0
 
--- the definition's step, whatever stands beside the output and the blocks set aside
+-- the definition's step, whatever stands beside the output and the blocks set aside; what is appended is no longer wanted
 pub record Appended (t r : PickNumbers) (out out′ aside : List ℕ) : Type 0 where
   pub worked : (d : Picker) (ignored : List Bool) (loops : List ℕ) → Worked appendBlocks d t r out aside ignored loops out′ aside ignored loops
+  pub total : r .end + r .left ≡ t .end + t .left
+  pub used : r .used ≡ t .used

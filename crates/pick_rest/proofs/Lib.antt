@@ -1,0 +1,3 @@
+pub mod GameLaws
+pub mod PlayLaws
+pub mod RestLaws
