@@ -1,5 +1,5 @@
 -- Term 3 of the code holds: lists of public calls follow the definition, of which term 3 holds. Assumes nothing.
-use mathlib.Core.Path.{_≡_, refl, sym, ap, ap₂, subst, _∙_}
+use mathlib.Core.Path.{_≡_, refl, sym, ap, subst, _∙_}
 use mathlib.Core.Bool.{Bool, true, false}
 use mathlib.Core.List.{List, [], _∷_, _++_}
 use mathlib.Core.Option.{Option, none, some, Option·none-ne-some}
@@ -13,36 +13,18 @@ use Rattle.model.specs.Lists.{len}
 use Rattle.model.specs.State.{Picker}
 use Rattle.model.specs.image.Image.{image}
 use Rattle.model.specs.Memory.{Memory, memoryNeeded, isShort}
-use Rattle.model.specs.Calls.{Call, Answer, answers, run, Made, made, notMade, readPicker, Taken, taken, notTaken}
+use Rattle.model.specs.Calls.{Call, Answer, answers, Made, made, notMade, readPicker, Taken, taken, notTaken}
 use Rattle.model.specs.Calls.{takeImage}
 use Rattle.agreement.specs.Term3.{Started, fromNew as startedNew, fromImage as startedImage, Reached, after as ledBy}
 use Rattle.agreement.proofs.Term3Holds.{term-3}
 use Rattle.picker_calls.specs.Calling.{Lent, pickerOn, memoryOn}
 use Rattle.picker_calls.specs.Starting.{lengthsOn, whyNotMade, ReadCalled, unlessIll, takenOn, Written, wrote}
 use Rattle.picker_calls.specs.Starting.{written, ImageCalled}
-use Rattle.picker_agreement.specs.Traces.{LentFrom, Trace, end, next, StartedOn, fromNew, fromImage, ReachedOn, after, ImageOf}
+use Rattle.picker_agreement.specs.Traces.{LentFrom, Trace, StartedOn, fromNew, fromImage, ReachedOn, after, ImageOf}
 use Rattle.picker_agreement.specs.CodeTerm3.{AnswerAlike, SetBack, CodeTerm3}
 use Rattle.picker_agreement.proofs.FrontLaws.{enough-on}
-use Rattle.picker_agreement.proofs.StepLaws.{public-called, lent-good, lent-picker, few-memory, left}
-
--- ---- lists of calls
-followed : {m z : Lent} {calls : List Call} {rs : List Answer} → memoryOn m ≡ none → Trace m calls rs z
-    → (rs ≡ answers (pickerOn m) calls) × (pickerOn z ≡ run (pickerOn m) calls) × (memoryOn z ≡ none)
-unfolding answers run
-followed g end = (refl, refl, g)
-followed g (next {m} {entry} {exit} {z} {a} {r} {calls} {rs} lent p t) =
-    let l = left m g entry lent a exit r (public-called p) in
-    let f = followed (l .well) t in (
-      ap₂ (λ (x : Answer) (xs : List Answer). x ∷ xs) (l .answer) (f .0 ∙ ap (λ (d : Picker). answers d calls) (l .after)),
-      f .1 ∙ ap (λ (d : Picker). run d calls) (l .after),
-      f .2,
-    )
-
--- one list after another is one list
-joined : {m z w : Lent} {calls later : List Call} {rs qs : List Answer} → Trace m calls rs z → Trace z later qs w
-    → Trace m (calls ++ later) (rs ++ qs) w
-joined end u = u
-joined (next lent p t) u = next lent p (joined t u)
+use Rattle.picker_agreement.proofs.StepLaws.{lent-good, lent-picker, few-memory}
+use Rattle.picker_agreement.proofs.TraceLaws.{followed, joined, asked-same}
 
 -- ---- what is made
 -- a call that was not refused made a picker
@@ -160,7 +142,7 @@ module _ (m : Lent) (rm : ReachedOn m) where
     images : a ≡ b → image (pickerOn m) ≡ image (pickerOn n)
     images e = sym (image-is m gm a i) ∙ e ∙ image-is n gn b j
 
-    alike : a ≡ b → (calls : List Call) (rs qs : List Answer) (z w : Lent) → Trace m calls rs z → Trace n calls qs w → rs ≡ qs
+    alike : a ≡ b → AnswerAlike m n
     alike e calls rs qs z w t u =
         followed gm t .0
         ∙ term-3 .agree (pickerOn m) (pickerOn n) (reached-picker rm) (reached-picker rn) .0 (images e) calls
@@ -175,13 +157,8 @@ module _ (m : Lent) (rm : ReachedOn m) where
         ∙ sym (ap image (followed gn u .1))
         ∙ sym (image-is w (followed gn u .2) d l)
 
-    told : ((calls : List Call) → AnswerAlike m n calls) → a ≡ b
-    told f =
-        image-is m gm a i
-        ∙ term-3 .agree (pickerOn m) (pickerOn n) (reached-picker rm) (reached-picker rn) .1 (λ calls.
-        let x = f calls in
-        sym (followed gm (x .trace) .0) ∙ followed gn (x .traceOther) .0)
-        ∙ sym (image-is n gn b j)
+    told : AnswerAlike m n → a ≡ b
+    told f = image-is m gm a i ∙ ap image (asked-same m gm n gn f) ∙ sym (image-is n gn b j)
 
   -- a station set back
   back : (z entry : Lent) (bytes : List ℕ) (away : List Call) (rs : List Answer) → ImageOf m bytes → Trace m away rs z
@@ -206,9 +183,8 @@ code-term-3 = record {
   wellFormed = λ m r. reached-good r;
   reached = λ m r. reached-picker r;
   reachedStays = λ m z calls rs r t. reached-on r t;
-  alike = λ m n a b rm rn i j. alike m rm n rn a b i j;
+  agree = λ m n a b rm rn i j. (alike m rm n rn a b i j, told m rm n rn a b i j);
   imagesStay = λ m n a b rm rn i j. stay m rm n rn a b i j;
-  told = λ m n a b rm rn i j. told m rm n rn a b i j;
   imageKept = λ entry exit bytes b c i.
       image-is exit (begun (fromImage bytes c) .well) b i ∙ term-3 .imageKept (lengthsOn entry) bytes (pickerOn exit)
       (read-made entry exit bytes c);

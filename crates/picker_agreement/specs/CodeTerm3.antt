@@ -1,6 +1,7 @@
 -- Term 3 of the code: what the public contracts alone say of whole lists of calls, whatever the torrents. Images are the bytes that the
 -- public call gave.
 use mathlib.Core.Path.{_≡_}
+use mathlib.Core.Logic.{_↔_}
 use mathlib.Core.Bool.{false}
 use mathlib.Core.List.{List}
 use mathlib.Core.Option.{Option, none}
@@ -15,13 +16,9 @@ use Rattle.picker_calls.specs.Calling.{Lent, pickerOn, memoryOn}
 use Rattle.picker_calls.specs.Starting.{lengthsOn, ReadCalled, Written, wrote, ImageCalled}
 use Rattle.picker_agreement.specs.Traces.{LentFrom, Trace, ReachedOn, ImageOf}
 
--- both are led through the calls and answer the same
-pub record AnswerAlike (m n : Lent) (calls : List Call) : Type 0 where
-  pub given : List Answer
-  pub one : Lent
-  pub other : Lent
-  pub trace : Trace m calls given one
-  pub traceOther : Trace n calls given other
+-- every list of calls is answered alike
+abbrev pub AnswerAlike : (m n : Lent) → Type 0
+AnswerAlike m n = (calls : List Call) (rs qs : List Answer) (z w : Lent) → Trace m calls rs z → Trace n calls qs w → rs ≡ qs
 
 -- whatever is read of the bytes into these buffers is accepted, and answers every later list of calls as m does
 pub record SetBack (m entry : Lent) (bytes : List ℕ) : Type 0 where
@@ -37,15 +34,12 @@ pub record CodeTerm3 : Type 0 where
   pub wellFormed : (m : Lent) → ReachedOn m → memoryOn m ≡ none
   pub reached : (m : Lent) → ReachedOn m → Reached (pickerOn m)
   pub reachedStays : (m z : Lent) (calls : List Call) (rs : List Answer) → ReachedOn m → Trace m calls rs z → ReachedOn z
-  -- pickers with equal images answer every later list of calls alike, and their images stay equal
-  pub alike : (m n : Lent) (a b : List ℕ) → ReachedOn m → ReachedOn n → ImageOf m a → ImageOf n b → a ≡ b
-      → (calls : List Call) (rs qs : List Answer) (z w : Lent) → Trace m calls rs z → Trace n calls qs w → rs ≡ qs
+  -- images are equal exactly when every later list of calls is answered alike
+  pub agree : (m n : Lent) (a b : List ℕ) → ReachedOn m → ReachedOn n → ImageOf m a → ImageOf n b → (a ≡ b) ↔ AnswerAlike m n
+  -- equal images stay equal after every list of calls
   pub imagesStay : (m n : Lent) (a b : List ℕ) → ReachedOn m → ReachedOn n → ImageOf m a → ImageOf n b → a ≡ b
       → (calls : List Call) (rs qs : List Answer) (z w : Lent) → Trace m calls rs z → Trace n calls qs w
       → (c d : List ℕ) → ImageOf z c → ImageOf w d → c ≡ d
-  -- pickers that answer every list of calls alike have equal images. Every public call ends, so that each list has its trace
-  pub told : (m n : Lent) (a b : List ℕ) → ReachedOn m → ReachedOn n → ImageOf m a → ImageOf n b
-      → ((calls : List Call) → AnswerAlike m n calls) → a ≡ b
   -- a picker read from an accepted image has that image
   pub imageKept : (entry exit : Lent) (bytes b : List ℕ) → ReadCalled entry bytes exit none → ImageOf exit b → b ≡ bytes
   -- an image taken is the definition's, and it is taken wherever memory and room are enough
