@@ -3,3 +3,4 @@ pub mod AdmissionLaws
 pub mod CallLaws
 pub mod Values
 pub mod CoreLaws
+pub mod StartingLaws

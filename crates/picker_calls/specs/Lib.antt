@@ -1,3 +1,4 @@
 pub mod Calling
+pub mod Starting
 pub mod Outcomes
 pub mod Cores

@@ -137,16 +137,12 @@ place-told l m k e = go (leb (length l) k) (leb (length m) k) refl refl e
     go false true p q r = let z : _≡_ {A = ℕ} 0 1 = cc in absurd (omega arith)
     go false false p q r = let f : placeIn (getElem? l k) ≡ placeIn (getElem? m k) = cc in place-eq _ _ f
 
-module _ (s t : Picker) (same : (cs : List Call) → answers s cs ≡ answers t cs) where
+-- ---- every question to both, in memory that is enough for both
+module _ (s t : Picker) (lent : Memory) (fits : isShort lent (memoryNeeded s) ≡ false) (fits′ : isShort lent (memoryNeeded t) ≡ false)
+    (same : (q : Question) → step s (record { lent = lent; action = question q }) .answer
+    ≡ step t (record { lent = lent; action = question q }) .answer) where
   asked : (q : Question) → answered s q ≡ answered t q
-  unfolding answers
-  asked q =
-      let m = memories (memoryNeeded s) (memoryNeeded t) in
-      let c : Call = record { lent = m; action = question q } in
-      let e = same (c ∷ []) in
-      let f : step s c .answer ≡ step t c .answer = cc in
-      sym (with-memory s q m (one-fits (memoryNeeded s) (memoryNeeded t))) ∙ f
-      ∙ with-memory t q m (other-fits (memoryNeeded s) (memoryNeeded t))
+  asked q = sym (with-memory s q lent fits) ∙ same q ∙ with-memory t q lent fits′
 
   asks : (q : Question) → questionRefusal s q ≡ none → questionRefusal t q ≡ none → reply s q ≡ reply t q
   asks q h k =
@@ -297,8 +293,9 @@ module _ (s t : Picker) (same : (cs : List Call) → answers s cs ≡ answers t 
     unfolding partialOf
     partials = partials-same 0 0 (s .partials) (t .partials) (v .rising) (w .rising) partial-each
 
-    pub pickers-same : s ≡ t
-    pickers-same = λ i.
+    -- the same picker
+    pub questions-same : s ≡ t
+    questions-same = λ i.
         record {
           totalSize = totalSize i;
           pieceSize = size′ i;
@@ -310,3 +307,13 @@ module _ (s t : Picker) (same : (cs : List Call) → answers s cs ≡ answers t 
           recentExtents = extents i;
           listing = listing i;
         }
+
+-- ---- every list of calls to both
+pub pickers-same : (s t : Picker) → ((cs : List Call) → answers s cs ≡ answers t cs) → Sound s → Sound t → s ≡ t
+unfolding answers
+pickers-same s t same v w =
+    let m = memories (memoryNeeded s) (memoryNeeded t) in
+    questions-same s t m (one-fits (memoryNeeded s) (memoryNeeded t)) (other-fits (memoryNeeded s) (memoryNeeded t)) (λ q.
+    let c : Call = record { lent = m; action = question q } in
+    let e = same (c ∷ []) in
+    cc) v w

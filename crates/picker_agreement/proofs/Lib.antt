@@ -1,0 +1,4 @@
+pub mod FrontLaws
+pub mod StepLaws
+pub mod TraceLaws
+pub mod CodeTerm3Holds
