@@ -311,12 +311,16 @@ def pick_rest(w, draws):
     return w if spent(w) or option(w, ON_PAROLE) else pick_end_game(w, draws)
 
 
-def pick_pieces(s, ask, draws):
-    """What the pick has come to; its `picker` is the next state."""
-    w = start_pick(s, ask)
+def run_phases(w, draws):
+    """The phases in turn, up to where N is spent."""
     phases = (pick_partials, pick_suggested, lambda w: pick_main(w, draws), lambda w: pick_rest(w, draws))
     for phase in phases:
         w = phase(w)
         if spent(w):
             return w
     return w
+
+
+def pick_pieces(s, ask, draws):
+    """What the pick has come to; its `picker` is the next state."""
+    return run_phases(start_pick(s, ask), draws)
