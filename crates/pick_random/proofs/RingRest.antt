@@ -124,20 +124,30 @@ unfoldable pub turnsFrom : (fuel : ℕ) (a : PickRequest) (first base : ℕ) (d 
 turnsFrom fuel a first base d t x out aside ignored loops =
     turnsLeft (lapStep a first) walkOver fuel (walkOf (t .end) base d x out aside ignored loops)
 
-pub rings-start : (a : PickRequest) (first : ℕ) (s : Shape) {start N R : ℕ} {d : Picker} {t : PickNumbers} {out aside : List ℕ} {ignored : List Bool}
-    {loops : List ℕ} → Working start N R d t out aside ignored loops → Sound d → piecesIn d ≡ s .pieces → first < s .pieces → 1 ≤ t .left
-    → (x : Walk) → x ≡ begun first t → RingRest ringFuel a first s d t x out aside ignored loops out aside ignored loops
+-- what the walk begins with
+pub begun-work : (first : ℕ) (t : PickNumbers) (x : Walk) → x ≡ begun first t → x .work ≡ t
 unfolding begun
-rings-start a first s {d = d} {t = t} {out = out} {aside = aside} {ignored = ignored} {loops = loops} w h p l n x e =
-    subst (λ (v : Walk). RingRest ringFuel a first s d t v out aside ignored loops out aside ignored loops) (sym e) first-turn
+begun-work first t x e = ap (λ (v : Walk). v .work) e
+
+pub begun-underway : (first : ℕ) (t : PickNumbers) (x : Walk) → x ≡ begun first t → {d : Picker} {out aside : List ℕ} {ignored : List Bool} {loops : List ℕ}
+    → Underway d t out aside ignored loops → Underway d (x .work) out aside ignored loops
+begun-underway first t x e {d = d} {out = out} {aside = aside} {ignored = ignored} {loops = loops} u =
+    subst (λ (v : PickNumbers). Underway d v out aside ignored loops) (sym (begun-work first t x e)) u
+
+pub rings-start : (a : PickRequest) (first : ℕ) (s : Shape) {d : Picker} {t : PickNumbers} {out aside : List ℕ} {ignored : List Bool}
+    {loops : List ℕ} → Underway d t out aside ignored loops → Sound d → piecesIn d ≡ s .pieces → first < s .pieces → 1 ≤ t .left
+    → (x : Walk) → x ≡ begun first t → RingRest ringFuel a first s d (x .work) x out aside ignored loops out aside ignored loops
+unfolding begun
+rings-start a first s {d = d} {t = t} {out = out} {aside = aside} {ignored = ignored} {loops = loops} u h p l n x e =
+    subst (λ (v : Walk). RingRest ringFuel a first s d (v .work) v out aside ignored loops out aside ignored loops) (sym e) first-turn
   where
     first-turn : RingRest ringFuel a first s d t (begun first t) out aside ignored loops out aside ignored loops
     first-turn = record {
       turns = 0;
       is = λ start k. refl;
-      ends = begun-over w a first h (omega arith) n;
-      enough = turns-most (lapStep a first) walkOver ringFuel (walkOf (t .end) (marks ignored) d (begun first t) out aside ignored loops);
-      sees = begun-sees w first;
+      ends = begun-over (u .working) a first h (omega arith) n;
+      enough = omega (arith, turns-most (lapStep a first) walkOver ringFuel (walkOf (t .end) (marks ignored) d (begun first t) out aside ignored loops));
+      sees = begun-sees (u .working) first;
       working = λ start N R k. k;
       place = l;
       kept = kept-none t out;
@@ -177,12 +187,20 @@ module _ {fuel : ℕ} {a : PickRequest} {first : ℕ} {s : Shape} {d : Picker} {
         above m k = omega arith
 
     -- what it relies on
-    pub rings-lapping : {start N R : ℕ} → Working start N R d t out aside ignored loops → nth 0 loops randLoops ≤ 4294967296 → fuel ≤ 33587200
+    pub rings-starts : nth 0 loops randStartLoops ≤ 4294967296 → fuel ≤ 33587200 → nth 0 loops₁ randStartLoops + 4096 < 9223372036854775808
+    rings-starts l m = let n = turn-left in let k = c .starts in omega arith
+
+    pub rings-lapping : Underway d t out aside ignored loops → nth 0 loops randLoops ≤ 4294967296 → fuel ≤ 33587200
         → Lapping s d x out₁ aside₁ ignored₁ loops₁
-    rings-lapping {start = start} {N = N} {R = R} w l m =
+    rings-lapping u l m =
         let n = turn-left in
         record {
-          underway = record { start = start; wanted = N; run = R; working = c .working start N R w };
+          underway = record {
+            start = u .start;
+            wanted = u .wanted;
+            run = u .run;
+            working = c .working (u .start) (u .wanted) (u .run) (u .working);
+          };
           wanted = done-not;
           place = c .place;
           start = t .end;
@@ -264,3 +282,12 @@ module _ {a : PickRequest} {first : ℕ} {s : Shape} {d : Picker} {t : PickNumbe
         working = c .working (u .start) (u .wanted) (u .run) (u .working);
       };
     }
+
+-- the numbers that the walk began with, by their name
+pub rings-named : (a : PickRequest) (first : ℕ) {t₀ t : PickNumbers} → t₀ ≡ t → {d : Picker} {r : PickNumbers} {out aside : List ℕ} {ignored : List Bool}
+    {loops : List ℕ} {out₁ aside₁ : List ℕ} {ignored₁ : List Bool} {loops₁ : List ℕ}
+    → Stepped (ring a first) d t₀ r out aside ignored loops out₁ aside₁ ignored₁ loops₁
+    → Stepped (ring a first) d t r out aside ignored loops out₁ aside₁ ignored₁ loops₁
+rings-named a first e {d = d} {r = r} {out = out} {aside = aside} {ignored = ignored} {loops = loops} {out₁ = out₁} {aside₁ = aside₁} {ignored₁ = ignored₁}
+    {loops₁ = loops₁} w =
+    subst (λ (v : PickNumbers). Stepped (ring a first) d v r out aside ignored loops out₁ aside₁ ignored₁ loops₁) e w
