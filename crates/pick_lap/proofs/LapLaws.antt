@@ -1,19 +1,17 @@
 -- A turn of the walk, put together from skipping, the test of a lap's end, and a visit. Assumes nothing.
 use mathlib.Core.Path.{_≡_, refl, sym, ap, ap₂, _∙_}
-use mathlib.Core.Bool.{Bool, true, false, cond, not, _&&_, _||_}
+use mathlib.Core.Bool.{Bool, true, false, cond, not, _&&_}
 use mathlib.Core.List.{List}
-use Prim.Native.Nat.{ℕ, _+_, _-_, _≤_, _<_}
+use Prim.Native.Nat.{ℕ, _+_, _≤_, _<_}
 use native.Mathlib.Omega.{arith}
 use lib.Dec.{eqb}
-use lib.ListN.{length}
 use borrow.Author.Tests.{ltb-true, not-true, not-false}
 use Rattle.types.specs.Queue.{queueNumber}
-use Rattle.model.specs.Lists.{nth, branch, len, count}
-use Rattle.model.specs.Options.{randStartLoops, randLoops}
+use Rattle.model.specs.Lists.{nth, branch, len}
 use Rattle.model.specs.State.{Picker, isOpen, sameQueue, pieceAt}
 use Rattle.model.specs.pick.Blocks.{PickRequest, contiguousAbove, isPieceFree, isIgnored}
-use Rattle.model.specs.pick.Pick.{standsOpen, Trace, trace, sameTrace, RandomWalk, randomSpan, randomPiece, randomVisit, lapEnds, lapFrom, lapStep}
-use Rattle.model.specs.pick.Pick.{skip, ended as over, marked as seenAnew}
+use Rattle.model.specs.pick.Pick.{standsOpen, trace, sameTrace, RandomWalk, randomSpan, randomPiece, randomVisit, lapEnds, lapFrom}
+use Rattle.model.specs.pick.Pick.{lapStep, ended as over, marked as seenAnew}
 use Rattle.model.proofs.base.Counts.{count-le}
 use Rattle.model.proofs.base.Truths.{and-left, and-right, or-no-left}
 use Rattle.memory_layout.specs.declared.shape.Shape.{Shape}
@@ -22,21 +20,22 @@ use Rattle.memory_rows.specs.Lookup.{pickerIn}
 use Rattle.pick_state.specs.declared.numbers.PickNumbers.{PickNumbers}
 use Rattle.pick_state.specs.declared.request.PickRequest.{PickRequest as Request}
 use Rattle.pick_state.specs.PickStates.{contiguousOf, stateOf, OutKept}
-use Rattle.pick_state.specs.Room.{Working, Underway}
+use Rattle.pick_state.specs.Room.{Working}
 use Rattle.pick_state.proofs.DidLaws.{kept-same, kept-then}
 use Rattle.pick_state.proofs.RoomLaws.{working-small, working-same, working-marks}
 use Rattle.pick_state.proofs.TakeLaws.{between-length}
 use Rattle.pick_free.specs.Picking.{Picks}
 use Rattle.pick_blocks.proofs.AddingLaws.{new-room}
-use Rattle.pick_runs.specs.Spans.{marks, CountRoom}
+use Rattle.pick_runs.specs.Spans.{marks}
 use Rattle.pick_walk.specs.declared.walk.RandomWalk.{RandomWalk as Walk}
-use Rattle.pick_walk.specs.declared.walk.Trace.{Trace as Seen}
 use Rattle.pick_walk.specs.Walks.{InCells, traceOf, walkOf, moved, ended, traceNow, marked, Sees, Tells, LapTold, Skipped, WalkDid}
 use Rattle.pick_lap.specs.Visits.{wholeSpan, Lapping, SpanVisit}
 
 -- ---- steps by another name
-module _ {n m : ℕ} {f : RandomWalk → RandomWalk} {s : Shape} {d : Picker} {x y : Walk} {out aside : List ℕ} {ignored : List Bool} {loops : List ℕ}
-    {out′ aside′ : List ℕ} {ignored′ : List Bool} {loops′ : List ℕ} (w : WalkDid n m f s d x y out aside ignored loops out′ aside′ ignored′ loops′) where
+module _ {n m : ℕ} {f : RandomWalk → RandomWalk} {s : Shape} {d : Picker} {x y : Walk} {out aside : List ℕ} {ignored : List Bool}
+    {loops : List ℕ}
+    {out′ aside′ : List ℕ} {ignored′ : List Bool} {loops′ : List ℕ}
+    (w : WalkDid n m f s d x y out aside ignored loops out′ aside′ ignored′ loops′) where
   walk-as : (k : ℕ) {g : RandomWalk → RandomWalk} → m ≤ k
       → ((start base : ℕ) → f (walkOf start base d x out aside ignored loops) ≡ g (walkOf start base d x out aside ignored loops))
       → WalkDid n k g s d x y out aside ignored loops out′ aside′ ignored′ loops′
@@ -55,7 +54,8 @@ module _ {n m : ℕ} {f : RandomWalk → RandomWalk} {s : Shape} {d : Picker} {x
       }
 
 -- ---- a visit
-module _ (a : PickRequest) (first : ℕ) {n : ℕ} {s : Shape} {d : Picker} {x y : Walk} {out aside : List ℕ} {ignored : List Bool} {loops : List ℕ}
+module _ (a : PickRequest) (first : ℕ) {n : ℕ} {s : Shape} {d : Picker} {x y : Walk} {out aside : List ℕ} {ignored : List Bool}
+    {loops : List ℕ}
     {out′ aside′ : List ℕ} {ignored′ : List Bool} {loops′ : List ℕ} where
   -- of a span
   pub visit-span : wholeSpan d x ≡ true → WalkDid n 4096 (randomSpan a first) s d x y out aside ignored loops out′ aside′ ignored′ loops′
@@ -87,7 +87,8 @@ unfolding wholeSpan isOpen sameQueue
 whole-told x above number e c =
     record {
       is = λ d h. ap₂ (λ (p q : Bool). p && q) e
-          (ap (λ (n : ℕ). eqb n 4) (c .is (h .records) (h .words) (h .bounds) ∙ ap (λ (p : Picker). queueNumber (pieceAt p (x .place) .state)) (sym (h .is))));
+          (ap (λ (n : ℕ). eqb n 4) (c .is (h .records) (h .words) (h .bounds)
+          ∙ ap (λ (p : Picker). queueNumber (pieceAt p (x .place) .state)) (sym (h .is))));
     }
 
 -- more than a block is left of the run
@@ -98,8 +99,10 @@ above-run d x e =
     (and-left (contiguousAbove 1 (contiguousOf (x .work))) (isOpen (pieceAt d (x .place) .state)) e)
 
 -- room for a span
-pub span-visit : {s : Shape} {live : ℕ} {rows words cells : List ℕ} {q : Request} {x : Walk} {out aside : List ℕ} {ignored : List Bool} {loops : List ℕ}
-    → Picks s live rows words cells q → Lapping s (pickerIn live rows words cells) x out aside ignored loops → SpanVisit s words cells q x out ignored loops
+pub span-visit : {s : Shape} {live : ℕ} {rows words cells : List ℕ} {q : Request} {x : Walk} {out aside : List ℕ} {ignored : List Bool}
+    {loops : List ℕ}
+    → Picks s live rows words cells q → Lapping s (pickerIn live rows words cells) x out aside ignored loops
+    → SpanVisit s words cells q x out ignored loops
 span-visit p h =
     let w = h .underway .working in
     let z = working-small w in
@@ -162,9 +165,16 @@ module _ {start base : ℕ} {out aside : List ℕ} {ignored : List Bool} where
       → walkOf start base d (marked x) out aside ignored loops ≡ seenAnew (walkOf start base d x out aside ignored loops)
   unfolding marked seenAnew walkOf
   mark-is x d loops h =
-      λ j. record { work = stateOf start d (x .work) out aside ignored loops; place = x .place; back = x .back; seen = go (x .back) j; over = x .over }
+      λ j. record {
+        work = stateOf start d (x .work) out aside ignored loops;
+        place = x .place;
+        back = x .back;
+        seen = go (x .back) j;
+        over = x .over;
+      }
     where
-      go : (b : Bool) → traceOf start base (cond b (traceNow x) (x .seen)) ≡ cond b (trace (stateOf start d (x .work) out aside ignored loops)) (traceOf start base (x .seen))
+      go : (b : Bool) → traceOf start base (cond b (traceNow x) (x .seen))
+          ≡ cond b (trace (stateOf start d (x .work) out aside ignored loops)) (traceOf start base (x .seen))
       go true = trace-now x d loops h
       go false = refl
 
@@ -175,7 +185,8 @@ module _ (out aside : List ℕ) {a : PickRequest} {first : ℕ} {s : Shape} {cel
   unfolding moved
   skip-work = ap (λ (v : Walk). v .work) (k .moved)
 
-  skip-working : (start N R : ℕ) → Working start N R d (x .work) out aside ignored loops → Working start N R d (y .work) out aside ignored loops′
+  skip-working : (start N R : ℕ) → Working start N R d (x .work) out aside ignored loops
+      → Working start N R d (y .work) out aside ignored loops′
   skip-working start N R w =
       let e = skip-work in
       working-same w (y .work) loops′ (ap (λ (v : PickNumbers). v .left) e) (ap (λ (v : PickNumbers). v .asked) e)
@@ -202,7 +213,8 @@ module _ (out aside : List ℕ) {a : PickRequest} {first : ℕ} {s : Shape} {cel
         let v = walkOf start base d y out aside ignored loops′ in
         sym (ap (λ (b : Bool). branch b over (λ u. randomVisit a first (seenAnew u)) v) (ends-told start base c ∙ e)) ∙ from-skip start base
 
-    pub lap-over : r ≡ true → (z : Walk) → z ≡ ended y → WalkDid 4096 4096 (lapStep a first) s d x z out aside ignored loops out aside ignored loops′
+    pub lap-over : r ≡ true → (z : Walk) → z ≡ ended y
+        → WalkDid 4096 4096 (lapStep a first) s d x z out aside ignored loops out aside ignored loops′
     unfolding ended
     lap-over e z o = record {
       is = λ start base c. ap (λ (v : Walk). walkOf start base d v out aside ignored loops′) o ∙ over-is e start base c;
@@ -238,8 +250,10 @@ module _ (out aside : List ℕ) {a : PickRequest} {first : ℕ} {s : Shape} {cel
       lap-unmarked start base c =
           let v = walkOf start base d y out aside ignored loops′ in
           let there = standsOpen a (y .place) (v .work) in
-          let q = not-false there (or-no-left (not there) (y .back && sameTrace (trace (v .work)) (v .seen)) (ends-told start base c ∙ e)) in
-          rw anew-place (not-true (nth false ignored (y .place)) (and-right (isPieceFree a d (y .place)) (not (nth false ignored (y .place))) q))
+          let q = not-false there (or-no-left (not there) (y .back && sameTrace (trace (v .work)) (v .seen))
+          (ends-told start base c ∙ e)) in
+          rw anew-place (not-true (nth false ignored (y .place)) (and-right (isPieceFree a d (y .place))
+          (not (nth false ignored (y .place))) q))
 
       -- what the visit relies on
       pub lap-lapping : Lapping s d x out aside ignored loops → Lapping s d y′ out aside ignored loops′
@@ -272,7 +286,8 @@ module _ (out aside : List ℕ) {a : PickRequest} {first : ℕ} {s : Shape} {cel
             w .is start base (sees-anew start base c)
             ∙ (ap (λ (u : Walk). randomVisit a first (walkOf start base d u out aside ignored loops′)) o
             ∙ (ap (randomVisit a first) (mark-is y d loops′ q)
-            ∙ (sym (ap (λ (b : Bool). branch b over (λ u. randomVisit a first (seenAnew u)) v) (ends-told start base c ∙ e)) ∙ from-skip start base)))
+            ∙ (sym (ap (λ (b : Bool). branch b over (λ u. randomVisit a first (seenAnew u)) v) (ends-told start base c ∙ e))
+            ∙ from-skip start base)))
 
         pub lap-visited : WalkDid 4096 4096 (lapStep a first) s d x z out aside ignored loops out′ aside′ ignored′ loops″
         lap-visited = record {
@@ -280,7 +295,8 @@ module _ (out aside : List ℕ) {a : PickRequest} {first : ℕ} {s : Shape} {cel
           sees = λ start base c. w .sees start base (sees-anew start base c);
           working = λ start N R c. w .working start N R (rw anew-work (skip-working start N R c));
           place = w .place;
-          kept = kept-then skip-kept (kept-then (kept-same (y .work) (y′ .work) out (ap (λ (v : PickNumbers). v .end) anew-work)) (w .kept));
+          kept = kept-then skip-kept (kept-then (kept-same (y .work) (y′ .work) out (ap (λ (v : PickNumbers). v .end) anew-work))
+              (w .kept));
           longAside = w .longAside;
           longIgnored = w .longIgnored;
           longLoops = w .longLoops ∙ k .long;

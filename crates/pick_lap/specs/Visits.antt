@@ -67,4 +67,5 @@ SpanWalked step s words cells x y out out′ ignored ignored′ loops loops′ =
 abbrev pub PieceWalked : (step : RandomWalk → RandomWalk) (s : Shape) (d : Picker) (x y : Walk) (out aside : List ℕ) (ignored : List Bool)
     (out′ aside′ : List ℕ) (ignored′ : List Bool) → Type 0
 PieceWalked step s d x y out aside ignored out′ aside′ ignored′ =
-    (loops : List ℕ) → Underway d (x .work) out aside ignored loops → WalkDid 0 0 step s d x y out aside ignored loops out′ aside′ ignored′ loops
+    (loops : List ℕ) → Underway d (x .work) out aside ignored loops
+    → WalkDid 0 0 step s d x y out aside ignored loops out′ aside′ ignored′ loops

@@ -1,23 +1,23 @@
 -- The random walk by what is left of its turns: they suffice, and each leaves one fewer. Assumes nothing.
 use mathlib.Core.Path.{_≡_, refl, sym, ap, subst, _∙_}
-use mathlib.Core.Bool.{Bool, true, false, not, _||_}
+use mathlib.Core.Bool.{Bool, true, false}
 use mathlib.Core.List.{List}
 use Prim.Native.Nat.{ℕ, zero, suc, _+_, _-_, _*_, _≤_, _<_}
 use native.Mathlib.Omega.{arith}
 use lib.Dec.{eqb}
 use lib.ListN.{length}
 use borrow.Author.Tests.{eqb-false}
-use Rattle.model.specs.Lists.{nth, len, unless, repeat}
+use Rattle.model.specs.Lists.{nth, unless, repeat}
 use Rattle.model.specs.Options.{randStartLoops, randLoops}
 use Rattle.model.specs.State.{Picker, piecesIn}
-use Rattle.model.specs.pick.Blocks.{PickRequest, PickState, spent}
-use Rattle.model.specs.pick.Pick.{RandomWalk, Trace, trace, lapStep, walkOver, ringFuel, ring}
+use Rattle.model.specs.pick.Blocks.{PickRequest, spent}
+use Rattle.model.specs.pick.Pick.{RandomWalk, trace, lapStep, walkOver, ringFuel, ring}
 use Rattle.model.specs.image.Sound.{Sound}
-use Rattle.model.proofs.base.Truths.{or-no-left, or-no-right}
+use Rattle.model.proofs.base.Truths.{or-no-right}
 use Rattle.model.proofs.pick.RingLaws.{Ready, ring-over}
 use Rattle.memory_layout.specs.declared.shape.Shape.{Shape}
 use Rattle.pick_state.specs.declared.numbers.PickNumbers.{PickNumbers}
-use Rattle.pick_state.specs.PickStates.{contiguousOf, blocksBetween, stateOf, OutKept, Did, Roomy}
+use Rattle.pick_state.specs.PickStates.{contiguousOf, stateOf, OutKept}
 use Rattle.pick_state.specs.Room.{Working, Underway}
 use Rattle.pick_state.proofs.DidLaws.{kept-none, kept-then}
 use Rattle.pick_state.proofs.RoomLaws.{working-left, working-small, working-marks, working-tight, working-aside}
@@ -25,7 +25,7 @@ use Rattle.pick_state.proofs.TakeLaws.{between-length}
 use Rattle.pick_visits.specs.Steps.{Stepped}
 use Rattle.pick_runs.specs.Spans.{marks}
 use Rattle.pick_walk.specs.declared.walk.RandomWalk.{RandomWalk as Walk}
-use Rattle.pick_walk.specs.Walks.{traceOf, walkOf, traceNow, Sees, WalkDid}
+use Rattle.pick_walk.specs.Walks.{walkOf, traceNow, Sees, WalkDid}
 use Rattle.pick_walk.proofs.TurnLaws.{turns-none, turns-next, turnsLeft, turns-most, turns-fewer}
 use Rattle.pick_lap.specs.Visits.{Lapping}
 use Rattle.pick_lap.proofs.LapLaws.{trace-now}
@@ -90,7 +90,8 @@ module _ {start N R : ℕ} {d : Picker} {t : PickNumbers} {out aside : List ℕ}
 
   -- its turns suffice
   begun-over : (a : PickRequest) (first : ℕ) → Sound d → first < piecesIn d → 1 ≤ t .left
-      → walkOver (repeat ringFuel (lapStep a first) walkOver (walkOf (t .end) (marks ignored) d (begun first t) out aside ignored loops)) ≡ true
+      → walkOver (repeat ringFuel (lapStep a first) walkOver (walkOf (t .end) (marks ignored) d (begun first t) out aside ignored loops))
+      ≡ true
   unfolding stateOf
   begun-over a first s l n =
       let w = working-now n in
@@ -119,7 +120,8 @@ pub record RingRest (fuel : ℕ) (a : PickRequest) (first : ℕ) (s : Shape) (d 
   pub blocks : nth 0 loops₁ randLoops ≤ nth 0 loops randLoops + turns * 4096
 
 -- the turns that are left, from where the output ended when the walk began
-unfoldable pub turnsFrom : (fuel : ℕ) (a : PickRequest) (first base : ℕ) (d : Picker) (t : PickNumbers) (x : Walk) (out aside : List ℕ) (ignored : List Bool)
+unfoldable pub turnsFrom : (fuel : ℕ) (a : PickRequest) (first base : ℕ) (d : Picker) (t : PickNumbers) (x : Walk) (out aside : List ℕ)
+    (ignored : List Bool)
     (loops : List ℕ) → ℕ
 turnsFrom fuel a first base d t x out aside ignored loops =
     turnsLeft (lapStep a first) walkOver fuel (walkOf (t .end) base d x out aside ignored loops)
@@ -129,7 +131,8 @@ pub begun-work : (first : ℕ) (t : PickNumbers) (x : Walk) → x ≡ begun firs
 unfolding begun
 begun-work first t x e = ap (λ (v : Walk). v .work) e
 
-pub begun-underway : (first : ℕ) (t : PickNumbers) (x : Walk) → x ≡ begun first t → {d : Picker} {out aside : List ℕ} {ignored : List Bool} {loops : List ℕ}
+pub begun-underway : (first : ℕ) (t : PickNumbers) (x : Walk) → x ≡ begun first t → {d : Picker} {out aside : List ℕ} {ignored : List Bool}
+    {loops : List ℕ}
     → Underway d t out aside ignored loops → Underway d (x .work) out aside ignored loops
 begun-underway first t x e {d = d} {out = out} {aside = aside} {ignored = ignored} {loops = loops} u =
     subst (λ (v : PickNumbers). Underway d v out aside ignored loops) (sym (begun-work first t x e)) u
@@ -146,7 +149,11 @@ rings-start a first s {d = d} {t = t} {out = out} {aside = aside} {ignored = ign
       turns = 0;
       is = λ start k. refl;
       ends = begun-over (u .working) a first h (omega arith) n;
-      enough = omega (arith, turns-most (lapStep a first) walkOver ringFuel (walkOf (t .end) (marks ignored) d (begun first t) out aside ignored loops));
+      enough = omega (
+        arith,
+        turns-most (lapStep a first) walkOver ringFuel
+            (walkOf (t .end) (marks ignored) d (begun first t) out aside ignored loops),
+      );
       sees = begun-sees (u .working) first;
       working = λ start N R k. k;
       place = l;
@@ -158,7 +165,8 @@ rings-start a first s {d = d} {t = t} {out = out} {aside = aside} {ignored = ign
       blocks = omega arith;
     }
 
-module _ {fuel : ℕ} {a : PickRequest} {first : ℕ} {s : Shape} {d : Picker} {t : PickNumbers} {x : Walk} {out aside : List ℕ} {ignored : List Bool}
+module _ {fuel : ℕ} {a : PickRequest} {first : ℕ} {s : Shape} {d : Picker} {t : PickNumbers} {x : Walk} {out aside : List ℕ}
+    {ignored : List Bool}
     {loops : List ℕ} {out₁ aside₁ : List ℕ} {ignored₁ : List Bool} {loops₁ : List ℕ}
     (c : RingRest fuel a first s d t x out aside ignored loops out₁ aside₁ ignored₁ loops₁) where
   over-told : (start base : ℕ) → walkOver (walkOf start base d x out₁ aside₁ ignored₁ loops₁) ≡ walkDone x
@@ -170,10 +178,12 @@ module _ {fuel : ℕ} {a : PickRequest} {first : ℕ} {s : Shape} {d : Picker} {
     not-over start base = over-told start base ∙ e
 
     -- a turn is left
-    fewer : turnsLeft (lapStep a first) walkOver fuel (lapStep a first (walkOf (t .end) (marks ignored) d x out₁ aside₁ ignored₁ loops₁)) + 1
+    fewer : turnsLeft (lapStep a first) walkOver fuel
+        (lapStep a first (walkOf (t .end) (marks ignored) d x out₁ aside₁ ignored₁ loops₁)) + 1
         ≡ turnsLeft (lapStep a first) walkOver fuel (walkOf (t .end) (marks ignored) d x out₁ aside₁ ignored₁ loops₁)
     fewer =
-        turns-fewer (lapStep a first) walkOver fuel (walkOf (t .end) (marks ignored) d x out₁ aside₁ ignored₁ loops₁) (not-over (t .end) (marks ignored)) (c .ends)
+        turns-fewer (lapStep a first) walkOver fuel (walkOf (t .end) (marks ignored) d x out₁ aside₁ ignored₁ loops₁)
+        (not-over (t .end) (marks ignored)) (c .ends)
 
     pub turn-left : c .turns + 1 ≤ fuel
     turn-left = let k = c .enough in omega (arith, fewer)
@@ -216,7 +226,8 @@ module _ {fuel : ℕ} {a : PickRequest} {first : ℕ} {s : Shape} {d : Picker} {
       step-is start l = w .is start (marks ignored) (c .sees start l)
 
       -- one fewer is left
-      pub rings-less : turnsFrom fuel a first (marks ignored) d t y out₂ aside₂ ignored₂ loops₂ < turnsFrom fuel a first (marks ignored) d t x out₁ aside₁ ignored₁ loops₁
+      pub rings-less : turnsFrom fuel a first (marks ignored) d t y out₂ aside₂ ignored₂ loops₂
+          < turnsFrom fuel a first (marks ignored) d t x out₁ aside₁ ignored₁ loops₁
       unfolding turnsFrom
       rings-less = rw (step-is (t .end) (omega arith)) (omega (arith, fewer))
 
@@ -232,7 +243,8 @@ module _ {fuel : ℕ} {a : PickRequest} {first : ℕ} {s : Shape} {d : Picker} {
                 let m : fuel - (c .turns + 1) ≡ fuel - c .turns - 1 = omega arith in
                 ap (λ (k : ℕ). repeat k (lapStep a first) walkOver (walkOf start (marks ignored) d y out₂ aside₂ ignored₂ loops₂)) m
                 ∙ (ap (repeat (fuel - c .turns - 1) (lapStep a first) walkOver) (step-is start l)
-                ∙ (sym (turn-made (lapStep a first) walkOver (fuel - c .turns) u (omega arith) (not-over start (marks ignored))) ∙ c .is start l));
+                ∙ (sym (turn-made (lapStep a first) walkOver (fuel - c .turns) u (omega arith) (not-over start (marks ignored)))
+                ∙ c .is start l));
             ends = ap (λ (k : RandomWalk). walkOver (repeat fuel (lapStep a first) walkOver k)) z
                 ∙ (ap walkOver (turns-next (lapStep a first) walkOver fuel v (not-over (t .end) (marks ignored)) (c .ends)) ∙ c .ends);
             enough = let k = c .enough in rw z (omega (arith, fewer));
@@ -284,10 +296,12 @@ module _ {a : PickRequest} {first : ℕ} {s : Shape} {d : Picker} {t : PickNumbe
     }
 
 -- the numbers that the walk began with, by their name
-pub rings-named : (a : PickRequest) (first : ℕ) {t₀ t : PickNumbers} → t₀ ≡ t → {d : Picker} {r : PickNumbers} {out aside : List ℕ} {ignored : List Bool}
+pub rings-named : (a : PickRequest) (first : ℕ) {t₀ t : PickNumbers} → t₀ ≡ t → {d : Picker} {r : PickNumbers} {out aside : List ℕ}
+    {ignored : List Bool}
     {loops : List ℕ} {out₁ aside₁ : List ℕ} {ignored₁ : List Bool} {loops₁ : List ℕ}
     → Stepped (ring a first) d t₀ r out aside ignored loops out₁ aside₁ ignored₁ loops₁
     → Stepped (ring a first) d t r out aside ignored loops out₁ aside₁ ignored₁ loops₁
-rings-named a first e {d = d} {r = r} {out = out} {aside = aside} {ignored = ignored} {loops = loops} {out₁ = out₁} {aside₁ = aside₁} {ignored₁ = ignored₁}
+rings-named a first e {d = d} {r = r} {out = out} {aside = aside} {ignored = ignored} {loops = loops} {out₁ = out₁} {aside₁ = aside₁}
+    {ignored₁ = ignored₁}
     {loops₁ = loops₁} w =
     subst (λ (v : PickNumbers). Stepped (ring a first) d v r out aside ignored loops out₁ aside₁ ignored₁ loops₁) e w

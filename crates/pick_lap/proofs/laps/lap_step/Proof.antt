@@ -3,7 +3,6 @@ use mathlib.Core.Path.{refl, _∙_}
 use native.Mathlib.Omega.{arith}
 use borrow.Author.Needs.{needs}
 use Rattle.memory_rows.specs.Lookup.{pickerIn}
-use Rattle.pick_state.specs.Requests.{requestOf}
 use Rattle.pick_state.proofs.RoomLaws.{working-marks}
 use Rattle.pick_free.proofs.FreeLaws.{picks-cells}
 use Rattle.pick_blocks.proofs.AddingLaws.{picks-in}
