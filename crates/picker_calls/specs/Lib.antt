@@ -1,3 +1,4 @@
 pub mod Calling
 pub mod Outcomes
+pub mod Judges
 pub mod Cores
