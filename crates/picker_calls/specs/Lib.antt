@@ -1,4 +1,5 @@
 pub mod Calling
 pub mod Starting
 pub mod Outcomes
+pub mod Judges
 pub mod Cores

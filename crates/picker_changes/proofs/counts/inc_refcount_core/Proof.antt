@@ -1,177 +1,84 @@
 -- `inc_refcount_core` meets its contract. Assumes nothing.
-use mathlib.Core.Path.{refl, sym, ap, subst, _∙_}
+-- Written by tools/calls.py, and not by hand.
+use mathlib.Core.Path.{refl}
 use Prim.Native.Nat.{ℕ}
 use Rattle.model.specs.change.Changes.{incRefcount}
-use Rattle.model.specs.Calls.{act, done, inc-refcount}
+use Rattle.model.specs.Calls.{act, inc-refcount}
 use Rattle.memory_layout.specs.Standing.{editRecords}
-use Rattle.memory_records.specs.declared.edits.Edit.the-variants.{Keep}
-use Rattle.picker_calls.specs.Outcomes.{judged, outcome}
-use Rattle.picker_calls.specs.Cores.{CoreCalled}
-use Rattle.picker_calls.proofs.CoreLaws.{stood-at, stood-beside, barred, denied, acted-quietly, keep-insert}
-use Rattle.picker_changes.proofs.CountCalls.{inc-listless, inc-passed}
+use Rattle.picker_calls.proofs.ListlessLaws.{listless}
+use Rattle.picker_calls.proofs.CoreLaws.{stood-at, stood-beside, of-argument, barred, denied, passed, acted-quietly, keep-insert}
+use Rattle.picker_changes.proofs.CountLaws.{inc-passed}
 use borrow.Author.Needs.{needs}
 use Rattle.picker_changes.proofs.counts.inc_refcount_core.Statement.{statement}
 use Rattle.picker_changes.proofs.counts.inc_refcount_core.Tie as tie
-use Rattle.picker_changes.proofs.counts.inc_refcount_core.Reads as reads
-use Rattle.picker_changes.proofs.counts.inc_refcount_core.Lts as lts
-use Rattle.change_counts.proofs.inc_refcount.Reads as inc-refcount-reads
-use Rattle.memory_records.proofs.live_records.Reads as live-records-reads
-use Rattle.picker_calls.proofs.admit.Reads as admit-reads
-use Rattle.picker_calls.proofs.refused.Reads as refused-reads
-use Rattle.picker_changes.proofs.counts.judge_inc_refcount.Reads as judge-inc-refcount-reads
-use Rattle.types.proofs.piece.PieceIndex.number.Reads as number-reads
 
--- src/counts.rt:59:43
-slice-aggregate-admit : tie.Need-slice-aggregate-admit
-slice-aggregate-admit c = search needs
+judge : tie.Need-judge-inc-refcount-requires
+judge c κs =
+    let c4 = c .before .before .before .before in
+    let m = c4 .before .before .before .admit in
+    stood-beside _ _ _ _ _ _ (stood-at _ _ _ _ _ (m .result) (m .ensures) _ (c4 .s .given .1))
 
--- src/counts.rt:59:11
-admit-requires : tie.Need-admit-requires
-admit-requires c κs = search needs
+change : tie.Need-inc-refcount-requires
+change c κs =
+    let c4 = c .before .before .before .before in
+    let c6 = c4 .before .before in
+    let c11 = c6 .before .before .before .before .before in
+    let m = c11 .before .before .before .admit in
+    let j = c6 .judge-inc-refcount in
+    let t = stood-at _ _ _ _ _ (m .result) (m .ensures) _ (c11 .s .given .1) in
+    let l = listless (inc-refcount _ _) refl in
+    let p = passed _ _ _ _ _ _ t _ l (j .result) (j .ensures .is _ (t .stands)) (c4 .enum-told .given .1) in
+    (stood-beside _ _ _ _ _ _ t, inc-passed _ _ _ _ (t .stands) _ _ p)
 
--- src/counts.rt:60:28
-enum-known-why : tie.Need-enum-known-why
-enum-known-why c = search needs
+for-memory : tie.Need-returns
+for-memory c =
+    let m = c .before .before .before .before .before .admit in
+    let l = listless (inc-refcount _ _) refl in
+    barred _ _ _ _ _ (m .result) (m .ensures) _ (c .before .before .why .given .1) _ l _ _ _ (c .refused .ensures)
 
--- src/counts.rt:60:36
-refused-requires : tie.Need-refused-requires
-refused-requires c κs = search needs
-
--- src/counts.rt:61:23
-enum-known-s : tie.Need-enum-known-s
-enum-known-s c = search needs
-
--- src/counts.rt:62:17
-number-requires : tie.Need-number-requires
-number-requires c κs = search needs
-
--- src/counts.rt:63:19
-judge-inc-refcount-requires : tie.Need-judge-inc-refcount-requires
-judge-inc-refcount-requires c κs =
-    let k = c .before .before .before .before .before .before .before .admit in stood-beside _ _ _ _ _ (k .result) (k .ensures) _
-    (c .before .before .before .before .s .given .1)
-
--- src/counts.rt:64:36
-enum-known-why-2 : tie.Need-enum-known-why-2
-enum-known-why-2 c = search needs
-
--- src/counts.rt:64:44
-refused-requires-2 : tie.Need-refused-requires-2
-refused-requires-2 c κs = search needs
-
--- src/counts.rt:66:45
-enum-told : tie.Need-enum-told
-enum-told c = search needs
-
--- src/counts.rt:66:25
-live-records-requires : tie.Need-live-records-requires
-live-records-requires c κs = search needs
-
--- src/counts.rt:67:25
-inc-refcount-requires : tie.Need-inc-refcount-requires
-inc-refcount-requires c κs =
-    let k = c .before .before .before .before .before .before .before .before .before .before .before .before .before .before .admit in
-    let j = c .before .before .before .before .before .before .judge-inc-refcount in
-    let at = c .before .before .before .before .before .before .before .before .before .before .before .s .given .1 in
-    let t = stood-at _ _ _ _ _ (k .result) (k .ensures) _ at .stands in (
-      stood-beside _ _ _ _ _ (k .result) (k .ensures) _ at,
-      inc-passed _ _ _ _ t _ _ (sym (j .ensures .is _ t) ∙ ap judged
-          (c .before .before .before .before .enum-told .given .1)),
-    )
-
--- src/counts.rt:46:1
-same-length : tie.Need-same-length
-same-length c = search needs
-
--- src/counts.rt:46:1
-same-length-2 : tie.Need-same-length-2
-same-length-2 c = search needs
-
--- src/counts.rt:46:1
-returns : tie.Need-returns
-returns c =
-    let k = c .before .before .before .before .before .admit in
-    barred _ _ _ _ _ (k .result) (k .ensures) _ (c .before .before .why .given .1) _ (inc-listless _ _) _ _ _ (c .refused .ensures)
-
--- src/counts.rt:46:1
-same-length-3 : tie.Need-same-length-3
-same-length-3 c = search needs
-
--- src/counts.rt:46:1
-same-length-4 : tie.Need-same-length-4
-same-length-4 c = search needs
-
--- src/counts.rt:46:1
-returns-2 : tie.Need-returns-2
-returns-2 c =
-    let k = c .before .before .before .before .before .before .before .before .before .before .before .before .admit in
-    let j = c .before .before .before .before .judge-inc-refcount in
-    let at = c .before .before .before .before .before .before .before .before .before .s .given .1 in
-    let t = stood-at _ _ _ _ _ (k .result) (k .ensures) _ at .stands in
-    let r = c .refused2 .result in
-    let a = c .before .before .before .before .before .before .before .before .before .before .before .before .before .before .before
-    .before .before .before .before .before .args in
-    subst (λ (i : ℕ). CoreCalled (a .words .now) (a .cells .now) (a .rows .now) (a .lent) (inc-refcount i (a .draws .now))
-    (a .words .now) (a .cells .now)
-    (outcome (r .out)) (r .count) (r .edit)) (c .before .before .before .before .before .before .before .number .ensures)
-    (denied _ _ _ _ _ (k .result) (k .ensures) _ at _ (inc-listless _ _) (j .result) (j .ensures .is _ t) _
+by-judge : tie.Need-returns-2
+by-judge c =
+    let c4 = c .before .before .before .before in
+    let c7 = c4 .before .before .before in
+    let c9 = c7 .before .before in
+    let c12 = c9 .before .before .before in
+    let a = c12 .before .before .before .before .before .before .before .before .args in
+    let m = c12 .admit in
+    let j = c4 .judge-inc-refcount in
+    let t = stood-at _ _ _ _ _ (m .result) (m .ensures) _ (c9 .s .given .1) in
+    of-argument (λ (i : ℕ). inc-refcount i (a .draws .now)) _ _ (c7 .number .ensures) _ _ _ _ _ _ _ _ _
+    (denied _ _ _ _ _ _ t _ (listless (inc-refcount _ _) refl) (j .result) (j .ensures .is _ (t .stands)) _
     (c .before .before .why2 .given .1) _ _ _ (c .refused2 .ensures))
 
--- src/counts.rt:46:1
-same-length-5 : tie.Need-same-length-5
-same-length-5 c = search needs
-
--- src/counts.rt:46:1
-same-length-6 : tie.Need-same-length-6
-same-length-6 c = search needs
-
--- src/counts.rt:46:1
-returns-3 : tie.Need-returns-3
+done : tie.Need-returns-3
 unfolding act editRecords
-returns-3 c =
-    let k = c .before .before .before .before .before .before .before .before .before .before .before .before .before .before .before
-    .before .before .before .before .admit in
-    let j = c .before .before .before .before .before .before .before .before .before .before .before .judge-inc-refcount in
-    let at = c .before .before .before .before .before .before .before .before .before .before .before .before .before .before .before
-    .before .s .given .1 in
-    let t = stood-at _ _ _ _ _ (k .result) (k .ensures) _ at .stands in
-    let x = c .before .before .before .before .inc-refcount in
-    let m = x .ensures .done _ t in
-    let a = c .before .before .before .before .before .before .before .before .before .before .before .before .before .before .before
-    .before .before .before .before .before .before .before .before .before .before .before .before .args in
-    subst (λ (i : ℕ). CoreCalled (a .words .now) (a .cells .now) (a .rows .now) (a .lent) (inc-refcount i (a .draws .now))
-    (c .before .before .before .before .inc-refcount .last .0) (c .before .before .before .before .inc-refcount .last .1 .0)
-    (done (x .result)) (c .before .before .before .before .before .before .before .live-records .result) Keep)
-    (c .before .before .before .before .before .before .before .before .before .before .before .before .before .before .number .ensures)
-    (acted-quietly _ _ _ _ _ (k .result) (k .ensures) _ at _ (inc-listless _ _) (j .result) (j .ensures .is _ t)
-    (c .before .before .before .before .before .before .before .before .before .enum-told .given .1) _
-    (c .before .before .before .before .before .before .before .live-records .ensures) _ (λ d e. absurd (keep-insert d e)) _ _
-    (incRefcount (a .draws .now)
-    (c .before .before .before .before .before .before .before .before .before .before .before .before .before .before .number .result))
-    refl (x .result) (m .draws) (m .changed))
+done c =
+    let c4 = c .before .before .before .before in
+    let c7 = c4 .before .before .before in
+    let c9 = c7 .before .before in
+    let c11 = c9 .before .before in
+    let c14 = c11 .before .before .before in
+    let c16 = c14 .before .before in
+    let c19 = c16 .before .before .before in
+    let a = c19 .before .before .before .before .before .before .before .before .args in
+    let m = c19 .admit in
+    let n = c14 .number in
+    let j = c11 .judge-inc-refcount in
+    let r = c7 .live-records in
+    let x = c4 .inc-refcount in
+    let t = stood-at _ _ _ _ _ (m .result) (m .ensures) _ (c16 .s .given .1) in
+    let l = listless (inc-refcount _ _) refl in
+    let p = passed _ _ _ _ _ _ t _ l (j .result) (j .ensures .is _ (t .stands)) (c9 .enum-told .given .1) in
+    let d = x .ensures .done _ (t .stands) in
+    of-argument (λ (i : ℕ). inc-refcount i (a .draws .now)) _ _ (n .ensures) _ _ _ _ _ _ _ _ _
+    (acted-quietly _ _ _ _ _ _ t _ l p (r .result) (r .ensures) _ keep-insert _ _ (incRefcount (a .draws .now) (n .result)) refl
+    (x .result) (d .draws) (d .changed))
 
 pub inc-refcount-core-spec : {M : Type 1} → statement M
 inc-refcount-core-spec =
     tie.close
     (tie.spec
-    slice-aggregate-admit
-    admit-requires
-    enum-known-why
-    refused-requires
-    enum-known-s
-    number-requires
-    judge-inc-refcount-requires
-    enum-known-why-2
-    refused-requires-2
-    enum-told
-    live-records-requires
-    inc-refcount-requires
-    same-length
-    same-length-2
-    returns
-    same-length-3
-    same-length-4
-    returns-2
-    same-length-5
-    same-length-6
-    returns-3)
+    (λ c. search needs) (λ c κs. search needs) (λ c. search needs) (λ c κs. search needs) (λ c. search needs) (λ c κs. search needs)
+    judge (λ c. search needs) (λ c κs. search needs) (λ c. search needs) (λ c κs. search needs) change
+    (λ c. search needs) (λ c. search needs) for-memory (λ c. search needs) (λ c. search needs) by-judge
+    (λ c. search needs) (λ c. search needs) done)
