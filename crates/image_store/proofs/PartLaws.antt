@@ -8,9 +8,9 @@ use native.Mathlib.Decide.{decLt}
 use lib.Dec.{ltb}
 use lib.ListN.{length, drop, length-drop}
 use Rattle.model.specs.Lists.{len, from}
-use Rattle.model.specs.Bep3.{numPieces}
+use Rattle.model.specs.Bep3.{numPieces, wholePieceBlocks}
 use Rattle.model.specs.State.{DownloadingPiece, Picker, Listing, dirty, fresh, maxExtents, withPieces, withPartials}
-use Rattle.model.specs.State.{withRecentExtents, withListing, piecesIn}
+use Rattle.model.specs.State.{withRecentExtents, withListing, piecesIn, blocksPerPiece}
 use Rattle.model.specs.list.Order.{rank, withBucket}
 use Rattle.model.specs.image.Image.{headKind, Got, got, fault, ret, next, judged, readHead, getPieces, getPartials}
 use Rattle.model.specs.image.Image.{getExtents, getOrder, getListing, getPicker, accepted, whole, readImage}
@@ -120,6 +120,19 @@ module _ (bytes : List ℕ) (head : Head) (g : HeadGot bytes head) (n : ℕ) (en
         listingIs = e₃ ∙ ap (got l) (got-rest q₃);
         is = got-value q₃;
       }
+
+-- the geometry of the picker is the head's
+module _ (bytes : List ℕ) (p : Picker) (e : readImage bytes ≡ accepted p) (head : Head) (g : HeadGot bytes head) where
+  all-parts : Parts head (numPieces (head .total) (head .size)) bytes p
+  all-parts = parts bytes head g (numPieces (head .total) (head .size)) refl p (image-got bytes p e)
+
+  pub pieces-in : piecesIn p ≡ numPieces (head .total) (head .size)
+  unfolding piecesIn withListing withRecentExtents bodyPicker withPartials withPieces firstPieces
+  pieces-in = ap piecesIn (sym (all-parts .is)) ∙ tabulate-len (numPieces (head .total) (head .size)) (pieceIn bytes)
+
+  pub blocks-in : blocksPerPiece p ≡ wholePieceBlocks (head .size)
+  unfolding blocksPerPiece withListing withRecentExtents bodyPicker withPartials withPieces headPicker
+  blocks-in = ap blocksPerPiece (sym (all-parts .is))
 
 -- ---- extents and list by place
 pub record TailFound (head : Head) (n at : ℕ) (bytes es : List ℕ) (l : Listing) : Type 0 where

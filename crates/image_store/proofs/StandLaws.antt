@@ -43,7 +43,7 @@ use Rattle.image_store.specs.Storing.{rowsHeld, Begun, PartialsStored}
 use Rattle.image_store.specs.Stored.{TailStored, RowsAre, Standing, Room}
 use Rattle.image_store.proofs.HeldLaws.{SameAt, partial-same, plain-same}
 use Rattle.image_store.proofs.StoreLaws.{begun-on, blocks-few}
-use Rattle.image_store.proofs.PartLaws.{image-got, Parts, parts, TailFound, tail-found, extents-one, tail-of}
+use Rattle.image_store.proofs.PartLaws.{image-got, Parts, parts, pieces-in, blocks-in, TailFound, tail-found, extents-one, tail-of}
 
 -- ---- the head
 module _ (head : Head) (words mid : List ℕ) (long : 16 ≤ length words) (e : mid ≡ headWords head ++ drop 6 words) where
@@ -78,22 +78,17 @@ module _ (bytes words cells : List ℕ) (p : Picker) (e : readImage bytes ≡ ac
   abbrev n : ℕ
   n = numPieces (head .total) (head .size)
 
-  pub all-parts : Parts head n bytes p
-  all-parts = parts bytes head g n refl p (image-got bytes p e)
+  pieces-are-in : piecesIn p ≡ n
+  pieces-are-in = pieces-in bytes p e head g
 
-  pub pieces-in : piecesIn p ≡ n
-  unfolding piecesIn withListing withRecentExtents bodyPicker withPartials withPieces firstPieces
-  pieces-in = ap piecesIn (sym (all-parts .is)) ∙ tabulate-len n (pieceIn bytes)
-
-  pub blocks-in : blocksPerPiece p ≡ wholePieceBlocks (head .size)
-  unfolding blocksPerPiece withListing withRecentExtents bodyPicker withPartials withPieces headPicker
-  blocks-in = ap blocksPerPiece (sym (all-parts .is))
+  blocks-are-in : blocksPerPiece p ≡ wholePieceBlocks (head .size)
+  blocks-are-in = blocks-in bytes p e head g
 
   pub words-room : wordsFor n (wholePieceBlocks (head .size)) ≤ length words
-  words-room = rw (← pieces-in, ← blocks-in) (room p e .0)
+  words-room = rw (← pieces-are-in, ← blocks-are-in) (room p e .0)
 
   pub cells-room : cellsFor n (wholePieceBlocks (head .size)) ≤ length cells
-  cells-room = rw (← pieces-in, ← blocks-in) (room p e .1)
+  cells-room = rw (← pieces-are-in, ← blocks-are-in) (room p e .1)
 
   pub head-room : 16 ≤ length words
   head-room = omega (arith, words-from n (wholePieceBlocks (head .size)), words-room)
@@ -425,10 +420,10 @@ module _ (bytes words cells : List ℕ) (p : Picker) (e : readImage bytes ≡ ac
                 ∙ ap len partials-are ∙ ap (λ (x : Picker). len (x .partials)) (shaped-parts .is)
 
             needs-words : wordsFor (piecesIn p) (blocksPerPiece p) ≡ wordsFor (s .pieces) (s .blocks)
-            needs-words = ap₂ wordsFor (pieces-in ∙ sym shape-pieces) (blocks-in ∙ sym shape-blocks)
+            needs-words = ap₂ wordsFor (pieces-are-in ∙ sym shape-pieces) (blocks-are-in ∙ sym shape-blocks)
 
             needs-cells : cellsFor (piecesIn p) (blocksPerPiece p) ≡ cellsFor (s .pieces) (s .blocks)
-            needs-cells = ap₂ cellsFor (pieces-in ∙ sym shape-pieces) (blocks-in ∙ sym shape-blocks)
+            needs-cells = ap₂ cellsFor (pieces-are-in ∙ sym shape-pieces) (blocks-are-in ∙ sym shape-blocks)
 
             pub standing : Standing p (w .many) words cells words₄ cells₃ rows₃
             standing = record {
