@@ -31,13 +31,13 @@ module _ (lent count : ℕ) (bytes words cells words′ cells′ rows′ : List 
     are = λ k h. records-at count rows′ k h;
   }
 
-  own-stands : Stands (m .standing .shape) (recordsIn count rows′) words′ cells′
+  pub own-stands : Stands (m .standing .shape) (recordsIn count rows′) words′ cells′
   own-stands = m .standing .stands (recordsIn count rows′) rows-own
 
-  own-is : decode (recordsIn count rows′) words′ cells′ ≡ m .picker
+  pub own-is : decode (recordsIn count rows′) words′ cells′ ≡ m .picker
   own-is = m .standing .is (recordsIn count rows′) rows-own
 
-  count-is : count ≡ headWord words′ 7
+  pub count-is : count ≡ headWord words′ 7
   count-is =
       m .standing .many ∙ ap (λ (p : Picker). len (p .partials)) (sym own-is)
       ∙ partials-number (m .standing .shape) (recordsIn count rows′) words′ cells′ (own-stands .bounds)
