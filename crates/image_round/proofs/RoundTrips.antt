@@ -83,7 +83,8 @@ made-accepted lent (accepted s) p e = go (isShort lent (memoryNeeded s)) e
     go false f = ap accepted (made-one s p f)
 made-accepted lent (faultAt k) p e = let z : _≡_ {A = ℕ} 0 1 = cc in absurd (omega arith)
 
-module _ (lent count : ℕ) (bytes words cells words′ cells′ rows′ : List ℕ) (m : Stood lent count bytes words cells words′ cells′ rows′) where
+module _ (lent count : ℕ) (bytes words cells words′ cells′ rows′ : List ℕ)
+    (m : Stood lent count bytes words cells words′ cells′ rows′) where
   bytes-are : image (m .picker) ≡ bytes
   unfolding readPicker
   bytes-are = accepted-image bytes (m .picker) (made-accepted (lengths lent words cells) (readImage bytes) (m .picker) (m .is)) .0

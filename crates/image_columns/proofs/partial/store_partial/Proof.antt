@@ -44,7 +44,7 @@ store-blocks-requires : tie.Need-store-blocks-requires
 store-blocks-requires c κs =
     let c15 = c .before .before .before .before .before .before .before .before .before .before .before .before .before .before .before in
     let q = c15 .pre in
-    (q .0, (q .1 .0 .1, q .1 .0 .2, q .1 .0 .3, q .1 .1 .0))
+    (q .0, (q .1 .0 .1, q .1 .0 .2, q .1 .0 .3, omega (arith, q .1 .1 .0)))
 
 same-length : tie.Need-same-length
 same-length c = search needs
