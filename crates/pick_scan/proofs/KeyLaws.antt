@@ -33,19 +33,15 @@ module _ (s : Shape) (live : ℕ) (rows words cells : List ℕ) (g : Asked s liv
   d = pickerIn live rows words cells
 
   -- it has at most 256 blocks
-  pub progress-small : progress (partialIn d k) ≤ 256
-  unfolding len
-  progress-small =
+  pub blocks-small : len (partialIn d k .blocks) ≤ 256
+  blocks-small =
       let e : len (partialIn d k .blocks) ≡ blocksOf words (rowAt rows k .index) =
       ap len (this-blocks s live rows words cells g k h)
       ∙ tabulate-len (blocksOf words (rowAt rows k .index)) (blockHeld words cells (s .pieces) (s .blocks) (rowAt rows k .«info_idx»)) in
-      omega (
-        arith,
-        e,
-        progress-low (partialIn d k),
-        few-blocks s live rows words cells g k h,
-        g .stands .bounds .spans .inWords .sizes .wide,
-      )
+      omega (arith, e, few-blocks s live rows words cells g k h, g .stands .bounds .spans .inWords .sizes .wide)
+
+  pub progress-small : progress (partialIn d k) ≤ 256
+  progress-small = omega (arith, progress-low (partialIn d k), blocks-small)
 
   -- by the counts
   pub progress-told : (counts : List ℕ) → CountsHeld d live counts → (asked came held : ℕ) → CountSays counts k Requested asked
