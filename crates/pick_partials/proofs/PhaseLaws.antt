@@ -14,7 +14,8 @@ use Rattle.model.specs.State.{DownloadingPiece, Picker}
 use Rattle.model.specs.Options.{rarestFirst, onParole, prioritizePartials, rarestFirstPartials, partialLoops}
 use Rattle.model.specs.change.Partials.{inQueue}
 use Rattle.model.specs.pick.Blocks.{PickRequest, PickState, option, flagged, steps}
-use Rattle.model.specs.pick.Pick.{usable, PartialScan, scanPartials, partialCompareRarestFirst, byRarity, orderedPartials, walkPartials, pickScanned, pickPartials}
+use Rattle.model.specs.pick.Pick.{usable, scanPartials, partialCompareRarestFirst, byRarity, orderedPartials, walkPartials, pickScanned}
+use Rattle.model.specs.pick.Pick.{pickPartials}
 use Rattle.model.proofs.pick.ScanLaws.{scan-work, scan-partials}
 use Rattle.memory_layout.specs.Changes.{partialIn}
 use Rattle.pick_state.specs.declared.numbers.PickNumbers.{PickNumbers}
@@ -71,7 +72,8 @@ pub risen-none : (n : ℕ) (loops : List ℕ) → Risen n loops loops
 risen-none n loops = record { rise = λ k. omega arith }
 
 -- ---- the order of the pick
-rarity-is : (q : Request) (bytes : List ℕ) → byRarity (requestOf q bytes) ≡ (meets (q .options .0) rarestFirst && not (meets (q .options .0) onParole))
+rarity-is : (q : Request) (bytes : List ℕ)
+    → byRarity (requestOf q bytes) ≡ (meets (q .options .0) rarestFirst && not (meets (q .options .0) onParole))
 unfolding byRarity option requestOf
 rarity-is q bytes = refl
 
@@ -86,7 +88,8 @@ module _ (q : Request) (d : Picker) (live many : ℕ) (t : PickNumbers) (row : L
         is = λ bytes. sym (ap (λ (c : Bool). cond c (sortBy (partialCompareRarestFirst d) (each (partialIn d) (take many row)))
             (each (partialIn d) (take many row))) (z bytes));
         flag = λ bytes out aside ignored loops u.
-            stepped-as (stepped-none u) (λ start h. sym (when-no (flagged rarestFirstPartials) (stateOf start d t out aside ignored loops) (z bytes)));
+            stepped-as (stepped-none u)
+            (λ start h. sym (when-no (flagged rarestFirstPartials) (stateOf start d t out aside ignored loops) (z bytes)));
         wanted = refl;
         places = record { few = let f = p .few in let m = p .most in omega arith; low = p .low; long = p .long };
       }
@@ -158,10 +161,12 @@ module _ (a : PickRequest) (d : Picker) where
     phase-is w q = sym (
         ap (λ (b : Bool). when b (λ v. pickScanned a (scanPartials a v)) w) e
         ∙ ap₂ (λ (v : PickState) (ds : List DownloadingPiece).
-        walkPartials a (orderedPartials a (v .picker) ds) (when (byRarity a) (flagged rarestFirstPartials) v)) (scan-work a w) (scan-partials a w)
+        walkPartials a (orderedPartials a (v .picker) ds) (when (byRarity a) (flagged rarestFirstPartials) v))
+        (scan-work a w) (scan-partials a w)
         ∙ ap (λ (p : Picker). walkPartials a (orderedPartials a p (filter (usable a p) (inQueue Downloading p)))
         (when (byRarity a) (flagged rarestFirstPartials) (steps (len (inQueue Downloading p)) partialLoops w))) q
-        ∙ ap₂ (λ (ds : List DownloadingPiece) (m : ℕ). walkPartials a ds (when (byRarity a) (flagged rarestFirstPartials) (steps m partialLoops w)))
+        ∙ ap₂ (λ (ds : List DownloadingPiece) (m : ℕ).
+        walkPartials a ds (when (byRarity a) (flagged rarestFirstPartials) (steps m partialLoops w)))
         (sym (eo ∙ ap (orderedPartials a d) ef)) (sym en))
 
     pub phase-some : {t u r : PickNumbers} {out aside loops loops₁ out₁ aside₁ : List ℕ}

@@ -12,7 +12,8 @@ use Rattle.types.specs.Bits.{union}
 use Rattle.model.specs.Lists.{each, len, unless, walkUntil, walk}
 use Rattle.model.specs.State.{DownloadingPiece, Picker, blocksPerPiece}
 use Rattle.model.specs.Options.{prioritizedPartials}
-use Rattle.model.specs.pick.Blocks.{PickRequest, PickState, spent, flagged, withOut, withBackup, addBlocksDownloading, appendBlocks, enoughAside}
+use Rattle.model.specs.pick.Blocks.{PickRequest, PickState, spent, flagged, withOut, withBackup, addBlocksDownloading, appendBlocks}
+use Rattle.model.specs.pick.Blocks.{enoughAside}
 use Rattle.model.specs.pick.Pick.{partialStep, walkPartials}
 use Rattle.model.specs.image.Sound.{Sound}
 use Rattle.model.proofs.pick.BoundLaws.{small}
@@ -23,7 +24,8 @@ use Rattle.pick_state.specs.PickStates.{contiguousOf, blocksBetween, withFlags,
 use Rattle.pick_state.specs.Room.{Working, Underway, Worked}
 use Rattle.pick_state.proofs.DidLaws.{kept-same, did-then}
 use Rattle.pick_state.proofs.TakeLaws.{between-length}
-use Rattle.pick_state.proofs.RoomLaws.{working-left, working-marks, working-aside, working-tight, working-unspent, working-kept, working-downloading}
+use Rattle.pick_state.proofs.RoomLaws.{working-left, working-marks, working-aside, working-tight, working-unspent, working-kept}
+use Rattle.pick_state.proofs.RoomLaws.{working-downloading}
 use Rattle.pick_state.proofs.RestLaws.{Rest, rest-start, rest-next, rest-end, rest-last}
 use Rattle.pick_order.proofs.HalvesLaws.{drop-over}
 use Rattle.pick_partial.specs.Adding.{BlocksDid}
@@ -155,8 +157,8 @@ pub alone-lengths : {f : PickState → PickState} {d : Picker} {t r : PickNumber
     → SteppedAlone f d t r out aside out′ aside′ → PartialRoom d t out aside → (length out′ ≡ length out) × (length aside′ ≡ length aside)
 alone-lengths x u = let y = x (u .ignored) (u .loops) (u .underway) .did in (y .kept .long, y .longAside)
 
-pub taking-lengths : {step : ℕ → PickState → PickState} {whole rest : List ℕ} {d : Picker} {t cur : PickNumbers} {out aside out₁ aside₁ : List ℕ}
-    → Taking step whole rest d t cur out aside out₁ aside₁ → PartialRoom d t out aside
+pub taking-lengths : {step : ℕ → PickState → PickState} {whole rest : List ℕ} {d : Picker} {t cur : PickNumbers}
+    {out aside out₁ aside₁ : List ℕ} → Taking step whole rest d t cur out aside out₁ aside₁ → PartialRoom d t out aside
     → (length out₁ ≡ length out) × (length aside₁ ≡ length aside)
 taking-lengths c u = let y = c .left (u .ignored) (u .loops) (u .underway) in (y .kept .long, y .longAside)
 
@@ -199,7 +201,8 @@ module _ {d : Picker} {t : PickNumbers} {out aside : List ℕ} (l : 1 ≤ t .lef
       let m = working-marks w .2 in
       (omega arith, omega arith)
 
-  append-alone : {r : PickNumbers} {out′ : List ℕ} (a : PickRequest) → Sound d → Appended t r out out′ aside → SteppedAlone appendBlocks d t r out aside out′ aside
+  append-alone : {r : PickNumbers} {out′ : List ℕ} (a : PickRequest) → Sound d
+      → Appended t r out out′ aside → SteppedAlone appendBlocks d t r out aside out′ aside
   unfolding appendBlocks withBackup withOut
   append-alone a s y ignored loops u =
       let w = y .worked d ignored loops in

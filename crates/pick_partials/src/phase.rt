@@ -59,8 +59,8 @@ fn order_found(
     requires { ⌜ Asked s live (now rows) (now words) (now cells) ⌝ }
     requires { ⌜ (CountsHeld (pickerIn live (now rows) (now words) (now cells)) live (now counts)) × (length (now counts) ≡ 1536) ⌝ }
     requires { ⌜ PlacesRise live many (now places) ⌝ }
-    ensures { λ r. ⌜ OrderedBy q (pickerIn live (now (rows .entry)) (now (words .entry)) (now (cells .entry))) live many t r (now (places .entry))
-        (now (places .exit)) ⌝ }
+    ensures { λ r. ⌜ OrderedBy q (pickerIn live (now (rows .entry)) (now (words .entry)) (now (cells .entry))) live many t r
+        (now (places .entry)) (now (places .exit)) ⌝ }
 {
     if !by_rarity(q) {
         return t;

@@ -9,7 +9,8 @@ by-rarity-requires c κs = search needs
 
 returns : tie.Need-returns
 returns c =
-    let o = c .before .before .before .before .before .before in order-none _ _ _ _ _ _ (o .pre .1 .1) _ (c .before .by-rarity .ensures) (c .if1 .taken)
+    let o = c .before .before .before .before .before .before in
+    order-none _ _ _ _ _ _ (o .pre .1 .1) _ (c .before .by-rarity .ensures) (c .if1 .taken)
 
 order-partials-requires : tie.Need-order-partials-requires
 order-partials-requires c κs = search needs
@@ -20,7 +21,8 @@ flagged-requires c κs = search needs
 returns-2 : tie.Need-returns-2
 returns-2 c =
     let o = c .before .before .before .before .before .before .before .before .before in
-    order-some _ _ _ _ _ _ (o .pre .1 .1) _ (c .before .before .before .before .by-rarity .ensures) (c .before .before .before .if1 .left) _ _
+    let f = c .before .before .before in
+    order-some _ _ _ _ _ _ (o .pre .1 .1) _ (f .before .by-rarity .ensures) (f .if1 .left) _ _
     (c .before .order-partials .ensures) (c .flagged .ensures)
 
 pub order-found-spec : {M : Type 1} → statement M

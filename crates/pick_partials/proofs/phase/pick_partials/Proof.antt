@@ -34,11 +34,14 @@ order-found-requires c κs = search needs
 
 walk-partials-requires : tie.Need-walk-partials-requires
 walk-partials-requires c κs =
-    let f = c .before .before .before .order-found .ensures in
-    let o = c .before .before .before .before .before .before .before .before .before .before .before .before .before .before .before .before .before .before .before .before .before in
+    let h = c .before .before .before in
+    let f = h .order-found .ensures in
+    let k = h .before .before .before .before .before .before .before .before .before in
+    let o = k .before .before .before .before .before .before .before .before .before in
     let a = o .args in
     let r = marks-room (o .pre .1 .1 .0) in
-    (o .pre .0, (alone-room (f .flag (a .bytes .now) (a .out .now) (a .aside .now)) r, (omega (arith, f .wanted, o .pre .1 .1 .1 .0), f .places)))
+    let x = alone-room (f .flag (a .bytes .now) (a .out .now) (a .aside .now)) r in
+    (o .pre .0, (x, (omega (arith, f .wanted, o .pre .1 .1 .1 .0), f .places)))
 
 same-length : tie.Need-same-length
 same-length c = search needs
@@ -59,10 +62,12 @@ returns-2 c =
     let d = pickerIn (a .live) (a .rows .now) (a .words .now) (a .cells .now) in
     let e = first-yes (a .q) (a .bytes .now) _ (s .before .before .before .contains .ensures) (s .before .before .if1 .left) in
     let l = working-marks (o .pre .1 .1 .0 .underway .working) .1 in
-    let g = f .order-found .ensures in (
-      phase-some (requestOf (a .q) (a .bytes .now)) d e _ (s .scan-partials .ensures .steps) _ _ (s .scan-partials .ensures .is) (g .is (a .bytes .now))
-          (k .count-steps .ensures) (g .flag (a .bytes .now) (a .out .now) (a .aside .now)) (c .before .before .before .before .walk-partials .ensures),
-      steps-risen 0 (s .scan-partials .result .downloading) (a .loops .now) _ (k .count-steps .ensures) 512 (s .scan-partials .ensures .few) (omega arith),
+    let g = f .order-found .ensures in
+    let z = s .scan-partials .ensures in
+    let n = k .count-steps .ensures in (
+      phase-some (requestOf (a .q) (a .bytes .now)) d e _ (z .steps) _ _ (z .is) (g .is (a .bytes .now)) n
+          (g .flag (a .bytes .now) (a .out .now) (a .aside .now)) (c .before .before .before .before .walk-partials .ensures),
+      steps-risen 0 (s .scan-partials .result .downloading) (a .loops .now) _ n 512 (z .few) (omega arith),
     )
 
 pub pick-partials-spec : {M : Type 1} → statement M

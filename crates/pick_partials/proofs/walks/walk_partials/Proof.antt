@@ -27,7 +27,8 @@ append-blocks-requires : tie.Need-append-blocks-requires
 append-blocks-requires c κs =
     let w = c .before .before .before .before .before .before .before .before in
     let o = w .before .before .before .before .before .before .before .before .before in
-    append-room {t = w .walk-places .result} (above-none _ (c .before .before .if1 .left)) (alone-room (w .walk-places .ensures) (o .pre .1 .0))
+    append-room {t = w .walk-places .result} (above-none _ (c .before .before .if1 .left))
+    (alone-room (w .walk-places .ensures) (o .pre .1 .0))
 
 same-length-3 : tie.Need-same-length-3
 same-length-3 c = search needs

@@ -9,7 +9,8 @@ use Rattle.memory_rows.specs.Lookup.{pickerIn}
 use Rattle.memory_layout.specs.Changes.{partialIn}
 use Rattle.model.specs.pick.Pick.{partialStep}
 use Rattle.pick_partials.specs.Phase.{walkPlaces}
-use Rattle.pick_partials.proofs.WalkLaws.{Taking, taking-start, taking-next, taking-stop, taking-end, rest-cons, rest-none, alone-lengths, taking-lengths}
+use Rattle.pick_partials.proofs.WalkLaws.{Taking, taking-start, taking-next, taking-stop, taking-end, taking-lengths, alone-lengths}
+use Rattle.pick_partials.proofs.WalkLaws.{rest-cons, rest-none}
 use Rattle.pick_partials.proofs.WalkLaws.{Taking, taking-start, taking-next, taking-stop, taking-end, rest-cons, rest-none}
 use borrow.Author.Needs.{needs}
 use Rattle.pick_partials.proofs.walks.walk_places.Statement.{statement}
@@ -17,8 +18,8 @@ use Rattle.pick_partials.proofs.walks.walk_places.Tie as tie
 
 abbrev Inv-loop : tie.InvT-loop
 Inv-loop words cells rows live s q bytes out₀ aside₀ places many cur₀ j₀ out aside cur j =
-    Taking (λ k. partialStep (requestOf q bytes) (partialIn (pickerIn live rows words cells) k)) (take many places) (drop j (take many places))
-    (pickerIn live rows words cells) cur₀ cur out₀ aside₀ out aside
+    Taking (λ k. partialStep (requestOf q bytes) (partialIn (pickerIn live rows words cells) k)) (take many places)
+    (drop j (take many places)) (pickerIn live rows words cells) cur₀ cur out₀ aside₀ out aside
 
 abbrev μ-loop : tie.MeasureT-loop
 μ-loop words cells rows live s q bytes out₀ aside₀ places many cur₀ j₀ out aside cur j = many - j
@@ -30,7 +31,9 @@ mul-u16-to-usize : tie.Need-mul-u16-to-usize Inv-loop μ-loop
 mul-u16-to-usize c = let o = c .before .before .before .before .before .before .before .before in omega (arith, o .pre .1 .1 .1 .few)
 
 element-copy-out-u16-to-usize : tie.Need-element-copy-out-u16-to-usize Inv-loop μ-loop
-element-copy-out-u16-to-usize c = let o = c .before .before .before .before .before .before .before .before in omega (arith, o .pre .1 .1 .1 .few, o .pre .1 .1 .1 .long)
+element-copy-out-u16-to-usize c =
+    let o = c .before .before .before .before .before .before .before .before in
+    omega (arith, o .pre .1 .1 .1 .few, o .pre .1 .1 .1 .long)
 
 u16-to-usize-requires : tie.Need-u16-to-usize-requires Inv-loop μ-loop
 u16-to-usize-requires c κs = search needs
@@ -63,14 +66,18 @@ returns c =
     let l = s .before .before .before .before .before .before in
     let o = l .before .before .before .before .before .before .before in
     let p = o .pre .1 .1 .1 in
+    let m = o .args .many in
+    let row = o .args .places .now in
     taking-stop (l .loop .inv) _ _
-    (rest-cons (o .args .many) (l .loop .j) (o .args .places .now) (omega (arith, p .few, p .long)) (s .before .before .before .before .before .loop-test .taken)
-    ∙ ap (λ (x : ℕ). x ∷ drop (l .loop .j + 1) (take (o .args .many) (o .args .places .now))) (sym (s .before .before .before .u16-to-usize .ensures)))
+    (rest-cons m (l .loop .j) row (omega (arith, p .few, p .long)) (s .before .before .before .before .before .loop-test .taken)
+    ∙ ap (λ (x : ℕ). x ∷ drop (l .loop .j + 1) (take m row)) (sym (s .before .before .before .u16-to-usize .ensures)))
     (s .partial-step .ensures) (c .if1 .taken)
 
 add-j : tie.Need-add-j Inv-loop μ-loop
 add-j c =
-    let l = c .before .before .before .before .before .before .before .before .before .before .before in omega (arith, l .loop-test .taken, l .before .before .before .before .before .before .before .before .pre .1 .1 .1 .few)
+    let l = c .before .before .before .before .before .before .before .before .before .before .before in
+    let o = l .before .before .before .before .before .before .before .before in
+    omega (arith, l .loop-test .taken, o .pre .1 .1 .1 .few)
 
 loop-less : tie.Need-loop-less Inv-loop μ-loop
 loop-less c = search needs
@@ -81,16 +88,20 @@ loop-again c =
     let l = s .before .before .before .before .before .before in
     let o = l .before .before .before .before .before .before .before in
     let p = o .pre .1 .1 .1 in
+    let m = o .args .many in
+    let row = o .args .places .now in
     taking-next (l .loop .inv) _ _
-    (rest-cons (o .args .many) (l .loop .j) (o .args .places .now) (omega (arith, p .few, p .long)) (s .before .before .before .before .before .loop-test .taken)
-    ∙ ap (λ (x : ℕ). x ∷ drop (l .loop .j + 1) (take (o .args .many) (o .args .places .now))) (sym (s .before .before .before .u16-to-usize .ensures)))
+    (rest-cons m (l .loop .j) row (omega (arith, p .few, p .long)) (s .before .before .before .before .before .loop-test .taken)
+    ∙ ap (λ (x : ℕ). x ∷ drop (l .loop .j + 1) (take m row)) (sym (s .before .before .before .u16-to-usize .ensures)))
     (s .partial-step .ensures) (c .if1 .left)
 
 same-length-3 : tie.Need-same-length-3 Inv-loop μ-loop
-same-length-3 c = let o = c .before .before .before .before .before .before .before .before in taking-lengths (c .before .loop .inv) (o .pre .1 .0) .0
+same-length-3 c =
+    let o = c .before .before .before .before .before .before .before .before in taking-lengths (c .before .loop .inv) (o .pre .1 .0) .0
 
 same-length-4 : tie.Need-same-length-4 Inv-loop μ-loop
-same-length-4 c = let o = c .before .before .before .before .before .before .before .before in taking-lengths (c .before .loop .inv) (o .pre .1 .0) .1
+same-length-4 c =
+    let o = c .before .before .before .before .before .before .before .before in taking-lengths (c .before .loop .inv) (o .pre .1 .0) .1
 
 returns-2 : tie.Need-returns-2 Inv-loop μ-loop
 unfolding walkPlaces
