@@ -5,3 +5,8 @@ pub enum NumberAnswer {
     Refused(Refusal),
     Replied(u64),
 }
+
+pub enum FlagAnswer {
+    Refused(Refusal),
+    Replied(bool),
+}

@@ -3,6 +3,9 @@ mod admitted;
 mod answers;
 
 pub use admitted::Admitted;
+pub use admitted::admit_block;
 pub use admitted::admit_picker;
 pub use admitted::admit_piece;
+pub use admitted::admit_place;
+pub use answers::FlagAnswer;
 pub use answers::NumberAnswer;

@@ -36,7 +36,8 @@ returns : tie.Need-returns
 unfolding ofMemory
 returns c =
     let k = c .before .before .before .before .before .admit in
-    refused-for-memory (λ d. none) (λ d. refl) _ _ _ _ _ _ (k .result) (k .ensures) _ (c .before .why .given .1)
+    refused-for-memory (λ d. none) (λ d. refl) _ _ _ _ _ _ (k .result) (k .ensures) _
+    (c .before .why .given .1)
 
 -- src/admitted.rt:21:1
 same-length-2 : tie.Need-same-length-2
@@ -47,7 +48,8 @@ returns-2 : tie.Need-returns-2
 unfolding ofMemory
 returns-2 c =
     let k = c .before .before .before .before .before .before .admit in
-    admitted-by-rule (λ d. none) (λ d. refl) _ _ _ _ _ _ (k .result) (k .ensures) _ (c .before .before .s .given .1) refl tt _ (c .live-records .ensures)
+    admitted-by-rule (λ d. none) (λ d. refl) _ _ _ _ _ _ (k .result) (k .ensures) _
+    (c .before .before .s .given .1) refl tt _ (c .live-records .ensures)
 
 pub admit-picker-spec : {M : Type 1} → statement M
 admit-picker-spec =

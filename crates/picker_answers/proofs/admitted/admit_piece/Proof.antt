@@ -51,7 +51,8 @@ returns-2 : tie.Need-returns-2
 returns-2 c =
     let k = c .before .before .before .before .before .admit in
     let a = c .before .before .before .before .before .before .before .before .before .before .before .args in
-    refused-for-memory (λ d. refuseBadPiece d (a .i) none) (piece-rule (a .i)) _ _ _ _ _ _ (k .result) (k .ensures) _ (c .before .why .given .1)
+    refused-for-memory (λ d. refuseBadPiece d (a .i) none) (piece-rule (a .i)) _ _ _ _ _ _ (k .result) (k .ensures) _
+    (c .before .why .given .1)
 
 -- src/admitted.rt:39:1
 same-length-3 : tie.Need-same-length-3
