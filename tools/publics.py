@@ -1,6 +1,7 @@
 #!/usr/bin/env python3
 """Writes the public questions that answer a value: sources, definitions of their answers and proofs, which differ in names alone. What a
-question asks of its caller and what its answer is are read from the question below (`ask_..`).
+question asks of its caller and what its answer is are read from the question below (`ask_..`). Of those that fill a lent list it writes
+what is alike.
 
     tools/publics.py            writes them
     tools/publics.py --check    says which differ from what would be written, and fails where one does
@@ -11,6 +12,7 @@ import pathlib
 import sys
 
 from public.layout import formatted
+from public.lists import list_files
 from public.questions import crate_files
 from public.table import CRATES
 
@@ -19,7 +21,7 @@ ROOT = pathlib.Path(__file__).resolve().parent.parent
 
 def files():
     """Every file with its text."""
-    made = {}
+    made = list_files()
     for crate in CRATES:
         made |= crate_files(ROOT, crate)
     return {ROOT / name: text for name, text in formatted(made).items()}

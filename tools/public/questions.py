@@ -6,8 +6,9 @@ from public.layout import LIMIT, uses
 from public.table import ANSWERS, ANY_PLACE, BLOCK, LIST_PLACE, NAMED, NUMBERS, PICKER, PIECE
 
 WRITTEN = 'Written by tools/publics.py, and not by hand.'
+REQUIRED = 'None requires anything: each is refused as the table says, or answers what the definition replies.'
 MEMORY = ['words: &[u64]', 'cells: &[u16]']
-ENTRY = {'words': '(now (words .entry))', 'cells': '(now (cells .entry))', 'rows': '(now (rows .entry))', 'partials': '(now (partials .entry))'}
+ENTRY = {x: f'(now ({x} .entry))' for x in ('words', 'cells', 'rows', 'partials')}
 CONVERT = {'usize': 'usize_to_u64', 'u16': 'u16_to_u64'}
 
 
@@ -140,7 +141,8 @@ PUBLIC = """-- `{name}` meets its contract: a call of the shape of `memory_recor
 -- what the core says of words, cells, rows, records lent{argued} and result
 abbrev Told : List ℕ → List ℕ → List ℕ → ℕ →{type} {enum} → Type 0
 Told w c rows lent{parameter} r =
-    CoreAnswered w c rows lent ({asked}) ({told} r)
+    CoreAnswered w c rows lent ({asked})
+    ({told} r)
 
 pub {kebab}-spec : {{M : Type 1}} → stated.statement M
 unfolding code.routine tablesOf
@@ -175,7 +177,8 @@ def public_proof(q):
     cited[f'{answers}.Answers'] = [q.told()]
     cited[values] = cited.get(values, []) + [q.value()]
     cited |= {f'{q.path()}_core as core': [], f'{q.path()}_core.Symbol as core-def': [], f'{q.path()}_core.Met as core-thm': [],
-              f'{q.path()} as this': [], f'{q.path()}.Key as key': [], f'{q.path()}.Statement as stated': [], f'{q.path()}.Code as code': []}
+              f'{q.path()} as this': [], f'{q.path()}.Key as key': [], f'{q.path()}.Statement as stated': [],
+              f'{q.path()}.Code as code': []}
     parameter = q.kind.parameter
     return PUBLIC.format(name=q.name, kebab=kebab(q.name), walk=walk, call=call, uses=uses(cited), argued=', argument' if argued else '',
                          type=f' {type} →' if argued else '', enum=q.answer.enum, parameter=f' {parameter}' if argued else '',
@@ -228,7 +231,8 @@ returns-2 c =
     let v = c{b5} .{admit} in
     let at = c{b2} .s .given .1 in
     {standing}{replied}question-replied _ _ _ _ _ _ _ (v .result) (v .ensures) ({question}) _
-    {same} (λ d. refl) _ _ at _ ({says})
+    {same} (λ d. refl) _ _ at _
+    ({says})
 
 pub {inner}-core-spec : {{M : Type 1}} → statement M
 {inner}-core-spec =
@@ -246,7 +250,8 @@ def back(n):
 def needs(q):
     """The names of a core's needs, in order, up to the question below."""
     admit = kebab(q.kind.admit)
-    before = [f'{x.call}-requires' for x in q.kind.calls] + [f'slice-aggregate-{admit}', f'{admit}-requires', 'enum-known-why', 'enum-known-s']
+    before = [f'{x.call}-requires' for x in q.kind.calls]
+    before += [f'slice-aggregate-{admit}', f'{admit}-requires', 'enum-known-why', 'enum-known-s']
     return before + ([f'slice-aggregate-{kebab(q.name)}'] if 'counts' in q.takes else [])
 
 
@@ -261,8 +266,9 @@ def number(n, more):
     if not n.signed:
         return f'let {n.name} = c{back(n.steps + more)} .{n.call} in\n    let {n.name}-is = {n.name} .ensures in\n    '
     steps, field = n.signed
-    return (f'let {n.name} = c{back(n.steps + more)} .{n.call} in\n    let z = c{back(steps + more)} .args .{field} in\n'
-            f'    let fit : SFits w32 z = search needs in\n    let {n.name}-is = {n.name} .ensures ∙ ap numberOf (toZ-ofZ w32 z fit) in\n    ')
+    return (f'let {n.name} = c{back(n.steps + more)} .{n.call} in\n    let a = c{back(steps + more)} .args in\n    let z = a .{field} in\n'
+            '    let fit : SFits w32 z = search needs in\n'
+            f'    let {n.name}-is = {n.name} .ensures ∙ ap numberOf (toZ-ofZ w32 z fit) in\n    ')
 
 
 def core_proof(q):
@@ -274,8 +280,8 @@ def core_proof(q):
     for term in reversed(terms[:-1]):
         nested = f'({term}, {nested})'
     lent = q.lent_steps if 'counts' in q.takes else 0
-    asked = (f'\n    let v = c{back(4 + lent)} .{kebab(q.kind.admit)} in\n    let at = c{back(1 + lent)} .s .given .1 in\n    {granted}{nested}'
-             if terms else 'search needs')
+    asked = (f'\n    let v = c{back(4 + lent)} .{kebab(q.kind.admit)} in\n    let at = c{back(1 + lent)} .s .given .1 in\n'
+             f'    {granted}{nested}' if terms else 'search needs')
     converted = searched(f'{kebab(q.convert)}-requires') + '\n' if q.convert else ''
     own = f'c{" .before" if q.convert else ""} .{inner} .ensures' + SAYS.get(q.says, '')
     says = f'ap one (c .{kebab(q.convert)} .ensures) ∙ {own}' if q.convert else own
@@ -352,7 +358,8 @@ def answer_files(crate, own, texts):
     """The enums of a crate, what they are in the definition, and what the walks ask of them."""
     top, answers = f'crates/{crate.name}', [q.answer for q in own.values()]
     types = sorted([f'use {q.below}::{q.answer.type};\n' for q in own.values()] + ['use types::Refusal;\n'])
-    source = commented('//', 'What these questions answer: refused, or what the question replies.') + commented('//', WRITTEN) + ''.join(types)
+    source = commented('//', 'What these questions answer: refused, or what the question replies.') + commented('//', WRITTEN)
+    source += ''.join(types)
     for a in answers:
         source += f'\n// {a.comment}\npub enum {a.enum} {{\n    Refused(Refusal),\n    Replied({a.type}),\n}}\n'
     cited = {'Rattle.model.specs.Calls': ['Answer', 'refused', 'replied']}
@@ -400,7 +407,7 @@ def crate_files(root, crate):
     mods = sorted([m.name for m in crate.modules] + (['answers'] if own else []))
     exports = sorted([f'{q.module.name}::{q.name}' for q in questions] + [f'answers::{q.answer.enum}' for q in own.values()])
     made[f'{top}/src/lib.rt'] = (
-        commented('//', crate.comment) + commented('//', WRITTEN) + ''.join(f'mod {m};\n' for m in mods) + '\n'
+        commented('//', f'{crate.comment} {REQUIRED}') + commented('//', WRITTEN) + ''.join(f'mod {m};\n' for m in mods) + '\n'
         + ''.join(f'pub use {x};\n' for x in exports)
     )
     if own:

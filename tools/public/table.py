@@ -7,8 +7,9 @@ Crate = namedtuple('Crate', 'name comment modules')
 Module = namedtuple('Module', 'name comment crate source questions')
 
 # a kind of question: the parameter that names what is asked of; the statements that make numbers of it; the calls in them, each with the
-# number that it gives, how many steps of the refused arm's proof lead back to it and, for a number with a sign, to the parameters and which
-# one it is; the function that admits the question; what this takes beside the memory; the definition's question, of its name and the numbers
+# number that it gives, how many steps of the refused arm's proof lead back to it and, for a number with a sign, to the parameters and
+# which one it is; the function that admits the question; what this takes beside the memory; the definition's question, of its name and
+# the numbers
 Kind = namedtuple('Kind', 'parameter type lets calls admit arguments question')
 Number = namedtuple('Number', 'call name steps signed')
 
@@ -29,8 +30,8 @@ NUMBERS = {
     'PLACE': {'k': 'numberOf place'},
 }
 
-# an answer by the definition that makes a reply of it: the name of its enum and definition, the type that is answered, its comment; where it is
-# declared if not in the crate of its questions
+# an answer by the definition that makes a reply of it: the name of its enum and definition, the type that is answered, its comment; where
+# it is declared if not in the crate of its questions
 Answer = namedtuple('Answer', 'enum type comment home')
 ANSWERS = {
     'one': Answer('NumberAnswer', 'u64', '', 'picker_answers'),
@@ -48,19 +49,17 @@ ANSWERS = {
 
 CRATES = [
     Crate('picker_questions',
-          'The public questions of the picker that its head and its columns answer, and of what stands at a place. None requires anything: each'
-          ' is refused as the table says, or answers what the definition replies.',
+          'The public questions of the picker that its head and its columns answer, and of what stands at a place.',
           [
               Module('head', 'What the head and the geometry tell.', 'ask_picker', 'lib',
                      'num_pieces blocks_per_piece block_size total_size full_piece_size num_seeds cursor reverse_cursor dirty'
                      ' get_download_queue_size'),
               Module('copies', 'How many copies of the torrent there are.', 'ask_columns', 'copies', 'distributed_copies'),
-              Module('places', 'What stands at a place: a partial by rising piece, a recent extent, a piece of the list.', 'ask_places', 'lib',
-                     'partial_at recent_extent list_place'),
+              Module('places', 'What stands at a place: a partial by rising piece, a recent extent, a piece of the list.', 'ask_places',
+                     'lib', 'partial_at recent_extent list_place'),
           ]),
     Crate('picker_totals',
-          'The public questions of the picker that count its pieces and its partials. None requires anything: each is refused as the table'
-          ' says, or answers what the definition replies.',
+          'The public questions of the picker that count its pieces and its partials.',
           [
               Module('totals', 'Pieces that pass a test, and their pad bytes.', 'ask_totals', 'totals',
                      'num_pad_bytes num_have num_filtered num_have_filtered want have_want have all_pieces'),
@@ -68,8 +67,7 @@ CRATES = [
                      'is_finished is_seeding num_want_left get_download_queue_sizes'),
           ]),
     Crate('picker_piece_questions',
-          'The public questions of a piece that its own fields and the geometry answer. None requires anything: each is refused as the table'
-          ' says, or answers what the definition replies.',
+          'The public questions of a piece that its own fields and the geometry answer.',
           [
               Module('fields', 'The fields of a piece.', 'ask_piece', 'fields',
                      'pad_bytes_in_piece peer_count piece_priority download_state is_piece_flushed is_downloading'),
@@ -78,16 +76,14 @@ CRATES = [
               Module('stats', 'How many have a piece, and its bucket.', 'ask_piece', 'stats', 'get_availability piece_stats'),
           ]),
     Crate('picker_partial_questions',
-          'The public questions of a piece that its partial answers. None requires anything: each is refused as the table says, or answers'
-          ' what the definition replies.',
+          'The public questions of a piece that its partial answers.',
           [
               Module('flags', "The flags of a piece's partial.", 'ask_partial', 'flags',
                      'passed_hash_check locked hashing is_hashing have_piece'),
               Module('info', 'How many blocks of a piece are in each state.', 'ask_partial', 'info', 'piece_info is_piece_finished'),
           ]),
     Crate('picker_block_questions',
-          'The public questions of a block. None requires anything: each is refused as the table says, or answers what the definition'
-          ' replies.',
+          'The public questions of a block.',
           [
               Module('states', 'The state of a block, and how many asked for it.', 'ask_block', 'states',
                      'num_peers_block is_requested is_downloaded is_finished_block block_state block_num_peers'),

@@ -140,7 +140,9 @@ module _ (need : Need) (room : ℕ) (words cells : List ℕ) where
 
         enough : few ≡ false
         unfolding shortOn memoryRefusal memoryTests
-        enough = places-enough headless valid (short lent words cells) few (goodBody (recordsIn (liveRecords words) rows) words cells) whole h
+        enough =
+            places-enough headless valid (short lent words cells) few (goodBody (recordsIn (liveRecords words) rows) words cells)
+            whole h
 
         pub verdict-good : RoomAdmitted need room words cells rows counts lent (At s)
         unfolding RoomAdmitted MemoryAdmitted

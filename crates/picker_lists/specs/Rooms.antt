@@ -64,5 +64,6 @@ pub record Roomy (need : Need) (room : ℕ) (s : Shape) (live lent : ℕ) (rows 
 unfoldable pub RoomAdmitted : (need : Need) (room : ℕ) (words cells rows counts : List ℕ) (lent : ℕ) (v : Admission) → Type 0
 RoomAdmitted need room words cells rows counts lent (Refused why) =
     (partials : List Record) → length partials ≡ lent → rows ≡ rowsOf words partials → (rest : Picker → Option Refusal)
-    → ((d : Picker) → ofMemory (rest d) ≡ false) → (q : Question) → Ruled (roomRule need room rest) q → refusalOn (lending words cells partials) (question q) ≡ some why
+    → ((d : Picker) → ofMemory (rest d) ≡ false) → (q : Question) → Ruled (roomRule need room rest) q
+    → refusalOn (lending words cells partials) (question q) ≡ some why
 RoomAdmitted need room words cells rows counts lent (At s) = Roomy need room s (headWord words 7) lent rows counts words cells

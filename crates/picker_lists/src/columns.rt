@@ -1,4 +1,5 @@
 // A number for each piece.
+// Written by tools/publics.py, and not by hand.
 use crate::admitted::admit_list;
 use crate::answers::ListAnswer;
 use crate::rooms::Need;

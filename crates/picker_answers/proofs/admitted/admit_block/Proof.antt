@@ -62,7 +62,8 @@ returns-2 : tie.Need-returns-2
 returns-2 c =
     let k = c .before .before .before .before .before .before .before .before .before .before .admit in
     let at = c .before .before .before .before .before .before .s .given .1 in
-    let a = c .before .before .before .before .before .before .before .before .before .before .before .before .before .before .before .before .args in
+    let a = c .before .before .before .before .before .before .before .before .before .before .before .before .before .before .before
+    .before .args in
     let t = stood-at _ _ _ _ _ (k .result) (k .ensures) _ at .stands in
     refused-by-rule (λ d. refuseBadBlock d (a .i) (a .j) none) (block-rule (a .i) (a .j)) _ _ _ _ _ _ (k .result) (k .ensures) _ at _
     (block-past _ _ _ _ t (a .i) (a .j) _ (c .before .before .before .if1 .left) (c .before .before .blocks-in-piece .ensures)

@@ -3,7 +3,8 @@ use mathlib.Core.Path.{refl}
 use mathlib.Core.Option.{none}
 use Rattle.model.specs.Calls.{refuseBadPiece}
 use Rattle.picker_calls.proofs.CoreLaws.{stood-at}
-use Rattle.picker_answers.proofs.AdmittedLaws.{refused-for-memory, refused-by-rule, admitted-by-rule, piece-rule, piece-past, piece-there}
+use Rattle.picker_answers.proofs.AdmittedLaws.{refused-for-memory, refused-by-rule, admitted-by-rule}
+use Rattle.picker_answers.proofs.AdmittedLaws.{piece-rule, piece-past, piece-there}
 use borrow.Author.Needs.{needs}
 use Rattle.picker_answers.proofs.admitted.admit_piece.Statement.{statement}
 use Rattle.picker_answers.proofs.admitted.admit_piece.Tie as tie

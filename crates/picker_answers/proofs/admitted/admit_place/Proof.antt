@@ -45,8 +45,10 @@ returns c =
     let at = c .before .before .before .s .given .1 in
     let a = c .before .before .before .before .before .before .before .before .before .before .before .before .before .args in
     let t = stood-at _ _ _ _ _ (k .result) (k .ensures) _ at .stands in
-    refused-by-rule (λ d. check (noPlace (d .listing) (a .k)) OutOfRange none) (place-rule (a .k)) _ _ _ _ _ _ (k .result) (k .ensures) _ at _
-    (ap (λ (x : Bool). check x OutOfRange none) (sym (c .before .past-list .ensures .is _ _ (t .bounds)) ∙ c .if1 .taken))
+    refused-by-rule (λ d. check (noPlace (d .listing) (a .k)) OutOfRange none) (place-rule (a .k)) _ _ _ _ _ _
+    (k .result) (k .ensures) _ at _
+    (ap (λ (x : Bool). check x OutOfRange none)
+    (sym (c .before .past-list .ensures .is _ _ (t .bounds)) ∙ c .if1 .taken))
 
 -- src/admitted.rt:128:29
 live-records-requires : tie.Need-live-records-requires
@@ -76,8 +78,10 @@ returns-3 c =
     let at = c .before .before .before .before .s .given .1 in
     let a = c .before .before .before .before .before .before .before .before .before .before .before .before .before .before .args in
     let t = stood-at _ _ _ _ _ (k .result) (k .ensures) _ at .stands in
-    admitted-by-rule (λ d. check (noPlace (d .listing) (a .k)) OutOfRange none) (place-rule (a .k)) _ _ _ _ _ _ (k .result) (k .ensures) _ at
-    (ap (λ (x : Bool). check x OutOfRange none) (sym (c .before .before .past-list .ensures .is _ _ (t .bounds)) ∙ c .before .if1 .left)) tt _
+    admitted-by-rule (λ d. check (noPlace (d .listing) (a .k)) OutOfRange none) (place-rule (a .k)) _ _ _ _ _ _
+    (k .result) (k .ensures) _ at
+    (ap (λ (x : Bool). check x OutOfRange none)
+    (sym (c .before .before .past-list .ensures .is _ _ (t .bounds)) ∙ c .before .if1 .left)) tt _
     (c .live-records .ensures)
 
 pub admit-place-spec : {M : Type 1} → statement M

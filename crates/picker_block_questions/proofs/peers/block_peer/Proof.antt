@@ -26,7 +26,8 @@ use Rattle.picker_block_questions.proofs.peers.block_peer.Code as code
 -- what the core says of words, cells, rows, records lent, argument and result
 abbrev Told : List ℕ → List ℕ → List ℕ → ℕ → PieceBlock → PeerAnswer → Type 0
 Told w c rows lent block r =
-    CoreAnswered w c rows lent (ofBlock block-peer (numberOf (block .«piece_index» .0)) (numberOf (block .«block_index»))) (peerAnswer r)
+    CoreAnswered w c rows lent (ofBlock block-peer (numberOf (block .«piece_index» .0)) (numberOf (block .«block_index»)))
+    (peerAnswer r)
 
 pub block-peer-spec : {M : Type 1} → stated.statement M
 unfolding code.routine tablesOf

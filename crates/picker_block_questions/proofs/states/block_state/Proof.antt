@@ -26,7 +26,8 @@ use Rattle.picker_block_questions.proofs.states.block_state.Code as cod
 -- what the core says of words, cells, rows, records lent, argument and result
 abbrev Told : List ℕ → List ℕ → List ℕ → ℕ → PieceBlock → BlockNumberAnswer → Type 0
 Told w c rows lent block r =
-    CoreAnswered w c rows lent (ofBlock block-state (numberOf (block .«piece_index» .0)) (numberOf (block .«block_index»))) (blockNumberAnswer r)
+    CoreAnswered w c rows lent (ofBlock block-state (numberOf (block .«piece_index» .0)) (numberOf (block .«block_index»)))
+    (blockNumberAnswer r)
 
 pub block-state-spec : {M : Type 1} → stated.statement M
 unfolding code.routine tablesOf

@@ -25,7 +25,8 @@ use Rattle.picker_block_questions.proofs.states.num_peers_block.Code as
 -- what the core says of words, cells, rows, records lent, argument and result
 abbrev Told : List ℕ → List ℕ → List ℕ → ℕ → PieceBlock → NumberAnswer → Type 0
 Told w c rows lent block r =
-    CoreAnswered w c rows lent (ofBlock num-peers-block (numberOf (block .«piece_index» .0)) (numberOf (block .«block_index»))) (numberAnswer r)
+    CoreAnswered w c rows lent (ofBlock num-peers-block (numberOf (block .«piece_index» .0)) (numberOf (block .«block_index»)))
+    (numberAnswer r)
 
 pub num-peers-block-spec : {M : Type 1} → stated.statement M
 unfolding code.routine tablesOf

@@ -25,7 +25,8 @@ returns c =
     let at = c .before .before .before .s .given .1 in
     let a = c .before .before .before .before .before .before .before .before .before .before .before .before .before .args in
     let t = roomy _ _ _ _ _ _ _ (k .result) (k .ensures) _ at .stood .stands in
-    list-past _ _ (λ d. refuseBadPiece d (a .i) none) (piece-rule (a .i)) _ _ _ _ _ _ (k .result) (k .ensures) _ at _
+    list-past _ _ (λ d. refuseBadPiece d (a .i) none) (piece-rule (a .i)) _ _ _ _ _ _
+    (k .result) (k .ensures) _ at _
     (piece-past _ _ _ _ t (a .i) none (c .if1 .taken))
 
 live-records-requires : tie.Need-live-records-requires
@@ -38,7 +39,8 @@ returns-2 : tie.Need-returns-2
 returns-2 c =
     let k = c .before .before .before .before .before .admit-room in
     let a = c .before .before .before .before .before .before .before .before .before .before .before .args in
-    list-refused _ _ (λ d. refuseBadPiece d (a .i) none) (piece-rule (a .i)) _ _ _ _ _ _ (k .result) (k .ensures) _ (c .before .why .given .1)
+    list-refused _ _ (λ d. refuseBadPiece d (a .i) none) (piece-rule (a .i)) _ _ _ _ _ _
+    (k .result) (k .ensures) _ (c .before .why .given .1)
 
 same-length-3 : tie.Need-same-length-3
 same-length-3 c = search needs
@@ -49,8 +51,10 @@ returns-3 c =
     let at = c .before .before .before .before .s .given .1 in
     let a = c .before .before .before .before .before .before .before .before .before .before .before .before .before .before .args in
     let g = roomy _ _ _ _ _ _ _ (k .result) (k .ensures) _ at in
-    list-admitted _ _ (λ d. refuseBadPiece d (a .i) none) (piece-rule (a .i)) _ _ _ _ _ _ (k .result) (k .ensures) _ at
-    (piece-there _ _ _ _ (g .stood .stands) (a .i) none (c .before .if1 .left)) (c .before .if1 .left, g .enough) _ (c .live-records .ensures)
+    list-admitted _ _ (λ d. refuseBadPiece d (a .i) none) (piece-rule (a .i)) _ _ _ _ _ _
+    (k .result) (k .ensures) _ at
+    (piece-there _ _ _ _ (g .stood .stands) (a .i) none (c .before .if1 .left)) (c .before .if1 .left, g .enough) _
+    (c .live-records .ensures)
 
 pub admit-piece-list-spec : {M : Type 1} → statement M
 admit-piece-list-spec =

@@ -1,4 +1,5 @@
 -- `blocks_for_piece` meets its contract: a call of the shape of `memory_records`, `walks/Listing`. Assumes nothing.
+-- Written by tools/publics.py, and not by hand.
 use mathlib.Core.Path.{refl}
 use mathlib.Core.List.{List}
 use Prim.Native.Nat.{ℕ, _/_}
@@ -24,7 +25,8 @@ use Rattle.picker_lists.proofs.blocks.blocks_for_piece.Code as code
 
 -- what the core says of words, cells, rows, records lent, lent list, argument and result, and of the list that it leaves
 abbrev Told : List ℕ → List ℕ → List ℕ → ℕ → List ℕ → PieceIndex → ListAnswer → List ℕ → Type 0
-Told w c rows lent out a r out′ = CoreListed 4 tellBlocks w c rows lent (listOfPiece blocks-for-piece (numberOf (a .0)) (length out / 4)) out out′ r
+Told w c rows lent out a r out′ =
+    CoreListed 4 tellBlocks w c rows lent (listOfPiece blocks-for-piece (numberOf (a .0)) (length out / 4)) out out′ r
 
 pub blocks-for-piece-spec : {M : Type 1} → stated.statement M
 unfolding code.routine tablesOf

@@ -1,4 +1,5 @@
 -- `piece_priorities` meets its contract: a call of the shape of `ListingCells`. Assumes nothing.
+-- Written by tools/publics.py, and not by hand.
 use mathlib.Core.Path.{refl}
 use mathlib.Core.List.{List}
 use Prim.Native.Nat.{ℕ}
@@ -21,7 +22,8 @@ use Rattle.picker_lists.proofs.columns.piece_priorities.Code as code
 
 -- what the core says of words, cells, rows, records lent, lent list and result, and of the list that it leaves
 abbrev Told : List ℕ → List ℕ → List ℕ → ℕ → List ℕ → ListAnswer → List ℕ → Type 0
-Told w c rows lent out r out′ = CoreListed 1 tellNumbers w c rows lent (listOfPicker piece-priorities (length out)) out out′ r
+Told w c rows lent out r out′ =
+    CoreListed 1 tellNumbers w c rows lent (listOfPicker piece-priorities (length out)) out out′ r
 
 pub piece-priorities-spec : {M : Type 1} → stated.statement M
 unfolding code.routine tablesOf

@@ -1,4 +1,5 @@
 -- `get_download_queue` meets its contract: a call of the shape of `memory_records`, `walks/ListingAll`. Assumes nothing.
+-- Written by tools/publics.py, and not by hand.
 use mathlib.Core.Path.{refl}
 use mathlib.Core.List.{List}
 use Prim.Native.Nat.{ℕ, _/_}
@@ -21,7 +22,8 @@ use Rattle.picker_lists.proofs.queue.get_download_queue.Code as code
 
 -- what the core says of words, cells, rows, records lent, lent list and result, and of the list that it leaves
 abbrev Told : List ℕ → List ℕ → List ℕ → ℕ → List ℕ → ListAnswer → List ℕ → Type 0
-Told w c rows lent out r out′ = CoreListed 7 tellInfos w c rows lent (listOfPicker get-download-queue (length out / 7)) out out′ r
+Told w c rows lent out r out′ =
+    CoreListed 7 tellInfos w c rows lent (listOfPicker get-download-queue (length out / 7)) out out′ r
 
 pub get-download-queue-spec : {M : Type 1} → stated.statement M
 unfolding code.routine tablesOf

@@ -67,8 +67,9 @@ same-length-5 c = search needs
 returns-5 : tie.Need-returns-5
 returns-5 c =
     let k = c .before .before .before .before .before .before .before .check-memory in
+    let rows = c .before .before .before .before .before .before .before .before .before .before .before .before .before .pre .0 in
     verdict-good _ _ _ _ _ _ _ (k .result) (k .ensures) (c .before .before .before .enum-told3 .given .1)
-    (sym (c .before .before .short-room2 .ensures) ∙ c .before .if2 .left) (c .shape-of .result) (c .shape-of .ensures) (c .before .before .before .before .before .before .before .before .before .before .before .before .before .pre .0)
+    (sym (c .before .before .short-room2 .ensures) ∙ c .before .if2 .left) (c .shape-of .result) (c .shape-of .ensures) rows
 
 pub admit-room-spec : {M : Type 1} → statement M
 admit-room-spec =

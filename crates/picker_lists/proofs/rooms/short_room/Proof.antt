@@ -22,13 +22,15 @@ valid-geometry-requires c κs = search needs
 returns-2 : tie.Need-returns-2
 returns-2 c =
     no-geometry _ _ _ (c .before .before .before .before .if1 .left)
-    (geometry-read _ _ _ _ (c .before .before .before .head-word .ensures) (c .before .before .head-word2 .ensures) (c .before .valid-geometry .ensures) _
+    (geometry-read _ _ _ _ (c .before .before .before .head-word .ensures) (c .before .before .head-word2 .ensures)
+    (c .before .valid-geometry .ensures) _
     (not-true _ (c .if2 .taken)))
 
 shape-of-requires : tie.Need-shape-of-requires
 shape-of-requires c κs = (
   c .before .before .before .before .if1 .left,
-  (geometry-read _ _ _ _ (c .before .before .before .head-word .ensures) (c .before .before .head-word2 .ensures) (c .before .valid-geometry .ensures) _
+  (geometry-read _ _ _ _ (c .before .before .before .head-word .ensures) (c .before .before .head-word2 .ensures)
+      (c .before .valid-geometry .ensures) _
       (not-false _ (c .if2 .left))),
 )
 
@@ -38,7 +40,9 @@ needed-requires c κs = search needs
 returns-3 : tie.Need-returns-3
 returns-3 c =
     room-tested _ _ _ (c .before .before .before .before .before .before .if1 .left)
-    (geometry-read _ _ _ _ (c .before .before .before .before .before .head-word .ensures) (c .before .before .before .before .head-word2 .ensures) (c .before .before .before .valid-geometry .ensures) _
+    (geometry-read _ _ _ _ (c .before .before .before .before .before .head-word .ensures)
+    (c .before .before .before .before .head-word2 .ensures)
+    (c .before .before .before .valid-geometry .ensures) _
     (not-false _ (c .before .before .if2 .left)))
     (c .before .shape-of .result) (c .before .shape-of .ensures) _ (c .needed .ensures)
 

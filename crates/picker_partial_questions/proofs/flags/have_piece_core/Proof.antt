@@ -50,7 +50,8 @@ returns-2 c =
     let i = c .before .before .before .before .before .before .before .number in
     let i-is = i .ensures in
     question-replied _ _ _ _ _ _ _ (v .result) (v .ensures) (ofPiece have-piece (i .result)) _
-    (λ n. ofPiece have-piece (i-is n)) (λ d. refl) _ _ at _ (c .have-piece .ensures .is _ (live-rows _ _ _ _ _ _ _ t))
+    (λ n. ofPiece have-piece (i-is n)) (λ d. refl) _ _ at _
+    (c .have-piece .ensures .is _ (live-rows _ _ _ _ _ _ _ t))
 
 pub have-piece-core-spec : {M : Type 1} → statement M
 have-piece-core-spec =

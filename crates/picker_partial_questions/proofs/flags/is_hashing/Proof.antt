@@ -26,7 +26,8 @@ use Rattle.picker_partial_questions.proofs.flags.is_hashing.Code as cod
 -- what the core says of words, cells, rows, records lent, argument and result
 abbrev Told : List ℕ → List ℕ → List ℕ → ℕ → PieceIndex → FlagAnswer → Type 0
 Told w c rows lent piece r =
-    CoreAnswered w c rows lent (ofPiece is-hashing (numberOf (piece .0))) (flagAnswer r)
+    CoreAnswered w c rows lent (ofPiece is-hashing (numberOf (piece .0)))
+    (flagAnswer r)
 
 pub is-hashing-spec : {M : Type 1} → stated.statement M
 unfolding code.routine tablesOf

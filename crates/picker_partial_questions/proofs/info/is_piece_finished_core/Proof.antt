@@ -51,7 +51,8 @@ returns-2 c =
     let i = c .before .before .before .before .before .before .before .before .number in
     let i-is = i .ensures in
     question-replied _ _ _ _ _ _ _ (v .result) (v .ensures) (ofPiece is-piece-finished (i .result)) _
-    (λ n. ofPiece is-piece-finished (i-is n)) (λ d. refl) _ _ at _ (c .is-piece-finished .ensures)
+    (λ n. ofPiece is-piece-finished (i-is n)) (λ d. refl) _ _ at _
+    (c .is-piece-finished .ensures)
 
 pub is-piece-finished-core-spec : {M : Type 1} → statement M
 is-piece-finished-core-spec =

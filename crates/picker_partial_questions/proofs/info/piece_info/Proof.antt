@@ -26,7 +26,8 @@ use Rattle.picker_partial_questions.proofs.info.piece_info.Code as code
 -- what the core says of words, cells, rows, records lent, argument and result
 abbrev Told : List ℕ → List ℕ → List ℕ → ℕ → PieceIndex → InfoAnswer → Type 0
 Told w c rows lent piece r =
-    CoreAnswered w c rows lent (ofPiece piece-info (numberOf (piece .0))) (infoAnswer r)
+    CoreAnswered w c rows lent (ofPiece piece-info (numberOf (piece .0)))
+    (infoAnswer r)
 
 pub piece-info-spec : {M : Type 1} → stated.statement M
 unfolding code.routine tablesOf

@@ -51,7 +51,8 @@ returns-2 c =
     let i = c .before .before .before .before .before .before .before .before .number in
     let i-is = i .ensures in
     question-replied _ _ _ _ _ _ _ (v .result) (v .ensures) (ofPiece piece-info (i .result)) _
-    (λ n. ofPiece piece-info (i-is n)) (λ d. refl) _ _ at _ (c .piece-info .ensures)
+    (λ n. ofPiece piece-info (i-is n)) (λ d. refl) _ _ at _
+    (c .piece-info .ensures)
 
 pub piece-info-core-spec : {M : Type 1} → statement M
 piece-info-core-spec =

@@ -53,7 +53,8 @@ returns-2 c =
     let i = c .before .before .before .before .before .before .before .before .number in
     let i-is = i .ensures in
     question-replied _ _ _ _ _ _ _ (v .result) (v .ensures) (ofPiece download-state (i .result)) _
-    (λ n. ofPiece download-state (i-is n)) (λ d. refl) _ _ at _ (ap one (c .u16-to-u64 .ensures) ∙ c .before .download-state .ensures .is _ _ (t .stands .bounds))
+    (λ n. ofPiece download-state (i-is n)) (λ d. refl) _ _ at _
+    (ap one (c .u16-to-u64 .ensures) ∙ c .before .download-state .ensures .is _ _ (t .stands .bounds))
 
 pub download-state-core-spec : {M : Type 1} → statement M
 download-state-core-spec =

@@ -26,7 +26,8 @@ use Rattle.picker_piece_questions.proofs.fields.is_downloading.Code as 
 -- what the core says of words, cells, rows, records lent, argument and result
 abbrev Told : List ℕ → List ℕ → List ℕ → ℕ → PieceIndex → FlagAnswer → Type 0
 Told w c rows lent piece r =
-    CoreAnswered w c rows lent (ofPiece is-downloading (numberOf (piece .0))) (flagAnswer r)
+    CoreAnswered w c rows lent (ofPiece is-downloading (numberOf (piece .0)))
+    (flagAnswer r)
 
 pub is-downloading-spec : {M : Type 1} → stated.statement M
 unfolding code.routine tablesOf

@@ -50,7 +50,8 @@ returns-2 c =
     let i = c .before .before .before .before .before .before .before .number in
     let i-is = i .ensures in
     question-replied _ _ _ _ _ _ _ (v .result) (v .ensures) (ofPiece is-downloading (i .result)) _
-    (λ n. ofPiece is-downloading (i-is n)) (λ d. refl) _ _ at _ (c .is-downloading .ensures .is _ _ (t .stands .bounds))
+    (λ n. ofPiece is-downloading (i-is n)) (λ d. refl) _ _ at _
+    (c .is-downloading .ensures .is _ _ (t .stands .bounds))
 
 pub is-downloading-core-spec : {M : Type 1} → statement M
 is-downloading-core-spec =

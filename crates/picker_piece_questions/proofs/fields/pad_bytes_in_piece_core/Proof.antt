@@ -50,7 +50,8 @@ returns-2 c =
     let i = c .before .before .before .before .before .before .before .number in
     let i-is = i .ensures in
     question-replied _ _ _ _ _ _ _ (v .result) (v .ensures) (ofPiece pad-bytes-in-piece (i .result)) _
-    (λ n. ofPiece pad-bytes-in-piece (i-is n)) (λ d. refl) _ _ at _ (c .pad-bytes-in-piece .ensures .is _ _ (t .stands .bounds))
+    (λ n. ofPiece pad-bytes-in-piece (i-is n)) (λ d. refl) _ _ at _
+    (c .pad-bytes-in-piece .ensures .is _ _ (t .stands .bounds))
 
 pub pad-bytes-in-piece-core-spec : {M : Type 1} → statement M
 pad-bytes-in-piece-core-spec =

@@ -53,7 +53,8 @@ returns-2 c =
     let i = c .before .before .before .before .before .before .before .before .number in
     let i-is = i .ensures in
     question-replied _ _ _ _ _ _ _ (v .result) (v .ensures) (ofPiece peer-count (i .result)) _
-    (λ n. ofPiece peer-count (i-is n)) (λ d. refl) _ _ at _ (ap one (c .u16-to-u64 .ensures) ∙ c .before .peer-count .ensures .is _ _ (t .stands .bounds))
+    (λ n. ofPiece peer-count (i-is n)) (λ d. refl) _ _ at _
+    (ap one (c .u16-to-u64 .ensures) ∙ c .before .peer-count .ensures .is _ _ (t .stands .bounds))
 
 pub peer-count-core-spec : {M : Type 1} → statement M
 peer-count-core-spec =

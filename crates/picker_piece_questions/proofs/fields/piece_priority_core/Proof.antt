@@ -53,7 +53,8 @@ returns-2 c =
     let i = c .before .before .before .before .before .before .before .before .number in
     let i-is = i .ensures in
     question-replied _ _ _ _ _ _ _ (v .result) (v .ensures) (ofPiece piece-priority (i .result)) _
-    (λ n. ofPiece piece-priority (i-is n)) (λ d. refl) _ _ at _ (ap one (c .u16-to-u64 .ensures) ∙ c .before .piece-priority .ensures .is _ _ (t .stands .bounds))
+    (λ n. ofPiece piece-priority (i-is n)) (λ d. refl) _ _ at _
+    (ap one (c .u16-to-u64 .ensures) ∙ c .before .piece-priority .ensures .is _ _ (t .stands .bounds))
 
 pub piece-priority-core-spec : {M : Type 1} → statement M
 piece-priority-core-spec =

@@ -48,7 +48,8 @@ returns-2 c =
     let i = c .before .before .before .before .before .before .before .number in
     let i-is = i .ensures in
     question-replied _ _ _ _ _ _ _ (v .result) (v .ensures) (ofPiece blocks-in-piece (i .result)) _
-    (λ n. ofPiece blocks-in-piece (i-is n)) (λ d. refl) _ _ at _ (c .blocks-in-piece .ensures .is _ _)
+    (λ n. ofPiece blocks-in-piece (i-is n)) (λ d. refl) _ _ at _
+    (c .blocks-in-piece .ensures .is _ _)
 
 pub blocks-in-piece-core-spec : {M : Type 1} → statement M
 blocks-in-piece-core-spec =

@@ -50,7 +50,8 @@ returns-2 c =
     let i = c .before .before .before .before .before .before .before .number in
     let i-is = i .ensures in
     question-replied _ _ _ _ _ _ _ (v .result) (v .ensures) (ofPiece payload-blocks-in-piece (i .result)) _
-    (λ n. ofPiece payload-blocks-in-piece (i-is n)) (λ d. refl) _ _ at _ (c .payload-blocks-in-piece .ensures .is _ _ (t .stands .bounds))
+    (λ n. ofPiece payload-blocks-in-piece (i-is n)) (λ d. refl) _ _ at _
+    (c .payload-blocks-in-piece .ensures .is _ _ (t .stands .bounds))
 
 pub payload-blocks-in-piece-core-spec : {M : Type 1} → statement M
 payload-blocks-in-piece-core-spec =

@@ -26,7 +26,8 @@ use Rattle.picker_piece_questions.proofs.lengths.piece_size.Code as cod
 -- what the core says of words, cells, rows, records lent, argument and result
 abbrev Told : List ℕ → List ℕ → List ℕ → ℕ → PieceIndex → NumberAnswer → Type 0
 Told w c rows lent piece r =
-    CoreAnswered w c rows lent (ofPiece piece-size (numberOf (piece .0))) (numberAnswer r)
+    CoreAnswered w c rows lent (ofPiece piece-size (numberOf (piece .0)))
+    (numberAnswer r)
 
 pub piece-size-spec : {M : Type 1} → stated.statement M
 unfolding code.routine tablesOf

@@ -48,7 +48,8 @@ returns-2 c =
     let i = c .before .before .before .before .before .before .before .number in
     let i-is = i .ensures in
     question-replied _ _ _ _ _ _ _ (v .result) (v .ensures) (ofPiece piece-size (i .result)) _
-    (λ n. ofPiece piece-size (i-is n)) (λ d. refl) _ _ at _ (c .piece-size .ensures .is _ _)
+    (λ n. ofPiece piece-size (i-is n)) (λ d. refl) _ _ at _
+    (c .piece-size .ensures .is _ _)
 
 pub piece-size-core-spec : {M : Type 1} → statement M
 piece-size-core-spec =

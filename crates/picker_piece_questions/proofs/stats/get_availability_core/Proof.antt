@@ -50,7 +50,8 @@ returns-2 c =
     let i = c .before .before .before .before .before .before .before .number in
     let i-is = i .ensures in
     question-replied _ _ _ _ _ _ _ (v .result) (v .ensures) (ofPiece get-availability (i .result)) _
-    (λ n. ofPiece get-availability (i-is n)) (λ d. refl) _ _ at _ (c .get-availability .ensures .is _ (t .stands .bounds))
+    (λ n. ofPiece get-availability (i-is n)) (λ d. refl) _ _ at _
+    (c .get-availability .ensures .is _ (t .stands .bounds))
 
 pub get-availability-core-spec : {M : Type 1} → statement M
 get-availability-core-spec =

@@ -26,7 +26,8 @@ use Rattle.picker_piece_questions.proofs.stats.piece_stats.Code as code
 -- what the core says of words, cells, rows, records lent, argument and result
 abbrev Told : List ℕ → List ℕ → List ℕ → ℕ → PieceIndex → StatsAnswer → Type 0
 Told w c rows lent piece r =
-    CoreAnswered w c rows lent (ofPiece piece-stats (numberOf (piece .0))) (statsAnswer r)
+    CoreAnswered w c rows lent (ofPiece piece-stats (numberOf (piece .0)))
+    (statsAnswer r)
 
 pub piece-stats-spec : {M : Type 1} → stated.statement M
 unfolding code.routine tablesOf

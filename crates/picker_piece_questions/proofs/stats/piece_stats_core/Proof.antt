@@ -50,7 +50,8 @@ returns-2 c =
     let i = c .before .before .before .before .before .before .before .number in
     let i-is = i .ensures in
     question-replied _ _ _ _ _ _ _ (v .result) (v .ensures) (ofPiece piece-stats (i .result)) _
-    (λ n. ofPiece piece-stats (i-is n)) (λ d. refl) _ _ at _ (c .piece-stats .ensures .is _ (t .stands .bounds))
+    (λ n. ofPiece piece-stats (i-is n)) (λ d. refl) _ _ at _
+    (c .piece-stats .ensures .is _ (t .stands .bounds))
 
 pub piece-stats-core-spec : {M : Type 1} → statement M
 piece-stats-core-spec =

@@ -23,7 +23,8 @@ use Rattle.picker_questions.proofs.copies.distributed_copies.Code as co
 -- what the core says of words, cells, rows, records lent and result
 abbrev Told : List ℕ → List ℕ → List ℕ → ℕ → CopiesAnswer → Type 0
 Told w c rows lent r =
-    CoreAnswered w c rows lent (ofPicker distributed-copies) (copiesAnswer r)
+    CoreAnswered w c rows lent (ofPicker distributed-copies)
+    (copiesAnswer r)
 
 pub distributed-copies-spec : {M : Type 1} → stated.statement M
 unfolding code.routine tablesOf

@@ -43,7 +43,8 @@ returns-2 c =
     let g = granted _ _ _ _ _ _ _ (v .result) (v .ensures) _ _ at in
     let t = g .stood in
     question-replied _ _ _ _ _ _ _ (v .result) (v .ensures) (ofPicker distributed-copies) _
-    refl (λ d. refl) _ _ at _ (c .distributed-copies .ensures .is _ (t .stands .bounds))
+    refl (λ d. refl) _ _ at _
+    (c .distributed-copies .ensures .is _ (t .stands .bounds))
 
 pub distributed-copies-core-spec : {M : Type 1} → statement M
 distributed-copies-core-spec =

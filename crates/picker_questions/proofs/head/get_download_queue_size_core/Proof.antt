@@ -44,7 +44,8 @@ returns-2 c =
     let v = c .before .before .before .before .before .before .admit-picker in
     let at = c .before .before .before .s .given .1 in
     question-replied _ _ _ _ _ _ _ (v .result) (v .ensures) (ofPicker get-download-queue-size) _
-    refl (λ d. refl) _ _ at _ (ap one (c .usize-to-u64 .ensures) ∙ c .before .get-download-queue-size .ensures .is _ _)
+    refl (λ d. refl) _ _ at _
+    (ap one (c .usize-to-u64 .ensures) ∙ c .before .get-download-queue-size .ensures .is _ _)
 
 pub get-download-queue-size-core-spec : {M : Type 1} → statement M
 get-download-queue-size-core-spec =

@@ -40,7 +40,8 @@ unfolding questionRefusal
 returns c =
     let v = c .before .before .before .before .admit-place in
     let k = c .before .before .before .before .before .before .i32-to-usize in
-    let z = c .before .before .before .before .before .before .before .before .before .before .args .place in
+    let a = c .before .before .before .before .before .before .before .before .before .before .args in
+    let z = a .place in
     let fit : SFits w32 z = search needs in
     let k-is = k .ensures ∙ ap numberOf (toZ-ofZ w32 z fit) in
     question-refused _ _ _ _ _ _ _ (v .result) (v .ensures) (list-place (k .result)) _
@@ -54,11 +55,13 @@ returns-2 c =
     let g = granted _ _ _ _ _ _ _ (v .result) (v .ensures) _ _ at in
     let t = g .stood in
     let k = c .before .before .before .before .before .before .before .i32-to-usize in
-    let z = c .before .before .before .before .before .before .before .before .before .before .before .args .place in
+    let a = c .before .before .before .before .before .before .before .before .before .before .before .args in
+    let z = a .place in
     let fit : SFits w32 z = search needs in
     let k-is = k .ensures ∙ ap numberOf (toZ-ofZ w32 z fit) in
     question-replied _ _ _ _ _ _ _ (v .result) (v .ensures) (list-place (k .result)) _
-    (λ n. list-place (k-is n)) (λ d. refl) _ _ at _ (c .list-place .ensures .is _ _ (t .stands .bounds))
+    (λ n. list-place (k-is n)) (λ d. refl) _ _ at _
+    (c .list-place .ensures .is _ _ (t .stands .bounds))
 
 pub list-place-core-spec : {M : Type 1} → statement M
 list-place-core-spec =

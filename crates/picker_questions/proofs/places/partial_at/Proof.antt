@@ -27,7 +27,8 @@ use Rattle.picker_questions.proofs.places.partial_at.Code as code
 -- what the core says of words, cells, rows, records lent, argument and result
 abbrev Told : List ℕ → List ℕ → List ℕ → ℕ → ℤ → PlaceAnswer → Type 0
 Told w c rows lent place r =
-    CoreAnswered w c rows lent (partial-at (numberOf place)) (placeAnswer r)
+    CoreAnswered w c rows lent (partial-at (numberOf place))
+    (placeAnswer r)
 
 pub partial-at-spec : {M : Type 1} → stated.statement M
 unfolding code.routine tablesOf

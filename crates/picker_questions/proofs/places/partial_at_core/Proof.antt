@@ -40,7 +40,8 @@ unfolding questionRefusal
 returns c =
     let v = c .before .before .before .before .admit-picker in
     let k = c .before .before .before .before .before .before .i32-to-usize in
-    let z = c .before .before .before .before .before .before .before .before .before .before .args .place in
+    let a = c .before .before .before .before .before .before .before .before .before .before .args in
+    let z = a .place in
     let fit : SFits w32 z = search needs in
     let k-is = k .ensures ∙ ap numberOf (toZ-ofZ w32 z fit) in
     question-refused _ _ _ _ _ _ _ (v .result) (v .ensures) (partial-at (k .result)) _
@@ -54,11 +55,13 @@ returns-2 c =
     let g = granted _ _ _ _ _ _ _ (v .result) (v .ensures) _ _ at in
     let t = g .stood in
     let k = c .before .before .before .before .before .before .before .i32-to-usize in
-    let z = c .before .before .before .before .before .before .before .before .before .before .before .args .place in
+    let a = c .before .before .before .before .before .before .before .before .before .before .before .args in
+    let z = a .place in
     let fit : SFits w32 z = search needs in
     let k-is = k .ensures ∙ ap numberOf (toZ-ofZ w32 z fit) in
     question-replied _ _ _ _ _ _ _ (v .result) (v .ensures) (partial-at (k .result)) _
-    (λ n. partial-at (k-is n)) (λ d. refl) _ _ at _ (c .partial-at .ensures .is _ _ _ (live-rows _ _ _ _ _ _ _ t))
+    (λ n. partial-at (k-is n)) (λ d. refl) _ _ at _
+    (c .partial-at .ensures .is _ _ _ (live-rows _ _ _ _ _ _ _ t))
 
 pub partial-at-core-spec : {M : Type 1} → statement M
 partial-at-core-spec =

@@ -23,7 +23,8 @@ use Rattle.picker_totals.proofs.progress.get_download_queue_sizes.Code 
 -- what the core says of words, cells, rows, records lent and result
 abbrev Told : List ℕ → List ℕ → List ℕ → ℕ → SizesAnswer → Type 0
 Told w c rows lent r =
-    CoreAnswered w c rows lent (ofPicker get-download-queue-sizes) (sizesAnswer r)
+    CoreAnswered w c rows lent (ofPicker get-download-queue-sizes)
+    (sizesAnswer r)
 
 pub get-download-queue-sizes-spec : {M : Type 1} → stated.statement M
 unfolding code.routine tablesOf

@@ -41,7 +41,8 @@ returns-2 c =
     let v = c .before .before .before .before .before .admit-picker in
     let at = c .before .before .s .given .1 in
     question-replied _ _ _ _ _ _ _ (v .result) (v .ensures) (ofPicker have-want) _
-    refl (λ d. refl) _ _ at _ (c .have-want .ensures)
+    refl (λ d. refl) _ _ at _
+    (c .have-want .ensures)
 
 pub have-want-core-spec : {M : Type 1} → statement M
 have-want-core-spec =

@@ -23,7 +23,8 @@ use Rattle.picker_totals.proofs.totals.want.Code as code
 -- what the core says of words, cells, rows, records lent and result
 abbrev Told : List ℕ → List ℕ → List ℕ → ℕ → CountAnswer → Type 0
 Told w c rows lent r =
-    CoreAnswered w c rows lent (ofPicker want) (countAnswer r)
+    CoreAnswered w c rows lent (ofPicker want)
+    (countAnswer r)
 
 pub want-spec : {M : Type 1} → stated.statement M
 unfolding code.routine tablesOf
