@@ -19,9 +19,9 @@ LISTS = [
 
 # where a walk is from: of lists of 16 bits, of a piece, of the picker
 WALKS = {
-    'cells': ('ListingCells', 'listing-cells-call', f'Rattle.{CRATE}.proofs.ListingCells', '`ListingCells`'),
-    'piece': ('Listing', 'listing-call', 'Rattle.memory_records.proofs.walks.Listing', '`memory_records`, `walks/Listing`'),
-    'picker': ('ListingAll', 'listing-all-call', 'Rattle.memory_records.proofs.walks.ListingAll', '`memory_records`, `walks/ListingAll`'),
+    'cells': ('listing-cells-call', f'Rattle.{CRATE}.proofs.ListingCells', '`ListingCells`'),
+    'piece': ('listing-call', 'Rattle.memory_records.proofs.walks.Listing', '`memory_records`, `walks/Listing`'),
+    'picker': ('listing-all-call', 'Rattle.memory_records.proofs.walks.ListingAll', '`memory_records`, `walks/ListingAll`'),
 }
 
 PUBLIC = """-- `{name}` meets its contract: a call of the shape of {shape}. Assumes nothing.
@@ -162,7 +162,7 @@ pub {kebab}-core-spec : {{M : Type 1}} → statement M
 def public_proof(x):
     """The proof of a list from that of its core."""
     kebab = x.name.replace('_', '-')
-    walk, call, module, shape = WALKS['cells' if x.module == 'columns' else 'piece' if x.piece else 'picker']
+    call, module, shape = WALKS['cells' if x.module == 'columns' else 'piece' if x.piece else 'picker']
     own = f'Rattle.{CRATE}.proofs.{x.module}.{x.name}'
     of = 'listOfPiece' if x.piece else 'listOfPicker'
     cited = {'mathlib.Core.Path': ['refl'], 'mathlib.Core.List': ['List'], 'Prim.Native.Nat': ['ℕ'] + (['_/_'] if x.places > 1 else []),
