@@ -18,10 +18,11 @@ OUT = Param('out', 'mut', 'u64')
 
 class Shape:
     """`lends`: 'mut' where the call may write words and cells, 'shr' where it reads them. `partials`: the same of the records.
-    `ends`: 'apply' for one edit of the records, 'pack' for records from rows, '' where they are only read."""
+    `ends`: 'apply' for one edit of the records, 'pack' for records from rows, '' where they are only read. `home`: the crate of the walk,
+    if it is that of the shape's only calls."""
 
-    def __init__(self, name, lends, partials, extra, ends=''):
-        self.name, self.lends, self.ends = name, lends, ends
+    def __init__(self, name, lends, partials, extra, ends='', home='memory_records'):
+        self.name, self.lends, self.ends, self.home = name, lends, ends, home
         head = [Param('words', lends, 'u64'), Param('cells', lends, 'u16')]
         self.public = head + [Param('partials', 'rec' + partials, None)] + extra
         self.core = head + [Param('rows', 'rows', None), Param('lent', 'lent', None)] + extra
@@ -56,6 +57,7 @@ SHAPES = [
     Shape('QuestionAll', 'shr', 'shr', []),
     Shape('Listing', 'shr', 'shr', [OUT, VALUE]),
     Shape('ListingAll', 'shr', 'shr', [OUT]),
+    Shape('ListingCells', 'shr', 'shr', [Param('out', 'mut', 'u16')], home='picker_lists'),
     Shape('Pick', 'mut', 'shr', PICKS),
     Shape('ImageOut', 'shr', 'shr', [IMAGE]),
     Shape('ImageIn', 'mut', 'mut', [Param('bytes', 'shr', 'u8')], 'pack'),

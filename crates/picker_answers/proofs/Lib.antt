@@ -1,0 +1,2 @@
+pub mod AdmittedLaws
+pub mod Values
