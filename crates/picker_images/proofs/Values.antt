@@ -1,0 +1,19 @@
+-- The types of these calls' answers, as the walks ask for them. Assumes nothing.
+use mathlib.Core.Path.{refl}
+use denote.Enum.Laws as EL
+use Rattle.memory_records.proofs.steps.Values.{Value}
+use Rattle.picker_images.proofs.answers.Making as M
+use Rattle.picker_images.proofs.answers.Making.Laws as M′
+
+-- what a call that makes a picker answers
+abbrev pub making : Value
+making = record {
+  row = M.the-row;
+  mir = M′.mir;
+  val = EL.val M.the-type M′.the-laws;
+  tells = EL.tells M.the-type M′.the-laws;
+  typed = λ 𝓤 H A W a p. EL.lawful M.the-type M′.the-laws 𝓤 H A W tt .typed a _ p .0;
+  silent = λ x f. refl;
+  last = λ x. tt;
+  makes = λ 𝓤 H A W. EL.makes M.the-type M′.the-plain 𝓤 H A;
+}

@@ -1,0 +1,17 @@
+-- The core of a call that makes a picker sees the number of records lent, or rows in their place: what it says is said of all records.
+-- Assumes nothing.
+use mathlib.Core.Path.{_≡_}
+use mathlib.Core.List.{List}
+use mathlib.Core.Option.{Option}
+use Prim.Native.Nat.{ℕ}
+use lib.IntN.{ℤ}
+use lib.ListN.{length}
+use Rattle.types.specs.declared.refusal.Refusal.{Refusal}
+use Rattle.memory_records.specs.declared.record.DownloadingPiece.{DownloadingPiece as Record}
+use Rattle.picker_calls.specs.Cores.{lending}
+use Rattle.picker_calls.specs.Starting.{NewCalled}
+
+-- with any records, so many of them, `new` is done once words and cells are these: the records stay
+pub record NewDone (words cells : List ℕ) (lent : ℕ) (totalSize pieceSize : ℤ) (words′ cells′ : List ℕ) (r : Option Refusal) : Type 0 where
+  pub done : (partials : List Record) → length partials ≡ lent
+      → NewCalled (lending words cells partials) totalSize pieceSize (lending words′ cells′ partials) r
