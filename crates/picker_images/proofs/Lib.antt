@@ -1,2 +1,3 @@
 pub mod MakingLaws
+pub mod TakingLaws
 pub mod Values

@@ -4,6 +4,8 @@ use denote.Enum.Laws as EL
 use Rattle.memory_records.proofs.steps.Values.{Value}
 use Rattle.picker_images.proofs.answers.Making as M
 use Rattle.picker_images.proofs.answers.Making.Laws as M′
+use Rattle.picker_images.proofs.answers.ImageTaken as I
+use Rattle.picker_images.proofs.answers.ImageTaken.Laws as I′
 
 -- what a call that makes a picker answers
 abbrev pub making : Value
@@ -16,4 +18,17 @@ making = record {
   silent = λ x f. refl;
   last = λ x. tt;
   makes = λ 𝓤 H A W. EL.makes M.the-type M′.the-plain 𝓤 H A;
+}
+
+-- what the call that takes the image answers
+abbrev pub imageTaken : Value
+imageTaken = record {
+  row = I.the-row;
+  mir = I′.mir;
+  val = EL.val I.the-type I′.the-laws;
+  tells = EL.tells I.the-type I′.the-laws;
+  typed = λ 𝓤 H A W a p. EL.lawful I.the-type I′.the-laws 𝓤 H A W tt .typed a _ p .0;
+  silent = λ x f. refl;
+  last = λ x. tt;
+  makes = λ 𝓤 H A W. EL.makes I.the-type I′.the-plain 𝓤 H A;
 }

@@ -3,9 +3,11 @@
 mod answers;
 mod making;
 mod needs;
+mod taking;
 
 pub use answers::ImageTaken;
 pub use answers::Making;
 pub use making::new;
 pub use needs::image_needed;
 pub use needs::memory_needed;
+pub use taking::take_image;
