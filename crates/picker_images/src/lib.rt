@@ -3,6 +3,7 @@
 mod answers;
 mod making;
 mod needs;
+mod reading;
 mod taking;
 
 pub use answers::ImageTaken;
@@ -10,4 +11,5 @@ pub use answers::Making;
 pub use making::new;
 pub use needs::image_needed;
 pub use needs::memory_needed;
+pub use reading::read_image;
 pub use taking::take_image;
