@@ -24,11 +24,12 @@ valid-geometry-requires c κs = search needs
 
 returns : tie.Need-returns
 returns c =
-    let a = c .before .before .before .before .before .before .before .args in
+    let d = c .before .before in
+    let a = d .before .before .before .before .before .args in
     let fits·t : SFits w64 (a .total-size) = search needs in
     let fits·z : SFits w32 (a .piece-size) = search needs in
-    bad-geometry _ _ _ _ _ _ _ (c .before .before .before .before .i64-to-u64 .ensures ∙ ap numberOf (toZ-ofZ w64 (a .total-size) fits·t)) (c .before .before .usize-to-u64 .ensures ∙ c .before .before .before .i32-to-usize .ensures
-    ∙ ap numberOf (toZ-ofZ w32 (a .piece-size) fits·z))
+    bad-geometry _ _ _ _ _ _ _ (d .before .before .i64-to-u64 .ensures ∙ ap numberOf (toZ-ofZ w64 (a .total-size) fits·t))
+    (d .usize-to-u64 .ensures ∙ d .before .i32-to-usize .ensures ∙ ap numberOf (toZ-ofZ w32 (a .piece-size) fits·z))
     (sym (c .before .valid-geometry .ensures) ∙ not-true _ (c .if1 .taken))
 
 is-short-requires : tie.Need-is-short-requires
@@ -42,17 +43,19 @@ same-length-2 c = search needs
 
 returns-2 : tie.Need-returns-2
 returns-2 c =
-    let a = c .before .before .before .before .before .before .before .before .before .before .before .args in
+    let d = c .before .before .before .before .before .before in
+    let a = d .before .before .before .before .before .args in
     let fits·t : SFits w64 (a .total-size) = search needs in
     let fits·z : SFits w32 (a .piece-size) = search needs in
-    short-memory _ _ _ _ _ _ _ (c .before .before .before .before .before .before .before .before .i64-to-u64 .ensures ∙ ap numberOf (toZ-ofZ w64 (a .total-size) fits·t)) (c .before .before .before .before .before .before .usize-to-u64 .ensures ∙ c .before .before .before .before .before .before .before .i32-to-usize .ensures
-    ∙ ap numberOf (toZ-ofZ w32 (a .piece-size) fits·z))
+    short-memory _ _ _ _ _ _ _ (d .before .before .i64-to-u64 .ensures ∙ ap numberOf (toZ-ofZ w64 (a .total-size) fits·t))
+    (d .usize-to-u64 .ensures ∙ d .before .i32-to-usize .ensures ∙ ap numberOf (toZ-ofZ w32 (a .piece-size) fits·z))
     (sym (c .before .before .before .before .before .valid-geometry .ensures) ∙ not-false _ (c .before .before .before .before .if1 .left))
     (sym (c .before .is-short .ensures) ∙ c .if2 .taken)
 
 make-requires : tie.Need-make-requires
 make-requires c κs =
-    let valid = sym (c .before .before .before .before .before .before .before .valid-geometry .ensures) ∙ not-false _ (c .before .before .before .before .before .before .if1 .left) in
+    let d = c .before .before .before .before .before .before in
+    let valid = sym (d .before .valid-geometry .ensures) ∙ not-false _ (d .if1 .left) in
     (valid, room _ _ _ _ _ valid (sym (c .before .before .before .is-short .ensures) ∙ c .before .before .if2 .left))
 
 same-length-3 : tie.Need-same-length-3
@@ -63,16 +66,16 @@ same-length-4 c = search needs
 
 returns-3 : tie.Need-returns-3
 returns-3 c =
-    let a = c .before .before .before .before .before .before .before .before .before .before .before .before .before .before .before .before .before .before .args in
+    let m = c .before .before .before .before in
+    let d = m .before .before .before .before .before .before .before .before .before in
+    let a = d .before .before .before .before .before .args in
     let fits·t : SFits w64 (a .total-size) = search needs in
     let fits·z : SFits w32 (a .piece-size) = search needs in
-    made-new _ _ _ _ _ _ _ (c .before .before .before .before .before .before .before .before .before .before .before .before .before .before .before .i64-to-u64 .ensures ∙ ap numberOf (toZ-ofZ w64 (a .total-size) fits·t))
-    (c .before .before .before .before .before .before .before .before .before .before .before .before .before .usize-to-u64 .ensures ∙ c .before .before .before .before .before .before .before .before .before .before .before .before .before .before .i32-to-usize .ensures
-    ∙ ap numberOf (toZ-ofZ w32 (a .piece-size) fits·z))
-    (sym (c .before .before .before .before .before .before .before .before .before .before .before .before .valid-geometry .ensures)
-    ∙ not-false _ (c .before .before .before .before .before .before .before .before .before .before .before .if1 .left))
-    (sym (c .before .before .before .before .before .before .before .before .is-short .ensures) ∙ c .before .before .before .before .before .before .before .if2 .left)
-    _ _ _ (c .before .before .before .before .make .ensures)
+    made-new _ _ _ _ _ _ _ (d .before .before .i64-to-u64 .ensures ∙ ap numberOf (toZ-ofZ w64 (a .total-size) fits·t))
+    (d .usize-to-u64 .ensures ∙ d .before .i32-to-usize .ensures ∙ ap numberOf (toZ-ofZ w32 (a .piece-size) fits·z))
+    (sym (m .before .before .before .before .before .before .before .before .valid-geometry .ensures)
+    ∙ not-false _ (m .before .before .before .before .before .before .before .if1 .left))
+    (sym (m .before .before .before .before .is-short .ensures) ∙ m .before .before .before .if2 .left) _ _ _ (m .make .ensures)
 
 pub new-core-spec : {M : Type 1} → statement M
 new-core-spec =

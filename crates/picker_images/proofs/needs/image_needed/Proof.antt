@@ -27,7 +27,8 @@ returns c =
     let fits·t : SFits w64 (a .total-size) = search needs in
     let fits·z : SFits w32 (a .piece-size) = search needs in
     c .image-needed .ensures
-    ∙ ap₂ bytesFor (c .before .before .before .i64-to-u64 .ensures ∙ ap numberOf (toZ-ofZ w64 (a .total-size) fits·t)) (c .before .usize-to-u64 .ensures ∙ c .before .before .i32-to-usize .ensures ∙ ap numberOf (toZ-ofZ w32 (a .piece-size) fits·z))
+    ∙ ap₂ bytesFor (c .before .before .before .i64-to-u64 .ensures ∙ ap numberOf (toZ-ofZ w64 (a .total-size) fits·t))
+    (c .before .usize-to-u64 .ensures ∙ c .before .before .i32-to-usize .ensures ∙ ap numberOf (toZ-ofZ w32 (a .piece-size) fits·z))
 
 pub image-needed-spec : {M : Type 1} → statement M
 image-needed-spec =

@@ -25,12 +25,14 @@ memory-needed-requires c κs = search needs
 returns : tie.Need-returns
 returns c =
     let a = c .before .before .before .before .args in
+    let m = c .memory-needed .result in
     let fits·t : SFits w64 (a .total-size) = search needs in
     let fits·z : SFits w32 (a .piece-size) = search needs in
-    let m = c .memory-needed .result in
-    subst (λ (t : ℕ). Lengths (memoryOf t (numberOf (a .piece-size))) (m .words) (m .cells) (m .partials)) (c .before .before .before .i64-to-u64 .ensures ∙ ap numberOf (toZ-ofZ w64 (a .total-size) fits·t))
+    subst (λ (t : ℕ). Lengths (memoryOf t (numberOf (a .piece-size))) (m .words) (m .cells) (m .partials))
+    (c .before .before .before .i64-to-u64 .ensures ∙ ap numberOf (toZ-ofZ w64 (a .total-size) fits·t))
     (subst (λ (z : ℕ). Lengths (memoryOf (c .before .before .before .i64-to-u64 .result) z) (m .words) (m .cells) (m .partials))
-    (c .before .usize-to-u64 .ensures ∙ c .before .before .i32-to-usize .ensures ∙ ap numberOf (toZ-ofZ w32 (a .piece-size) fits·z)) (c .memory-needed .ensures))
+    (c .before .usize-to-u64 .ensures ∙ c .before .before .i32-to-usize .ensures ∙ ap numberOf (toZ-ofZ w32 (a .piece-size) fits·z))
+    (c .memory-needed .ensures))
 
 pub memory-needed-spec : {M : Type 1} → statement M
 memory-needed-spec =

@@ -21,8 +21,9 @@ live-records-requires c κs = search needs
 
 take-image-requires : tie.Need-take-image-requires
 take-image-requires c κs =
-    let k = c .before .before .before .before .before .before .admit in
-    asked _ _ _ _ _ _ _ (stood-live _ _ _ _ _ (k .result) (k .ensures) _ (c .before .before .before .s .given .1) _ (c .before .live-records .ensures))
+    let d = c .before .before .before in
+    let k = d .before .before .before .admit in
+    asked _ _ _ _ _ _ _ (stood-live _ _ _ _ _ (k .result) (k .ensures) _ (d .s .given .1) _ (c .before .live-records .ensures))
 
 enum-known-n : tie.Need-enum-known-n
 enum-known-n c = search needs
@@ -40,18 +41,24 @@ same-length c = search needs
 
 returns-2 : tie.Need-returns-2
 returns-2 c =
-    let k = c .before .before .before .before .before .before .before .before .before .before .before .before .admit in
-    let w = c .before .before .before .before .before .take-image in
-    taken-whole _ _ _ _ _ _ _ _ (stood-live _ _ _ _ _ (k .result) (k .ensures) _ (c .before .before .before .before .before .before .before .before .before .s .given .1) _ (c .before .before .before .before .before .before .before .live-records .ensures)) _ (w .result) (w .ensures) _ (c .before .n .given .1)
+    let w = c .before .before .before .before .before in
+    let d = w .before .before .before .before in
+    let k = d .before .before .before .admit in
+    taken-whole _ _ _ _ _ _ _ _
+    (stood-live _ _ _ _ _ (k .result) (k .ensures) _ (d .s .given .1) _ (w .before .before .live-records .ensures))
+    _ (w .take-image .result) (w .take-image .ensures) _ (c .before .n .given .1)
 
 same-length-2 : tie.Need-same-length-2
 same-length-2 c = search needs
 
 returns-3 : tie.Need-returns-3
 returns-3 c =
-    let k = c .before .before .before .before .before .before .before .before .before .before .before .admit in
-    let w = c .before .before .before .before .take-image in
-    too-short _ _ _ _ _ _ _ _ (stood-live _ _ _ _ _ (k .result) (k .ensures) _ (c .before .before .before .before .before .before .before .before .s .given .1) _ (c .before .before .before .before .before .before .live-records .ensures)) _ (w .result) (w .ensures) (c .enum-told .given .1)
+    let w = c .before .before .before .before in
+    let d = w .before .before .before .before in
+    let k = d .before .before .before .admit in
+    too-short _ _ _ _ _ _ _ _
+    (stood-live _ _ _ _ _ (k .result) (k .ensures) _ (d .s .given .1) _ (w .before .before .live-records .ensures))
+    _ (w .take-image .result) (w .take-image .ensures) (c .enum-told .given .1)
 
 pub take-image-core-spec : {M : Type 1} → statement M
 take-image-core-spec =
