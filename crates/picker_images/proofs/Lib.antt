@@ -1,0 +1,4 @@
+pub mod MakingLaws
+pub mod ReadingLaws
+pub mod TakingLaws
+pub mod Values
