@@ -153,10 +153,6 @@ module _ {step : ℕ → PickState → PickState} {whole rest : List ℕ} {d : P
   }
 
 -- ---- lengths
-pub alone-lengths : {f : PickState → PickState} {d : Picker} {t r : PickNumbers} {out aside out′ aside′ : List ℕ}
-    → SteppedAlone f d t r out aside out′ aside′ → PartialRoom d t out aside → (length out′ ≡ length out) × (length aside′ ≡ length aside)
-alone-lengths x u = let y = x (u .ignored) (u .loops) (u .underway) .did in (y .kept .long, y .longAside)
-
 pub taking-lengths : {step : ℕ → PickState → PickState} {whole rest : List ℕ} {d : Picker} {t cur : PickNumbers}
     {out aside out₁ aside₁ : List ℕ} → Taking step whole rest d t cur out aside out₁ aside₁ → PartialRoom d t out aside
     → (length out₁ ≡ length out) × (length aside₁ ≡ length aside)
