@@ -5,7 +5,7 @@ use mathlib.Core.List.{List}
 use Prim.Native.Nat.{ℕ, _+_, _≤_, _<_}
 use native.Mathlib.Omega.{arith}
 use native.Mathlib.Decide.{ℕ-discrete}
-use lib.ListN.{length, getD, set, take, length-set}
+use lib.ListN.{length, getD, take, length-set}
 use lib.Seq.{getD-set-same, getD-set-other}
 use Rattle.types.specs.declared.queue.DownloadQueue.the-variants.{Downloading}
 use Rattle.types.specs.Bits.{meets, union}
@@ -21,14 +21,12 @@ use Rattle.memory_layout.specs.Changes.{partialIn}
 use Rattle.pick_state.specs.declared.numbers.PickNumbers.{PickNumbers}
 use Rattle.pick_state.specs.declared.request.PickRequest.{PickRequest as Request}
 use Rattle.pick_state.specs.Requests.{requestOf}
-use Rattle.pick_state.specs.PickStates.{contiguousOf, withFlags, stateOf}
+use Rattle.pick_state.specs.PickStates.{withFlags, stateOf}
 use Rattle.pick_state.specs.Room.{Underway}
 use Rattle.pick_state.proofs.DidLaws.{kept-none}
 use Rattle.pick_state.proofs.RoomLaws.{underway-same}
 use Rattle.pick_blocks.specs.Blocks.{PartialRoom}
-use Rattle.pick_busy.specs.Full.{PlacesIn}
-use Rattle.pick_scan.specs.declared.found.Scan.{Scan}
-use Rattle.pick_scan.specs.Scans.{PlacesRise, Scanned, Ordered}
+use Rattle.pick_scan.specs.Scans.{PlacesRise, Ordered}
 use Rattle.pick_visits.specs.Steps.{Stepped, Risen}
 use Rattle.pick_visits.proofs.StepLaws.{stepped-none, stepped-then, stepped-as}
 use Rattle.pick_partials.specs.Phase.{MarksRoom, SteppedUnmarked, SteppedAlone, OrderedBy}

@@ -4,12 +4,12 @@ use mathlib.Core.Bool.{Bool, true, false}
 use mathlib.Core.List.{List, [], _∷_}
 use Prim.Native.Nat.{ℕ, suc, _+_, _-_, _≤_, _<_}
 use native.Mathlib.Omega.{arith}
-use lib.Dec.{eqb, leb}
+use lib.Dec.{leb}
 use lib.ListN.{length, getD, take, drop}
 use lib.Seq.{drop-cons, getD-take, length-take-le}
-use borrow.Author.Tests.{le-leb, lt-leb, eq-eqb, ne-eqb}
+use borrow.Author.Tests.{le-leb, lt-leb}
 use Rattle.types.specs.Bits.{union}
-use Rattle.model.specs.Lists.{each, len, unless, walkUntil, walk}
+use Rattle.model.specs.Lists.{each, unless, walkUntil, walk}
 use Rattle.model.specs.State.{DownloadingPiece, Picker, blocksPerPiece}
 use Rattle.model.specs.Options.{prioritizedPartials}
 use Rattle.model.specs.pick.Blocks.{PickRequest, PickState, spent, flagged, withOut, withBackup, addBlocksDownloading, appendBlocks}
@@ -20,8 +20,8 @@ use Rattle.model.proofs.pick.BoundLaws.{small}
 use Rattle.model.proofs.pick.OutputLaws.{bounded-kept}
 use Rattle.memory_layout.specs.Changes.{partialIn}
 use Rattle.pick_state.specs.declared.numbers.PickNumbers.{PickNumbers}
-use Rattle.pick_state.specs.PickStates.{contiguousOf, blocksBetween, withFlags, stateOf, Did}
-use Rattle.pick_state.specs.Room.{Working, Underway, Worked}
+use Rattle.pick_state.specs.PickStates.{contiguousOf, withFlags, stateOf}
+use Rattle.pick_state.specs.Room.{Underway}
 use Rattle.pick_state.proofs.DidLaws.{kept-same, did-then}
 use Rattle.pick_state.proofs.TakeLaws.{between-length}
 use Rattle.pick_state.proofs.RoomLaws.{working-left, working-marks, working-aside, working-tight, working-unspent, working-kept}
@@ -33,7 +33,7 @@ use Rattle.pick_blocks.specs.Blocks.{PartialRoom}
 use Rattle.pick_blocks.proofs.AddingLaws.{blocks-worked, partial-room}
 use Rattle.pick_append.specs.Appending.{Appended}
 use Rattle.pick_visits.specs.Steps.{Stepped}
-use Rattle.pick_visits.proofs.StepLaws.{stepped-none, stepped-then, stepped-as, walk-on, walk-over, walk-empty, did-spent, did-unspent}
+use Rattle.pick_visits.proofs.StepLaws.{stepped-then, stepped-as, walk-on, walk-over, walk-empty, did-spent, did-unspent}
 use Rattle.pick_visits.proofs.VisitLaws.{flag-wanted, flag-underway}
 use Rattle.pick_partials.specs.Phase.{SteppedAlone, walkPlaces}
 
@@ -153,10 +153,6 @@ module _ {step : ℕ → PickState → PickState} {whole rest : List ℕ} {d : P
   }
 
 -- ---- lengths
-pub alone-lengths : {f : PickState → PickState} {d : Picker} {t r : PickNumbers} {out aside out′ aside′ : List ℕ}
-    → SteppedAlone f d t r out aside out′ aside′ → PartialRoom d t out aside → (length out′ ≡ length out) × (length aside′ ≡ length aside)
-alone-lengths x u = let y = x (u .ignored) (u .loops) (u .underway) .did in (y .kept .long, y .longAside)
-
 pub taking-lengths : {step : ℕ → PickState → PickState} {whole rest : List ℕ} {d : Picker} {t cur : PickNumbers}
     {out aside out₁ aside₁ : List ℕ} → Taking step whole rest d t cur out aside out₁ aside₁ → PartialRoom d t out aside
     → (length out₁ ≡ length out) × (length aside₁ ≡ length aside)

@@ -1,7 +1,7 @@
 -- The partials that a pick may take from, by the rows: partial k by its row, and one pass over all. Assumes nothing.
-use mathlib.Core.Path.{_≡_, refl, sym, ap, ap₂, _∙_}
+use mathlib.Core.Path.{_≡_, sym, ap, ap₂, _∙_}
 use mathlib.Core.Bool.{Bool, true, false, not, _&&_}
-use mathlib.Core.List.{List, [], _∷_, _++_}
+use mathlib.Core.List.{List, [], _∷_}
 use Prim.Native.Nat.{ℕ, _+_, _/_, _%_, _≤_, _<_}
 use native.Mathlib.Omega.{arith}
 use lib.Dec.{eqb}
@@ -12,7 +12,7 @@ use Rattle.types.specs.declared.queue.DownloadQueue.the-variants.{Downloading}
 use Rattle.types.specs.Queue.{queueNumber}
 use Rattle.model.specs.Lists.{bit, from, filter, each, len}
 use Rattle.model.specs.Bep3.{bitOf}
-use Rattle.model.specs.State.{DownloadingPiece, Picker, sameQueue}
+use Rattle.model.specs.State.{Picker, sameQueue}
 use Rattle.model.specs.change.Partials.{inQueue}
 use Rattle.model.specs.pick.Blocks.{PickRequest, isPieceFree}
 use Rattle.model.specs.pick.Pick.{usable}
@@ -22,7 +22,6 @@ use Rattle.memory_layout.specs.declared.shape.Shape.{Shape}
 use Rattle.memory_layout.specs.Changes.{partialIn}
 use Rattle.memory_fields.specs.Reading.{CellsSay}
 use Rattle.memory_rows.specs.Lookup.{pickerIn}
-use Rattle.memory_rows.proofs.RisingLaws.{live-number}
 use Rattle.memory_queues.specs.Queues.{queueIn, queueHeld, placesBelow, placesIn}
 use Rattle.memory_queues.proofs.PlaceLaws.{below-in, below-out, below-few, below-none, places-queue}
 use Rattle.memory_queues.proofs.StandLaws.{held-is}
@@ -33,8 +32,7 @@ use Rattle.pick_state.specs.Requests.{requestOf}
 use Rattle.pick_partial.proofs.PartialLaws.{this-piece, this-locked}
 use Rattle.pick_append.proofs.RowLaws.{Gathered, gather-start, gather-next, gather-end}
 use Rattle.pick_busy.proofs.ListLaws.{filter-both, filter-low, each-filter, each-length}
-use Rattle.pick_scan.specs.declared.found.Scan.{Scan}
-use Rattle.pick_scan.specs.Scans.{foundAt, climbs, PlacesRise, Scanned}
+use Rattle.pick_scan.specs.Scans.{foundAt, climbs, Scanned}
 use Rattle.pick_scan.proofs.PlaceLaws.{climbs-filter}
 
 -- ---- one partial

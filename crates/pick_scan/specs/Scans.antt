@@ -6,7 +6,7 @@ use mathlib.Core.List.{List, [], _∷_}
 use lib.Dec.{leb}
 use lib.ListN.{length, getD, take}
 use Rattle.types.specs.declared.queue.DownloadQueue.the-variants.{Downloading}
-use Rattle.model.specs.Lists.{from, filter, each, len, sortBy}
+use Rattle.model.specs.Lists.{filter, each, len, sortBy}
 use Rattle.model.specs.State.{DownloadingPiece, Picker, sameQueue, pieceAt}
 use Rattle.model.specs.change.Partials.{progress, inQueue}
 use Rattle.model.specs.pick.Blocks.{PickRequest}

@@ -3,7 +3,6 @@ use Prim.Native.Nat.{ℕ, _+_}
 use Rattle.model.specs.Lists.{nth, setNth}
 use native.Mathlib.Omega.{arith}
 use mathlib.Core.Path.{ap}
-use mathlib.Core.Path.{refl}
 use borrow.Author.Needs.{needs}
 use Rattle.pick_partials.proofs.phase.count_steps.Statement.{statement}
 use Rattle.pick_partials.proofs.phase.count_steps.Tie as tie

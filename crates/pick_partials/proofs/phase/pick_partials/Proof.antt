@@ -1,4 +1,5 @@
 -- `pick_partials` meets its contract. Assumes nothing.
+use mathlib.Core.Path.{refl}
 use Rattle.pick_partials.proofs.PhaseLaws.{first-no, first-yes, phase-none, phase-some, steps-risen, risen-none, marks-room}
 use Rattle.pick_partials.proofs.WalkLaws.{alone-room}
 use Rattle.memory_rows.specs.Lookup.{pickerIn}
@@ -21,7 +22,7 @@ returns c =
     (phase-none (requestOf (a .q) (a .bytes .now)) d e, risen-none 512 _)
 
 scan-partials-requires : tie.Need-scan-partials-requires
-scan-partials-requires c κs = search needs
+scan-partials-requires c κs = (c .before .before .before .before .before .before .before .before .before .before .before .pre .0, refl)
 
 count-steps-requires : tie.Need-count-steps-requires
 count-steps-requires c κs =
@@ -30,7 +31,10 @@ count-steps-requires c κs =
     (omega arith, o .pre .1 .1 .1 .1, c .before .scan-partials .ensures .few)
 
 order-found-requires : tie.Need-order-found-requires
-order-found-requires c κs = search needs
+order-found-requires c κs =
+    let z = c .before .before .before .before .before in
+    let o = z .before .before .before .before .before .before .before .before .before .before .before .before in
+    (o .pre .0 .asked, (o .pre .1 .0, z .scan-partials .ensures .places))
 
 walk-partials-requires : tie.Need-walk-partials-requires
 walk-partials-requires c κs =
@@ -44,13 +48,13 @@ walk-partials-requires c κs =
     (o .pre .0, (x, (omega (arith, f .wanted, o .pre .1 .1 .1 .0), f .places)))
 
 same-length : tie.Need-same-length
-same-length c = search needs
+same-length c = c .before .before .before .before .walk-partials .kept .1 .1 .1 .1 .1 .1 .1 .0
 
 same-length-2 : tie.Need-same-length-2
-same-length-2 c = search needs
+same-length-2 c = c .before .before .before .before .walk-partials .kept .1 .1 .1 .1 .1 .1 .1 .1 .0
 
 same-length-3 : tie.Need-same-length-3
-same-length-3 c = search needs
+same-length-3 c = c .before .before .before .before .before .before .before .before .before .before .before .before .count-steps .kept .0
 
 returns-2 : tie.Need-returns-2
 returns-2 c =

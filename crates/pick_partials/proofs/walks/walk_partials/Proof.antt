@@ -1,10 +1,10 @@
 -- `walk_partials` meets its contract. Assumes nothing.
+use mathlib.Core.Path.{_∙_}
 use Rattle.pick_partials.proofs.WalkLaws.{walked-spent, walked-more, append-room, alone-room}
 use Rattle.pick_free.proofs.FreeLaws.{above-none}
 use Rattle.pick_visits.proofs.VisitLaws.{picks-sound}
 use Rattle.pick_state.specs.Requests.{requestOf}
 use lib.ListN.{take}
-use borrow.Author.Needs.{needs}
 use Rattle.pick_partials.proofs.walks.walk_partials.Statement.{statement}
 use Rattle.pick_partials.proofs.walks.walk_partials.Tie as tie
 
@@ -12,10 +12,10 @@ walk-places-requires : tie.Need-walk-places-requires
 walk-places-requires c κs = c .before .before .before .before .before .before .before .before .pre
 
 same-length : tie.Need-same-length
-same-length c = search needs
+same-length c = c .before .before .before .before .before .before .walk-places .kept .1 .1 .1 .1 .1 .1 .1 .0
 
 same-length-2 : tie.Need-same-length-2
-same-length-2 c = search needs
+same-length-2 c = c .before .before .before .before .before .before .walk-places .kept .1 .1 .1 .1 .1 .1 .1 .1 .0
 
 returns : tie.Need-returns
 returns c =
@@ -31,10 +31,13 @@ append-blocks-requires c κs =
     (alone-room (w .walk-places .ensures) (o .pre .1 .0))
 
 same-length-3 : tie.Need-same-length-3
-same-length-3 c = search needs
+same-length-3 c =
+    let w = c .before .before .before .before .before .before .before .before .before .before .before in
+    c .before .before .append-blocks .kept .0 ∙ w .walk-places .kept .1 .1 .1 .1 .1 .1 .1 .0
 
 same-length-4 : tie.Need-same-length-4
-same-length-4 c = search needs
+same-length-4 c =
+    c .before .before .before .before .before .before .before .before .before .before .before .walk-places .kept .1 .1 .1 .1 .1 .1 .1 .1 .0
 
 returns-2 : tie.Need-returns-2
 returns-2 c =

@@ -9,7 +9,7 @@ use Rattle.memory_rows.specs.Lookup.{pickerIn}
 use Rattle.memory_layout.specs.Changes.{partialIn}
 use Rattle.model.specs.pick.Pick.{partialStep}
 use Rattle.pick_partials.specs.Phase.{walkPlaces}
-use Rattle.pick_partials.proofs.WalkLaws.{Taking, taking-start, taking-next, taking-stop, taking-end, taking-lengths, alone-lengths}
+use Rattle.pick_partials.proofs.WalkLaws.{Taking, taking-start, taking-next, taking-stop, taking-end, taking-lengths}
 use Rattle.pick_partials.proofs.WalkLaws.{rest-cons, rest-none}
 use Rattle.pick_partials.proofs.WalkLaws.{Taking, taking-start, taking-next, taking-stop, taking-end, rest-cons, rest-none}
 use borrow.Author.Needs.{needs}
@@ -50,14 +50,14 @@ same-length c =
     let s = c .before .before .before .before .before .before in
     let l = s .before .before .before .before .before .before in
     let o = l .before .before .before .before .before .before .before in
-    alone-lengths (s .partial-step .ensures) (l .loop .inv .now) .0 ∙ taking-lengths (l .loop .inv) (o .pre .1 .0) .0
+    s .partial-step .kept .1 .1 .1 .1 .1 .1 .1 .0 ∙ taking-lengths (l .loop .inv) (o .pre .1 .0) .0
 
 same-length-2 : tie.Need-same-length-2 Inv-loop μ-loop
 same-length-2 c =
     let s = c .before .before .before .before .before .before in
     let l = s .before .before .before .before .before .before in
     let o = l .before .before .before .before .before .before .before in
-    alone-lengths (s .partial-step .ensures) (l .loop .inv .now) .1 ∙ taking-lengths (l .loop .inv) (o .pre .1 .0) .1
+    s .partial-step .kept .1 .1 .1 .1 .1 .1 .1 .1 .0 ∙ taking-lengths (l .loop .inv) (o .pre .1 .0) .1
 
 returns : tie.Need-returns Inv-loop μ-loop
 unfolding walkPlaces

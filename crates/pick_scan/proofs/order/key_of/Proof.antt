@@ -1,5 +1,4 @@
 -- `key_of` meets its contract. Assumes nothing.
-use Rattle.memory_rows.specs.Lookup.{pickerIn}
 use native.Mathlib.Omega.{arith}
 use Rattle.pick_partial.proofs.PartialLaws.{row-few}
 use Rattle.ask_picker.proofs.AskedLaws.{asked-queues}

@@ -4,7 +4,6 @@ use Rattle.pick_scan.proofs.OrderLaws.{ordered}
 use Rattle.pick_scan.proofs.KeyLaws.{progress-small, zeros-take}
 use mathlib.Core.Path.{sym, _∙_}
 use native.Mathlib.Omega.{arith}
-use lib.ListN.{length}
 use lib.Seq.{length-take-le, take-at}
 use borrow.Author.Needs.{needs}
 use Rattle.pick_scan.proofs.order.order_partials.Statement.{statement}
