@@ -1,0 +1,5 @@
+// The first phase of a pick: partials before all else, where they come first.
+mod phase;
+mod walks;
+
+pub use phase::pick_partials;

@@ -1,0 +1,4 @@
+pub mod PlaceLaws
+pub mod OrderLaws
+pub mod FoundLaws
+pub mod KeyLaws
