@@ -3,11 +3,10 @@ use mathlib.Core.Path.{_≡_, refl, sym, ap, _∙_}
 use mathlib.Core.Bool.{Bool, true, false, cond, not, _&&_, _||_}
 use mathlib.Core.List.{List, [], _∷_}
 use mathlib.Core.Option.{Option, none, some}
-use Prim.Native.Nat.{ℕ, zero, suc, _+_, _-_, _*_, _/_, _≤_, _<_}
+use Prim.Native.Nat.{ℕ, zero, suc, _+_, _-_, _≤_, _<_}
 use native.Mathlib.Nat.{div-lt-iff-lt-mul}
 use native.Mathlib.Omega.{arith}
-use lib.Dec.{ltb}
-use lib.ListN.{length, getD}
+use lib.ListN.{length}
 use lib.Seq.{getD-set-same}
 use borrow.Author.Tests.{ltb-false}
 use Rattle.types.specs.declared.queue.DownloadQueue.the-variants.{Downloading}
@@ -16,8 +15,8 @@ use Rattle.model.specs.Lists.{bit, least, from, range, nth, setNth, when, branc
 use Rattle.model.specs.Options.{onParole, prioritizePartials}
 use Rattle.model.specs.State.{DownloadingPiece, isOpen, sameQueue, pieceAt, blocksPerPiece, payloadBlocksInPiece}
 use Rattle.model.specs.change.Partials.{partialOf}
-use Rattle.model.specs.pick.Blocks.{PickRequest, PickState, Span, option, hasBit, withOut, withContiguous, withBackup, ignore, isIgnored}
-use Rattle.model.specs.pick.Blocks.{contiguousIsZero, contiguousAbove, wholePieces, spanOf, expandPiece, piecesOf, took, contiguousMet}
+use Rattle.model.specs.pick.Blocks.{PickRequest, PickState, option, hasBit, withOut, withContiguous, withBackup, ignore, isIgnored}
+use Rattle.model.specs.pick.Blocks.{contiguousIsZero, contiguousAbove, wholePieces, expandPiece, piecesOf, took, contiguousMet}
 use Rattle.model.specs.pick.Blocks.{spanStep, takeSpan, takePayload, addNewPiece, requestedFrom, freeFrom, freeHalt, setAside, takeFree}
 use Rattle.model.specs.pick.Blocks.{keepingContiguous, useFree, addBlocksDownloading, addPartialOf, addStanding, addBlocks, shorter}
 use Rattle.model.proofs.base.WalkLaws.{unless-keeps, when-keeps, walkUntil-keeps, forEach-keeps}
@@ -46,7 +45,8 @@ downloading-marks a p w =
     let first = cond (contiguousIsZero (w .contiguous)) 0 (held .first) in
     let I : PickState → Type 0 = λ v. v .ignored ≡ w .ignored in
     when-keeps I (hasBit a (p .piece) && (not (p .locked) && (not (option onParole a) || held .exclusive))) (useFree p held) w refl
-    (λ e. branch-arms I (contiguousAbove (held .longest) (w .contiguous) && held .active) (setAside p first) (keepingContiguous (takeFree p first)) w
+    (λ e. branch-arms I (contiguousAbove (held .longest) (w .contiguous) && held .active) (setAside p first)
+    (keepingContiguous (takeFree p first)) w
     (λ q. aside-arms I p first w refl (λ z. refl))
     (λ q. walkUntil-keeps I (took (p .piece)) (freeHalt (p .piece)) (λ j t g. g) (freeFrom p first) w refl))
 
@@ -56,7 +56,8 @@ partial-marks a none w = refl
 partial-marks a (some p) w = downloading-marks a p w
 
 -- ---- a span of one piece
-module _ (a : PickRequest) (i : ℕ) (w : PickState) (some-block : 1 ≤ blocksPerPiece (w .picker)) (short : contiguousAbove 1 (w .contiguous) ≡ false) where
+module _ (a : PickRequest) (i : ℕ) (w : PickState) (some-block : 1 ≤ blocksPerPiece (w .picker))
+    (short : contiguousAbove 1 (w .contiguous) ≡ false) where
   few-pieces : wholePieces (blocksPerPiece (w .picker)) (w .contiguous) ≤ 1
   unfolding wholePieces contiguousAbove
   few-pieces =

@@ -1,2 +1,4 @@
 pub mod MarkLaws
 pub mod VisitLaws
+pub mod PieceLaws
+pub mod LapLaws

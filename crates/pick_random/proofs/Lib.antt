@@ -1,0 +1,2 @@
+pub mod RingRest
+pub mod DrawLaws
