@@ -1,0 +1,3 @@
+pub mod ForcedLaws
+pub mod StartLaws
+pub mod RequestLaws
