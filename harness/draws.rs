@@ -1,7 +1,7 @@
 //! Words to draw from, the same for the Rust and for the proved code.
 
 use crate::rng::Rng;
-use bitdaemon_common::random::{Made, Words};
+use bitdaemon_common::random::{self, Made, Words};
 use std::rc::Rc;
 
 /// The least that a call that may draw has to be lent.
@@ -36,4 +36,11 @@ impl Draws {
 /// The words as the Rust's `random` takes them.
 pub fn words(draws: &Rc<[u32]>) -> Words {
     Words { count: draws.len() as u64, made: Made::Listed(draws.clone()) }
+}
+
+/// The words that a script lends, or as many of them as any call uses.
+#[allow(dead_code)]
+pub fn listed(words: &Words) -> Rc<[u32]> {
+    random::lend(words);
+    (0..words.count.min(LEAST as u64)).map(|_| random::random(u32::MAX)).collect()
 }

@@ -113,7 +113,7 @@ impl Pair {
         }
     }
 
-    fn compare(&mut self) -> Result<(), String> {
+    pub fn compare(&mut self) -> Result<(), String> {
         let refusal = self.lent.test();
         if refusal != 0 {
             return Err(format!("the memory test refuses the buffers with {refusal}"));
