@@ -1,0 +1,25 @@
+-- What the numbers of a lent request and of an answer are to the pick itself. Assumes nothing.
+use Prim.Native.Nat.{ℕ}
+use mathlib.Core.List.{List}
+use Rattle.types.specs.declared.options.PickerOptions.{PickerOptions}
+use Rattle.pick_state.specs.declared.request.PickRequest.{PickRequest}
+use Rattle.pick_pieces.specs.declared.pieces.Picked.{Picked}
+use Rattle.link_pick.specs.declared.Request.{Request}
+use Rattle.link_pick.specs.declared.PickEnd.{PickEnd}
+
+-- the request, field by field
+abbrev pub asked : (r : Request) → PickRequest
+asked r =
+    record {
+      options = record { 0 = r .options };
+      wanted = r .wanted;
+      contiguous = r .contiguous;
+      peers = r .peers;
+      «has_peer» = r .«has_peer»;
+      peer = r .peer;
+      bits = r .bits;
+    }
+
+-- the answer, with the counters that were lent
+abbrev pub gave : (r : PickEnd) (loops : List ℕ) → Picked
+gave r loops = record { end = r .end; flags = r .flags; used = r .used; loops = loops }
