@@ -1,0 +1,3 @@
+pub mod BlockTable
+pub mod BlockCores
+pub mod Values
