@@ -11,6 +11,7 @@ import pathlib
 import sys
 from collections import namedtuple
 
+import block_calls
 from walk.layout import formatted
 
 ROOT = pathlib.Path(__file__).resolve().parent.parent
@@ -196,7 +197,8 @@ def text(c):
 
 def files():
     """Every file with its text."""
-    made = {f'{c.crate}/proofs/{c.module}/{c.fn}': text(c) for c in CALLS}
+    made = {f'{c.crate}/proofs/{c.module}/{c.fn}': text(c) for c in CALLS + block_calls.CALLS}
+    made.update(block_calls.cores())
     for fn, step, law in COUNTS:
         made[f'picker_changes/proofs/counts/{fn}_core'] = COUNT.format(fn=fn, kebab=kebab(fn), step=step, law=law)
     texts = formatted({f'{name.replace("/", "·")}.antt': t for name, t in made.items()})

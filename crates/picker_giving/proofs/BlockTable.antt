@@ -1,5 +1,5 @@
 -- 4 and 5 of the table, of a block: what a test that holds says, and what is left where none does. Assumes nothing.
-use mathlib.Core.Path.{_≡_, refl, _∙_}
+use mathlib.Core.Path.{_≡_, refl, sym, ap, _∙_}
 use mathlib.Core.List.{List}
 use mathlib.Core.Option.{Option, none, some}
 use Prim.Native.Nat.{ℕ, _≤_, _<_}
@@ -21,22 +21,14 @@ use Rattle.picker_calls.specs.declared.judgement.Judgement.{Judgement}
 use Rattle.picker_calls.specs.declared.judgement.Judgement.the-variants.{Refused, Passed}
 use Rattle.picker_calls.specs.Outcomes.{judged}
 use Rattle.picker_calls.proofs.JudgeLaws.{check-yes, check-no, piece-yes, piece-no, piece-passed, few-passed}
-use Rattle.picker_giving.specs.Judged.{andThen}
+use Rattle.picker_giving.specs.Judged.{andThen, BlockJudged}
 
 -- ---- what a judge says
 -- with nothing behind it
-pub judged-alone : (r : Judgement) → judged r ≡ andThen r none
+judged-alone : (r : Judgement) → judged r ≡ andThen r none
 unfolding andThen
 judged-alone (Refused why) = refl
 judged-alone Passed = refl
-
-pub and-refused : (r : Judgement) (why : Refusal) (rest : Option Refusal) → r ≡ Refused why → andThen r rest ≡ some why
-unfolding andThen
-and-refused r why rest e = rw e refl
-
-pub and-passed : (r : Judgement) (rest : Option Refusal) → r ≡ Passed → andThen r rest ≡ rest
-unfolding andThen
-and-passed r rest e = rw e refl
 
 -- ---- 5
 module _ (s : Shape) (records : List Record) (words cells : List ℕ) (t : Stands s records words cells) (i j : ℕ) (r : Option Refusal)
@@ -75,3 +67,26 @@ module _ (s : Shape) (records : List Record) (words cells : List ℕ) (t : Stand
             blocks-of-is records words cells i,
           ),
         )
+
+-- ---- 4 and 5 as they are judged
+module _ (s : Shape) (records : List Record) (words cells : List ℕ) (t : Stands s records words cells) (draws : Draws) (i j : ℕ)
+    (r : Judgement) (q : BlockJudged s words draws i j r) where
+  -- the whole table
+  pub front-alone : judged r ≡ refuseFewDraws draws (refuseBadBlock (decode records words cells) i j none)
+  front-alone = judged-alone r ∙ sym (q .is records cells t none)
+
+  -- refused, whatever follows
+  pub front-refused : (why : Refusal) → r ≡ Refused why → (rest : Option Refusal)
+      → some why ≡ refuseFewDraws draws (refuseBadBlock (decode records words cells) i j rest)
+  unfolding andThen
+  front-refused why e rest = sym (q .is records cells t rest ∙ ap (λ (x : Judgement). andThen x rest) e)
+
+  module _ (e : r ≡ Passed) where
+    -- left to what follows
+    pub front-passed : (rest : Option Refusal) → refuseFewDraws draws (refuseBadBlock (decode records words cells) i j rest) ≡ rest
+    unfolding andThen
+    front-passed rest = q .is records cells t rest ∙ ap (λ (x : Judgement). andThen x rest) e
+
+    -- there are such a piece and block
+    pub front-place : (i < s .pieces) × (j < blocksOf words i)
+    front-place = block-passed s records words cells t i j none draws (front-passed none)

@@ -1,0 +1,2 @@
+pub mod MarkTable
+pub mod Values
