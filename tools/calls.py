@@ -22,6 +22,9 @@ Argument = namedtuple('Argument', 'type value uses')
 PIECE = Argument('PieceIndex', 'piece', [
     'use Rattle.types.specs.declared.piece.PieceIndex.{PieceIndex}',
     'use Rattle.picker_calls.proofs.Values.{piece}'])
+PIECE_PRIORITY = Argument('PiecePriority', 'piecePriority', [
+    'use Rattle.picker_flags.specs.declared.priorities.PiecePriority.{PiecePriority}',
+    'use Rattle.picker_flags.proofs.Values.{piecePriority}'])
 NUMBER_OF = 'use Rattle.types.specs.Piece.{numberOf}'
 
 # crate, module, function, argument, whether draws are lent, the action with argument a and draws, what it imports besides
@@ -30,6 +33,12 @@ Call = namedtuple('Call', 'crate module fn argument draws action uses')
 CALLS = [
     Call('picker_changes', 'counts', 'inc_refcount', PIECE, True, 'inc-refcount (numberOf (a .0)) draws', [NUMBER_OF]),
     Call('picker_changes', 'counts', 'dec_refcount', PIECE, True, 'dec-refcount (numberOf (a .0)) draws', [NUMBER_OF]),
+    Call('picker_seeds', 'seeds', 'inc_refcount_all', None, False, 'inc-refcount-all', []),
+    Call('picker_seeds', 'seeds', 'dec_refcount_all', None, False, 'dec-refcount-all', []),
+    Call('picker_flags', 'priorities', 'set_piece_priority', PIECE_PRIORITY, True,
+         'set-piece-priority (numberOf (a .piece .0)) (a .priority .0) draws', [NUMBER_OF]),
+    Call('picker_flags', 'flags', 'lock_piece', PIECE, False, 'lock-piece (numberOf (a .0))', [NUMBER_OF]),
+    Call('picker_flags', 'flags', 'piece_passed', PIECE, False, 'piece-passed (numberOf (a .0))', [NUMBER_OF]),
 ]
 
 TEXT = """-- `{fn}` meets its contract: a call of the shape of `memory_records`, `walks/{shape}`. Assumes nothing.
@@ -171,6 +180,76 @@ pub {kebab}-core-spec : {{M : Type 1}} → statement M
     (λ c. search needs) (λ c. search needs) done)
 """
 
+# a core that counts a seed in or out: function, step of the definition, how far back its change is
+SEEDS = [('inc_refcount_all', 'incRefcountAll', 2), ('dec_refcount_all', 'decRefcountAll', 4)]
+
+SEED = """-- `{fn}_core` meets its contract. Assumes nothing.
+-- Written by tools/calls.py, and not by hand.
+use mathlib.Core.Path.{{refl}}
+use Rattle.model.specs.change.Changes.{{{step}}}
+use Rattle.model.specs.Calls.{{act, {kebab}}}
+use Rattle.memory_layout.specs.Standing.{{editRecords}}
+use Rattle.picker_calls.proofs.ListlessLaws.{{listless}}
+use Rattle.picker_calls.proofs.CoreLaws.{{stood-at, stood-beside, barred, denied, passed, acted-undrawn, keep-insert}}
+use borrow.Author.Needs.{{needs}}
+use Rattle.picker_seeds.proofs.seeds.{fn}_core.Statement.{{statement}}
+use Rattle.picker_seeds.proofs.seeds.{fn}_core.Tie as tie
+
+judge : tie.Need-judge-{kebab}-requires
+judge c κs =
+    let c3 = c .before .before .before in
+    let m = c3 .before .before .before .admit in
+    stood-beside _ _ _ _ _ _ (stood-at _ _ _ _ _ (m .result) (m .ensures) _ (c3 .s .given .1))
+
+change : tie.Need-{kebab}-requires
+change c κs =
+    let c10 = c .before .before .before .before .before .before .before .before .before .before in
+    let m = c10 .before .before .before .admit in
+    stood-beside _ _ _ _ _ _ (stood-at _ _ _ _ _ (m .result) (m .ensures) _ (c10 .s .given .1))
+
+for-memory : tie.Need-returns
+for-memory c =
+    let m = c .before .before .before .before .before .admit in
+    let l = listless {kebab} refl in
+    barred _ _ _ _ _ (m .result) (m .ensures) _ (c .before .before .why .given .1) _ l _ _ _ (c .refused .ensures)
+
+by-judge : tie.Need-returns-2
+by-judge c =
+    let c4 = c .before .before .before .before in
+    let c8 = c4 .before .before .before .before in
+    let m = c8 .before .before .before .admit in
+    let j = c4 .judge-{kebab} in
+    let t = stood-at _ _ _ _ _ (m .result) (m .ensures) _ (c8 .s .given .1) in
+    denied _ _ _ _ _ _ t _ (listless {kebab} refl) (j .result) (j .ensures .is _ (t .stands)) _
+    (c .before .before .why2 .given .1) _ _ _ (c .refused2 .ensures)
+
+done : tie.Need-returns-3
+unfolding act editRecords
+done c =
+    let made = c{back} in
+    let counted = made .before .before .before in
+    let told = counted .before .before in
+    let judged = told .before .before in
+    let at = judged .before .before .before .before in
+    let m = at .before .before .before .admit in
+    let j = judged .judge-{kebab} in
+    let r = counted .live-records in
+    let x = made .{kebab} in
+    let t = stood-at _ _ _ _ _ (m .result) (m .ensures) _ (at .s .given .1) in
+    let l = listless {kebab} refl in
+    let p = passed _ _ _ _ _ _ t _ l (j .result) (j .ensures .is _ (t .stands)) (told .enum-told .given .1) in
+    acted-undrawn _ _ _ _ _ _ t _ l p (r .result) (r .ensures) _ keep-insert _ _ {step} refl (x .ensures .made _ (t .stands))
+
+pub {kebab}-core-spec : {{M : Type 1}} → statement M
+{kebab}-core-spec =
+    tie.close
+    (tie.spec
+    (λ c. search needs) (λ c κs. search needs) (λ c. search needs) (λ c κs. search needs) (λ c. search needs)
+    judge (λ c. search needs) (λ c κs. search needs) (λ c. search needs) (λ c κs. search needs) change
+    (λ c. search needs) (λ c. search needs) for-memory (λ c. search needs) (λ c. search needs) by-judge
+    (λ c. search needs) (λ c. search needs) done)
+"""
+
 
 def kebab(name):
     """A name as proofs write it."""
@@ -201,6 +280,8 @@ def files():
     made.update(block_calls.cores())
     for fn, step, law in COUNTS:
         made[f'picker_changes/proofs/counts/{fn}_core'] = COUNT.format(fn=fn, kebab=kebab(fn), step=step, law=law)
+    for fn, step, back in SEEDS:
+        made[f'picker_seeds/proofs/seeds/{fn}_core'] = SEED.format(fn=fn, kebab=kebab(fn), step=step, back=' .before' * back)
     texts = formatted({f'{name.replace("/", "·")}.antt': t for name, t in made.items()})
     return {ROOT / 'crates' / name / 'Proof.antt': texts[f'{name.replace("/", "·")}.antt'] for name in made}
 
