@@ -9,10 +9,10 @@ Argument = namedtuple('Argument', 'type value uses')
 Call = namedtuple('Call', 'crate module fn argument draws action uses')
 
 
-def argument(crate, name, value, own):
-    """An argument that a crate declares, as that crate or one above it writes its modules."""
-    specs, proofs = (f'Rattle.{crate}.specs', f'Rattle.{crate}.proofs') if own else (f'Rattle.{crate}.specs', f'Rattle.{crate}.proofs')
-    return Argument(name, value, [f'use {specs}.declared.arguments.{name}.{{{name}}}', f'use {proofs}.Values.{{{value}}}'])
+def argument(name, value):
+    """An argument that `picker_blocks` declares."""
+    return Argument(name, value, [
+        f'use Rattle.picker_blocks.specs.declared.arguments.{name}.{{{name}}}', f'use Rattle.picker_blocks.proofs.Values.{{{value}}}'])
 
 
 BLOCK = ' (numberOf (a .block .«piece_index» .0)) (numberOf (a .block .«block_index»)) (namedPeer (a .«has_peer») (a .peer))'
@@ -24,14 +24,14 @@ def call(crate, module, fn, taken, options=''):
     return Call(crate, module, fn, taken, True, fn.replace('_', '-') + BLOCK + options + ' draws', USES)
 
 
-OWN, LENT = (argument('picker_giving', 'BlockPeer', 'blockPeer', own) for own in (True, False))
+PEER, REQUEST = argument('BlockPeer', 'blockPeer'), argument('BlockRequest', 'blockRequest')
 
 CALLS = [
-    call('picker_giving', 'returns', 'abort_download', OWN),
-    call('picker_giving', 'returns', 'mark_as_canceled', OWN),
-    call('picker_marks', 'downloads', 'mark_as_downloading', argument('picker_marks', 'BlockRequest', 'blockRequest', True), ' (a .options .0)'),
-    call('picker_marks', 'receipts', 'mark_as_writing', LENT),
-    call('picker_marks', 'finishes', 'mark_as_finished', LENT),
+    call('picker_giving', 'returns', 'abort_download', PEER),
+    call('picker_giving', 'returns', 'mark_as_canceled', PEER),
+    call('picker_marks', 'downloads', 'mark_as_downloading', REQUEST, ' (a .options .0)'),
+    call('picker_marks', 'receipts', 'mark_as_writing', PEER),
+    call('picker_marks', 'finishes', 'mark_as_finished', PEER),
 ]
 
 
@@ -169,7 +169,7 @@ done c =
     (i .ensures) (j .ensures) (b .result) (b .ensures .is peer {option}) (c8 .enum-told .given .1) (x .result .edit) (x .ensures .1) _ _
     ({step} (a .draws .now) (i .result) (j .result) peer{options})
     (ap (λ (p : Option ℕ). {form} ({step} (a .draws .now) (i .result) (j .result) p{options} (drawing 0 d)))
-    (lent-named (a .a .«has_peer») (a .a .peer) (peer-wide (a .a) _ (c29 .good .1 .1 .1 .1 .1 .0)))) {answered}
+    (lent-named (a .a .«has_peer») (a .a .peer) ({wide} (a .a) _ (c29 .good .1 .1 .1 .1 .1 .0)))) {answered}
 
 pub {kebab}-core-spec : {{M : Type 1}} → statement M
 {kebab}-core-spec =
@@ -195,9 +195,9 @@ def giving(fn, step):
     """The proof of the core of a call that gives a block back."""
     kebab = fn.replace('_', '-')
     here = f'Rattle.picker_giving.proofs.returns.{fn}_core'
-    uses = ('use Rattle.picker_giving.proofs.BlockTable.{front-alone, front-place}\n'
-            'use Rattle.picker_giving.proofs.BlockCores.{lent-named, stood-shape, stood-rows, block-denied, block-done}\n'
-            'use Rattle.picker_giving.proofs.Values.{peer-wide}\n')
+    uses = ('use Rattle.picker_blocks.proofs.BlockTable.{front-alone, front-place}\n'
+            'use Rattle.picker_blocks.proofs.BlockCores.{lent-named, stood-shape, stood-rows, block-denied, block-done}\n'
+            'use Rattle.picker_blocks.proofs.Values.{peer-wide}\n')
     return HEAD.format(fn=fn, kebab=kebab, step=step, form='doing', none='', refusal=', refusal', uses=uses, here=here) + GIVING.format(
         kebab=kebab, step=step, memory=MEMORY.format(kebab=kebab, hole='', c2_5=back(2, 5)), c4_7=back(4, 7), c3_15=back(3, 5, 7, 12, 15),
         c2_20=back(2, 4, 6, 7, 9, 12, 20), c4_28=back(4, 8, 10, 12, 14, 15, 17, 20, 28))
@@ -208,14 +208,14 @@ def marking(module, fn, step, judge, accepted, says):
     kebab, asks = fn.replace('_', '-'), fn == 'mark_as_downloading'
     here = f'Rattle.picker_marks.proofs.{module}.{fn}_core'
     law = 'block-said' if says else 'block-done'
-    wide = 'picker_marks·proofs.proofs' if asks else 'picker_giving.proofs'
+    wide = 'request-wide' if asks else 'peer-wide'
     uses = ('use Rattle.picker_calls.specs.Outcomes.{judged}\n'
             f'use Rattle.change_marks.proofs.AcceptedLaws.{{{accepted}}}\n'
-            f'use Rattle.picker_giving.proofs.BlockCores.{{lent-named, stood-rows, block-denied, {law}}}\n'
-            f'use Rattle.{wide}.Values.{{peer-wide}}\n')
+            f'use Rattle.picker_blocks.proofs.BlockCores.{{lent-named, stood-rows, block-denied, {law}}}\n'
+            f'use Rattle.picker_blocks.proofs.Values.{{{wide}}}\n')
     form = 'changing' if says else 'doing'
     return HEAD.format(fn=fn, kebab=kebab, step=step, form=form, none=', none', refusal='', uses=uses, here=here) + MARKS.format(
-        kebab=kebab, step=step, judge=judge, accepted=accepted, law=law, form=form, options=' (a .a .options .0)' if asks else '',
+        kebab=kebab, step=step, judge=judge, accepted=accepted, law=law, form=form, wide=wide, options=' (a .a .options .0)' if asks else '',
         option='(a .a .options .0)' if asks else '0', zero=' 0' if asks else '',
         given=f'(t, (p .0 .place, {"(p .1 .0, (p .1 .1, p .0 .draw))" if asks else "(p .1, p .0 .draw)"}))',
         answered='(x .result .answer) (x .result .used) (x .ensures .0 .says) (x .ensures .0 .done)' if says else '(x .result .used) (x .ensures .0)',

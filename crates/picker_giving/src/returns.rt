@@ -1,11 +1,11 @@
 // A block given back.
-use crate::arguments::BlockPeer;
-use crate::arguments::block_number;
-use crate::judges::judge_block;
 use memory_records::DownloadingPiece;
 use memory_records::apply;
 use memory_records::live_records;
 use memory_records::unpack;
+use picker_blocks::BlockPeer;
+use picker_blocks::block_number;
+use picker_blocks::judge_block;
 use picker_calls::Admission;
 use picker_calls::CallStep;
 use picker_calls::Judgement;
@@ -15,10 +15,10 @@ use picker_calls::refused;
 ghost use mathlib.Core.Path.{_≡_};
 ghost use lib.ListN.{length};
 ghost use Rattle.model.specs.Calls.{abort-download, mark-as-canceled};
+ghost use Rattle.picker_blocks.specs.Arguments.{onBlock};
 ghost use Rattle.picker_calls.specs.Outcomes.{outcome};
 ghost use Rattle.picker_calls.specs.Calling.{Called};
 ghost use Rattle.picker_calls.specs.Cores.{lending, CoreCalled};
-ghost use Rattle.picker_giving.specs.Arguments.{onBlock};
 
 // ---- abort_download
 fn abort_download_core(

@@ -1,23 +1,23 @@
 // A block asked for.
-use crate::arguments::BlockRequest;
-use crate::judges::judge_downloading;
 use memory_records::DownloadingPiece;
 use memory_records::apply;
 use memory_records::live_records;
 use memory_records::unpack;
+use picker_blocks::BlockRequest;
+use picker_blocks::block_number;
+use picker_blocks::judge_downloading;
 use picker_calls::Admission;
 use picker_calls::CallStep;
 use picker_calls::Judgement;
 use picker_calls::Outcome;
 use picker_calls::admit;
 use picker_calls::refused;
-use picker_giving::block_number;
 ghost use mathlib.Core.Path.{_≡_};
 ghost use lib.ListN.{length};
+ghost use Rattle.picker_blocks.specs.Arguments.{downloading};
 ghost use Rattle.picker_calls.specs.Outcomes.{outcome};
 ghost use Rattle.picker_calls.specs.Calling.{Called};
 ghost use Rattle.picker_calls.specs.Cores.{lending, CoreCalled};
-ghost use Rattle.picker_marks.specs.Arguments.{downloading};
 
 fn mark_as_downloading_core(
     words: &mut [u64],

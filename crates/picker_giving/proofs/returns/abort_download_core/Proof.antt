@@ -10,9 +10,9 @@ use Rattle.memory_rows.specs.Lookup.{pickerIn}
 use Rattle.change_blocks.specs.Replacing.{namedPeer}
 use Rattle.picker_calls.proofs.ListlessLaws.{listless}
 use Rattle.picker_calls.proofs.CoreLaws.{barred}
-use Rattle.picker_giving.proofs.BlockTable.{front-alone, front-place}
-use Rattle.picker_giving.proofs.BlockCores.{lent-named, stood-shape, stood-rows, block-denied, block-done}
-use Rattle.picker_giving.proofs.Values.{peer-wide}
+use Rattle.picker_blocks.proofs.BlockTable.{front-alone, front-place}
+use Rattle.picker_blocks.proofs.BlockCores.{lent-named, stood-shape, stood-rows, block-denied, block-done}
+use Rattle.picker_blocks.proofs.Values.{peer-wide}
 use borrow.Author.Needs.{needs}
 use Rattle.picker_giving.proofs.returns.abort_download_core.Statement.{statement}
 use Rattle.picker_giving.proofs.returns.abort_download_core.Tie as tie

@@ -12,8 +12,8 @@ use Rattle.picker_calls.proofs.ListlessLaws.{listless}
 use Rattle.picker_calls.proofs.CoreLaws.{barred}
 use Rattle.picker_calls.specs.Outcomes.{judged}
 use Rattle.change_marks.proofs.AcceptedLaws.{downloading-accepted}
-use Rattle.picker_giving.proofs.BlockCores.{lent-named, stood-rows, block-denied, block-said}
-use Rattle.picker_marks.proofs.Values.{peer-wide}
+use Rattle.picker_blocks.proofs.BlockCores.{lent-named, stood-rows, block-denied, block-said}
+use Rattle.picker_blocks.proofs.Values.{request-wide}
 use borrow.Author.Needs.{needs}
 use Rattle.picker_marks.proofs.downloads.mark_as_downloading_core.Statement.{statement}
 use Rattle.picker_marks.proofs.downloads.mark_as_downloading_core.Tie as tie
@@ -94,7 +94,7 @@ done c =
     (i .ensures) (j .ensures) (b .result) (b .ensures .is peer (a .a .options .0)) (c8 .enum-told .given .1) (x .result .edit) (x .ensures .1) _ _
     (markAsDownloading (a .draws .now) (i .result) (j .result) peer (a .a .options .0))
     (ap (λ (p : Option ℕ). changing (markAsDownloading (a .draws .now) (i .result) (j .result) p (a .a .options .0) (drawing 0 d)))
-    (lent-named (a .a .«has_peer») (a .a .peer) (peer-wide (a .a) _ (c29 .good .1 .1 .1 .1 .1 .0)))) (x .result .answer) (x .result .used) (x .ensures .0 .says) (x .ensures .0 .done)
+    (lent-named (a .a .«has_peer») (a .a .peer) (request-wide (a .a) _ (c29 .good .1 .1 .1 .1 .1 .0)))) (x .result .answer) (x .result .used) (x .ensures .0 .says) (x .ensures .0 .done)
 
 pub mark-as-downloading-core-spec : {M : Type 1} → statement M
 mark-as-downloading-core-spec =

@@ -12,8 +12,8 @@ use Rattle.picker_calls.proofs.ListlessLaws.{listless}
 use Rattle.picker_calls.proofs.CoreLaws.{barred}
 use Rattle.picker_calls.specs.Outcomes.{judged}
 use Rattle.change_marks.proofs.AcceptedLaws.{finished-accepted}
-use Rattle.picker_giving.proofs.BlockCores.{lent-named, stood-rows, block-denied, block-done}
-use Rattle.picker_giving.proofs.Values.{peer-wide}
+use Rattle.picker_blocks.proofs.BlockCores.{lent-named, stood-rows, block-denied, block-done}
+use Rattle.picker_blocks.proofs.Values.{peer-wide}
 use borrow.Author.Needs.{needs}
 use Rattle.picker_marks.proofs.finishes.mark_as_finished_core.Statement.{statement}
 use Rattle.picker_marks.proofs.finishes.mark_as_finished_core.Tie as tie

@@ -1,3 +1,0 @@
-pub mod BlockTable
-pub mod BlockCores
-pub mod Values

@@ -1,2 +1,0 @@
-pub mod MarkTable
-pub mod Values
