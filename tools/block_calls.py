@@ -29,7 +29,7 @@ PEER, REQUEST = argument('BlockPeer', 'blockPeer'), argument('BlockRequest', 'bl
 CALLS = [
     call('picker_giving', 'returns', 'abort_download', PEER),
     call('picker_giving', 'returns', 'mark_as_canceled', PEER),
-    call('picker_marks', 'downloads', 'mark_as_downloading', REQUEST, ' (a .options .0)'),
+    call('picker_requests', 'requests', 'mark_as_downloading', REQUEST, ' (a .options .0)'),
     call('picker_marks', 'receipts', 'mark_as_writing', PEER),
     call('picker_marks', 'finishes', 'mark_as_finished', PEER),
 ]
@@ -183,11 +183,11 @@ pub {kebab}-core-spec : {{M : Type 1}} → statement M
 
 GIVEN = [('abort_download', 'abortDownload'), ('mark_as_canceled', 'markAsCanceled')]
 
-# module, function, step of the definition, judge, law on a call that is not refused, whether it says true or false
+# crate, module, function, step of the definition, judge, law on a call that is not refused, whether it says true or false
 MARKED = [
-    ('downloads', 'mark_as_downloading', 'markAsDownloading', 'judge-downloading', 'downloading-accepted', True),
-    ('receipts', 'mark_as_writing', 'markAsWriting', 'judge-writing', 'writing-accepted', True),
-    ('finishes', 'mark_as_finished', 'markAsFinished', 'judge-finished', 'finished-accepted', False),
+    ('picker_requests', 'requests', 'mark_as_downloading', 'markAsDownloading', 'judge-downloading', 'downloading-accepted', True),
+    ('picker_marks', 'receipts', 'mark_as_writing', 'markAsWriting', 'judge-writing', 'writing-accepted', True),
+    ('picker_marks', 'finishes', 'mark_as_finished', 'markAsFinished', 'judge-finished', 'finished-accepted', False),
 ]
 
 
@@ -203,10 +203,10 @@ def giving(fn, step):
         c2_20=back(2, 4, 6, 7, 9, 12, 20), c4_28=back(4, 8, 10, 12, 14, 15, 17, 20, 28))
 
 
-def marking(module, fn, step, judge, accepted, says):
+def marking(crate, module, fn, step, judge, accepted, says):
     """The proof of the core of a mark."""
     kebab, asks = fn.replace('_', '-'), fn == 'mark_as_downloading'
-    here = f'Rattle.picker_marks.proofs.{module}.{fn}_core'
+    here = f'Rattle.{crate}.proofs.{module}.{fn}_core'
     law = 'block-said' if says else 'block-done'
     wide = 'request-wide' if asks else 'peer-wide'
     uses = ('use Rattle.picker_calls.specs.Outcomes.{judged}\n'
@@ -215,10 +215,12 @@ def marking(module, fn, step, judge, accepted, says):
             f'use Rattle.picker_blocks.proofs.Values.{{{wide}}}\n')
     form = 'changing' if says else 'doing'
     return HEAD.format(fn=fn, kebab=kebab, step=step, form=form, none=', none', refusal='', uses=uses, here=here) + MARKS.format(
-        kebab=kebab, step=step, judge=judge, accepted=accepted, law=law, form=form, wide=wide, options=' (a .a .options .0)' if asks else '',
+        kebab=kebab, step=step, judge=judge, accepted=accepted, law=law, form=form, wide=wide,
+        options=' (a .a .options .0)' if asks else '',
         option='(a .a .options .0)' if asks else '0', zero=' 0' if asks else '',
         given=f'(t, (p .0 .place, {"(p .1 .0, (p .1 .1, p .0 .draw))" if asks else "(p .1, p .0 .draw)"}))',
-        answered='(x .result .answer) (x .result .used) (x .ensures .0 .says) (x .ensures .0 .done)' if says else '(x .result .used) (x .ensures .0)',
+        answered='(x .result .answer) (x .result .used) (x .ensures .0 .says) (x .ensures .0 .done)' if says
+        else '(x .result .used) (x .ensures .0)',
         memory=MEMORY.format(kebab=kebab, hole=' _' if asks else '', c2_5=back(2, 5)), c2_10=back(2, 7, 10), c3_24=back(3, 5, 8, 13, 16),
         c2_23=back(2, 4, 7, 9, 10, 12, 15, 23), c4_29=back(4, 8, 10, 13, 15, 16, 18, 21, 29))
 
@@ -226,5 +228,5 @@ def marking(module, fn, step, judge, accepted, says):
 def cores():
     """Each core's proof, by its folder."""
     made = {f'picker_giving/proofs/returns/{fn}_core': giving(fn, step) for fn, step in GIVEN}
-    made.update({f'picker_marks/proofs/{m[0]}/{m[1]}_core': marking(*m) for m in MARKED})
+    made.update({f'{m[0]}/proofs/{m[1]}/{m[2]}_core': marking(*m) for m in MARKED})
     return made

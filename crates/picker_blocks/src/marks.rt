@@ -30,7 +30,8 @@ fn num_peers_full(
 ) -> bool
     requires { ⌜ Asked s live (now rows) (now words) (now cells) ⌝ }
     requires { ⌜ (i < s .pieces) × (j < blocksOf (now words) i) ⌝ }
-    ensures { λ r. ⌜ r ≡ blockTest numPeersFull (blockThere (pickerIn live (now (rows .entry)) (now (words .entry)) (now (cells .entry))) i j) ⌝ }
+    ensures { λ r. ⌜ r ≡ blockTest numPeersFull
+        (blockThere (pickerIn live (now (rows .entry)) (now (words .entry)) (now (cells .entry))) i j) ⌝ }
 {
     let BlockOf::Block(x) = block_of(words, cells, rows, live, s, i, j) else {
         return false;

@@ -19,7 +19,8 @@ peers : tie.Need-num-peers-full-requires
 peers c κs =
     let c2 = c .before .before in
     let c7 = c2 .before .before .before .before .before in
-    (c7 .pre, front-place _ _ _ _ (c7 .pre .stands) _ _ _ (c2 .judge-block .result) (c2 .judge-block .ensures) (c .enum-told .given .1))
+    let b = c2 .judge-block in
+    (c7 .pre, front-place _ _ _ _ (c7 .pre .stands) _ _ _ (b .result) (b .ensures) (c .enum-told .given .1))
 
 too-many-peers : tie.Need-returns
 unfolding refusal
@@ -28,8 +29,9 @@ too-many-peers c =
     let c2 = c1 .before in
     let c4 = c2 .before .before in
     let c9 = c4 .before .before .before .before .before in
+    let b = c4 .judge-block in
     record {
-      is = λ peer options. sym (front-passed _ _ _ _ (c9 .pre .stands) _ _ _ (c4 .judge-block .result) (c4 .judge-block .ensures) (c2 .enum-told .given .1) _
+      is = λ peer options. sym (front-passed _ _ _ _ (c9 .pre .stands) _ _ _ (b .result) (b .ensures) (c2 .enum-told .given .1) _
           ∙ check-yes _ TooManyPeers _ (sym (c1 .num-peers-full .ensures) ∙ c .if1 .taken));
     }
 
@@ -38,7 +40,9 @@ have c κs =
     let c2 = c .before .before in
     let c4 = c2 .before .before in
     let c9 = c4 .before .before .before .before .before in
-    (c9 .pre .stands .bounds .spans .inCells, front-place _ _ _ _ (c9 .pre .stands) _ _ _ (c4 .judge-block .result) (c4 .judge-block .ensures) (c2 .enum-told .given .1) .0)
+    let b = c4 .judge-block in
+    let t = c9 .pre .stands in
+    (t .bounds .spans .inCells, front-place _ _ _ _ t _ _ _ (b .result) (b .ensures) (c2 .enum-told .given .1) .0)
 
 have-piece : tie.Need-returns-2
 unfolding refusal
@@ -49,9 +53,10 @@ have-piece c =
     let c4 = c3 .before in
     let c6 = c4 .before .before in
     let c11 = c6 .before .before .before .before .before in
+    let b = c6 .judge-block in
     let g = c11 .pre in
     record {
-      is = λ peer options. sym (front-passed _ _ _ _ (c11 .pre .stands) _ _ _ (c6 .judge-block .result) (c6 .judge-block .ensures) (c4 .enum-told .given .1) _
+      is = λ peer options. sym (front-passed _ _ _ _ (c11 .pre .stands) _ _ _ (b .result) (b .ensures) (c4 .enum-told .given .1) _
           ∙ (check-no _ TooManyPeers _ (sym (c3 .num-peers-full .ensures) ∙ c2 .if1 .left)
           ∙ check-yes _ HavePiece _ (sym (c1 .flushed .ensures .is _ _ (g .stands .bounds)) ∙ c .if2 .taken)));
     }
@@ -61,7 +66,9 @@ left c κs =
     let c4 = c .before .before .before .before in
     let c6 = c4 .before .before in
     let c11 = c6 .before .before .before .before .before in
-    (c11 .pre .stands .bounds .spans .inCells, front-place _ _ _ _ (c11 .pre .stands) _ _ _ (c6 .judge-block .result) (c6 .judge-block .ensures) (c4 .enum-told .given .1) .0)
+    let b = c6 .judge-block in
+    let t = c11 .pre .stands in
+    (t .bounds .spans .inCells, front-place _ _ _ _ t _ _ _ (b .result) (b .ensures) (c4 .enum-told .given .1) .0)
 
 full : tie.Need-returns-3
 unfolding refusal
@@ -74,9 +81,10 @@ full c =
     let c6 = c5 .before in
     let c8 = c6 .before .before in
     let c13 = c8 .before .before .before .before .before in
+    let b = c8 .judge-block in
     let g = c13 .pre in
     record {
-      is = λ peer options. sym (front-passed _ _ _ _ (c13 .pre .stands) _ _ _ (c8 .judge-block .result) (c8 .judge-block .ensures) (c6 .enum-told .given .1) _
+      is = λ peer options. sym (front-passed _ _ _ _ (c13 .pre .stands) _ _ _ (b .result) (b .ensures) (c6 .enum-told .given .1) _
           ∙ (check-no _ TooManyPeers _ (sym (c5 .num-peers-full .ensures) ∙ c4 .if1 .left)
           ∙ (check-no _ HavePiece _ (sym (c3 .flushed .ensures .is _ _ (g .stands .bounds)) ∙ c2 .if2 .left)
           ∙ check-yes _ TooManyPartials none (sym (c1 .no-partial-left .ensures .is _ _ (g .stands .bounds) (g .many)) ∙ c .if3 .taken))));
@@ -102,9 +110,10 @@ good c =
     let c6 = c5 .before in
     let c8 = c6 .before .before in
     let c13 = c8 .before .before .before .before .before in
+    let b = c8 .judge-block in
     let g = c13 .pre in
     record {
-      is = λ peer options. sym (front-passed _ _ _ _ (c13 .pre .stands) _ _ _ (c8 .judge-block .result) (c8 .judge-block .ensures) (c6 .enum-told .given .1) _
+      is = λ peer options. sym (front-passed _ _ _ _ (c13 .pre .stands) _ _ _ (b .result) (b .ensures) (c6 .enum-told .given .1) _
           ∙ (check-no _ TooManyPeers _ (sym (c5 .num-peers-full .ensures) ∙ c4 .if1 .left)
           ∙ (check-no _ HavePiece _ (sym (c3 .flushed .ensures .is _ _ (g .stands .bounds)) ∙ c2 .if2 .left)
           ∙ check-no _ TooManyPartials none (sym (c1 .no-partial-left .ensures .is _ _ (g .stands .bounds) (g .many)) ∙ c .if3 .left))));

@@ -20,7 +20,8 @@ asked : tie.Need-is-requested-requires
 asked c κs =
     let c2 = c .before .before in
     let c7 = c2 .before .before .before .before .before in
-    (c7 .pre, front-place _ _ _ _ (c7 .pre .stands) _ _ _ (c2 .judge-block .result) (c2 .judge-block .ensures) (c .enum-told .given .1))
+    let b = c2 .judge-block in
+    (c7 .pre, front-place _ _ _ _ (c7 .pre .stands) _ _ _ (b .result) (b .ensures) (c .enum-told .given .1))
 
 not-writing : tie.Need-returns
 unfolding refusal
@@ -29,8 +30,9 @@ not-writing c =
     let c2 = c1 .before in
     let c4 = c2 .before .before in
     let c9 = c4 .before .before .before .before .before in
+    let b = c4 .judge-block in
     record {
-      is = λ peer options. sym (front-passed _ _ _ _ (c9 .pre .stands) _ _ _ (c4 .judge-block .result) (c4 .judge-block .ensures) (c2 .enum-told .given .1) _
+      is = λ peer options. sym (front-passed _ _ _ _ (c9 .pre .stands) _ _ _ (b .result) (b .ensures) (c2 .enum-told .given .1) _
           ∙ check-yes _ NotWriting _ (sym (requested-told _ _ _ _ (c1 .is-requested .ensures)) ∙ c .if1 .taken));
     }
 
@@ -39,7 +41,9 @@ left c κs =
     let c2 = c .before .before in
     let c4 = c2 .before .before in
     let c9 = c4 .before .before .before .before .before in
-    (c9 .pre .stands .bounds .spans .inCells, front-place _ _ _ _ (c9 .pre .stands) _ _ _ (c4 .judge-block .result) (c4 .judge-block .ensures) (c2 .enum-told .given .1) .0)
+    let b = c4 .judge-block in
+    let t = c9 .pre .stands in
+    (t .bounds .spans .inCells, front-place _ _ _ _ t _ _ _ (b .result) (b .ensures) (c2 .enum-told .given .1) .0)
 
 full : tie.Need-returns-2
 unfolding refusal
@@ -50,9 +54,10 @@ full c =
     let c4 = c3 .before in
     let c6 = c4 .before .before in
     let c11 = c6 .before .before .before .before .before in
+    let b = c6 .judge-block in
     let g = c11 .pre in
     record {
-      is = λ peer options. sym (front-passed _ _ _ _ (c11 .pre .stands) _ _ _ (c6 .judge-block .result) (c6 .judge-block .ensures) (c4 .enum-told .given .1) _
+      is = λ peer options. sym (front-passed _ _ _ _ (c11 .pre .stands) _ _ _ (b .result) (b .ensures) (c4 .enum-told .given .1) _
           ∙ (check-no _ NotWriting _ (sym (requested-told _ _ _ _ (c3 .is-requested .ensures)) ∙ c2 .if1 .left)
           ∙ check-yes _ TooManyPartials none (sym (c1 .no-partial-left .ensures .is _ _ (g .stands .bounds) (g .many)) ∙ c .if2 .taken)));
     }
@@ -75,9 +80,10 @@ good c =
     let c4 = c3 .before in
     let c6 = c4 .before .before in
     let c11 = c6 .before .before .before .before .before in
+    let b = c6 .judge-block in
     let g = c11 .pre in
     record {
-      is = λ peer options. sym (front-passed _ _ _ _ (c11 .pre .stands) _ _ _ (c6 .judge-block .result) (c6 .judge-block .ensures) (c4 .enum-told .given .1) _
+      is = λ peer options. sym (front-passed _ _ _ _ (c11 .pre .stands) _ _ _ (b .result) (b .ensures) (c4 .enum-told .given .1) _
           ∙ (check-no _ NotWriting _ (sym (requested-told _ _ _ _ (c3 .is-requested .ensures)) ∙ c2 .if1 .left)
           ∙ check-no _ TooManyPartials none (sym (c1 .no-partial-left .ensures .is _ _ (g .stands .bounds) (g .many)) ∙ c .if2 .left)));
     }

@@ -19,7 +19,9 @@ left : tie.Need-no-partial-left-requires
 left c κs =
     let c2 = c .before .before in
     let c7 = c2 .before .before .before .before .before in
-    (c7 .pre .stands .bounds .spans .inCells, front-place _ _ _ _ (c7 .pre .stands) _ _ _ (c2 .judge-block .result) (c2 .judge-block .ensures) (c .enum-told .given .1) .0)
+    let b = c2 .judge-block in
+    let t = c7 .pre .stands in
+    (t .bounds .spans .inCells, front-place _ _ _ _ t _ _ _ (b .result) (b .ensures) (c .enum-told .given .1) .0)
 
 full : tie.Need-returns
 unfolding refusal
@@ -28,9 +30,10 @@ full c =
     let c2 = c1 .before in
     let c4 = c2 .before .before in
     let c9 = c4 .before .before .before .before .before in
+    let b = c4 .judge-block in
     let g = c9 .pre in
     record {
-      is = λ peer options. sym (front-passed _ _ _ _ (c9 .pre .stands) _ _ _ (c4 .judge-block .result) (c4 .judge-block .ensures) (c2 .enum-told .given .1) _
+      is = λ peer options. sym (front-passed _ _ _ _ (c9 .pre .stands) _ _ _ (b .result) (b .ensures) (c2 .enum-told .given .1) _
           ∙ check-yes _ TooManyPartials none (sym (c1 .no-partial-left .ensures .is _ _ (g .stands .bounds) (g .many)) ∙ c .if1 .taken));
     }
 
@@ -50,9 +53,10 @@ good c =
     let c2 = c1 .before in
     let c4 = c2 .before .before in
     let c9 = c4 .before .before .before .before .before in
+    let b = c4 .judge-block in
     let g = c9 .pre in
     record {
-      is = λ peer options. sym (front-passed _ _ _ _ (c9 .pre .stands) _ _ _ (c4 .judge-block .result) (c4 .judge-block .ensures) (c2 .enum-told .given .1) _
+      is = λ peer options. sym (front-passed _ _ _ _ (c9 .pre .stands) _ _ _ (b .result) (b .ensures) (c2 .enum-told .given .1) _
           ∙ check-no _ TooManyPartials none (sym (c1 .no-partial-left .ensures .is _ _ (g .stands .bounds) (g .many)) ∙ c .if1 .left));
     }
 

@@ -94,7 +94,8 @@ done c =
     (i .ensures) (j .ensures) (b .result) (b .ensures .is peer 0) (c8 .enum-told .given .1) (x .result .edit) (x .ensures .1) _ _
     (markAsWriting (a .draws .now) (i .result) (j .result) peer)
     (ap (λ (p : Option ℕ). changing (markAsWriting (a .draws .now) (i .result) (j .result) p (drawing 0 d)))
-    (lent-named (a .a .«has_peer») (a .a .peer) (peer-wide (a .a) _ (c29 .good .1 .1 .1 .1 .1 .0)))) (x .result .answer) (x .result .used) (x .ensures .0 .says) (x .ensures .0 .done)
+    (lent-named (a .a .«has_peer») (a .a .peer) (peer-wide (a .a) _ (c29 .good .1 .1 .1 .1 .1 .0)))) (x .result .answer) (x .result .used)
+    (x .ensures .0 .says) (x .ensures .0 .done)
 
 pub mark-as-writing-core-spec : {M : Type 1} → statement M
 mark-as-writing-core-spec =

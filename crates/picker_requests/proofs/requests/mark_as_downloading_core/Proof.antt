@@ -15,8 +15,8 @@ use Rattle.change_marks.proofs.AcceptedLaws.{downloading-accepted}
 use Rattle.picker_blocks.proofs.BlockCores.{lent-named, stood-rows, block-denied, block-said}
 use Rattle.picker_blocks.proofs.Values.{request-wide}
 use borrow.Author.Needs.{needs}
-use Rattle.picker_marks.proofs.downloads.mark_as_downloading_core.Statement.{statement}
-use Rattle.picker_marks.proofs.downloads.mark_as_downloading_core.Tie as tie
+use Rattle.picker_requests.proofs.requests.mark_as_downloading_core.Statement.{statement}
+use Rattle.picker_requests.proofs.requests.mark_as_downloading_core.Tie as tie
 
 judge : tie.Need-judge-downloading-requires
 judge c κs =
@@ -46,7 +46,8 @@ for-memory c =
     let c2 = c .before .before in
     let c5 = c2 .before .before .before in
     let m = c5 .admit in
-    barred _ _ _ _ _ (m .result) (m .ensures) _ (c2 .why .given .1) _ (listless (mark-as-downloading _ _ _ _ _) refl) _ _ _ (c .refused .ensures)
+    barred _ _ _ _ _ (m .result) (m .ensures) _ (c2 .why .given .1) _ (listless (mark-as-downloading _ _ _ _ _) refl) _ _ _
+    (c .refused .ensures)
 
 by-judge : tie.Need-returns-2
 by-judge c =
@@ -64,7 +65,8 @@ by-judge c =
     let b = c4 .judge-downloading in
     let peer = namedPeer (a .a .«has_peer») (a .a .peer) in
     block-denied _ _ _ _ _ (m .result) (m .ensures) _ (c12 .s .given .1) (n .result) (n .ensures)
-    (λ i j. mark-as-downloading i j peer (a .a .options .0) (a .draws .now)) (λ i j. listless (mark-as-downloading i j peer (a .a .options .0) (a .draws .now)) refl) _ _ _ _
+    (λ i j. mark-as-downloading i j peer (a .a .options .0) (a .draws .now))
+    (λ i j. listless (mark-as-downloading i j peer (a .a .options .0) (a .draws .now)) refl) _ _ _ _
     (c10 .number .ensures) (c9 .block-number .ensures) (b .result) (b .ensures .is peer (a .a .options .0)) _ (c2 .why2 .given .1) _ _ _
     (c .refused2 .ensures)
 
@@ -90,11 +92,14 @@ done c =
     let d = pickerIn (n .result) (a .rows .now) (a .words .now) (a .cells .now) in
     let peer = namedPeer (a .a .«has_peer») (a .a .peer) in
     block-said _ _ _ _ _ (m .result) (m .ensures) _ (c18 .s .given .1) (n .result) (n .ensures)
-    (λ i j. mark-as-downloading i j peer (a .a .options .0) (a .draws .now)) (λ i j. listless (mark-as-downloading i j peer (a .a .options .0) (a .draws .now)) refl) _ _ _ _
-    (i .ensures) (j .ensures) (b .result) (b .ensures .is peer (a .a .options .0)) (c8 .enum-told .given .1) (x .result .edit) (x .ensures .1) _ _
+    (λ i j. mark-as-downloading i j peer (a .a .options .0) (a .draws .now))
+    (λ i j. listless (mark-as-downloading i j peer (a .a .options .0) (a .draws .now)) refl) _ _ _ _
+    (i .ensures) (j .ensures) (b .result) (b .ensures .is peer (a .a .options .0)) (c8 .enum-told .given .1) (x .result .edit)
+    (x .ensures .1) _ _
     (markAsDownloading (a .draws .now) (i .result) (j .result) peer (a .a .options .0))
     (ap (λ (p : Option ℕ). changing (markAsDownloading (a .draws .now) (i .result) (j .result) p (a .a .options .0) (drawing 0 d)))
-    (lent-named (a .a .«has_peer») (a .a .peer) (request-wide (a .a) _ (c29 .good .1 .1 .1 .1 .1 .0)))) (x .result .answer) (x .result .used) (x .ensures .0 .says) (x .ensures .0 .done)
+    (lent-named (a .a .«has_peer») (a .a .peer) (request-wide (a .a) _ (c29 .good .1 .1 .1 .1 .1 .0)))) (x .result .answer)
+    (x .result .used) (x .ensures .0 .says) (x .ensures .0 .done)
 
 pub mark-as-downloading-core-spec : {M : Type 1} → statement M
 mark-as-downloading-core-spec =

@@ -17,17 +17,18 @@ use Rattle.picker_calls.specs.Outcomes.{outcome as answerOf}
 use Rattle.picker_calls.specs.Cores.{CoreCalled}
 use Rattle.picker_calls.proofs.Values.{outcome, callStep}
 use Rattle.picker_calls.proofs.CoreLaws.{core-called}
-use Rattle.picker_marks.proofs.downloads.mark_as_downloading_core as core
-use Rattle.picker_marks.proofs.downloads.mark_as_downloading_core.Symbol as core-def
-use Rattle.picker_marks.proofs.downloads.mark_as_downloading_core.Met as core-thm
-use Rattle.picker_marks.proofs.downloads.mark_as_downloading as this
-use Rattle.picker_marks.proofs.downloads.mark_as_downloading.Key as key
-use Rattle.picker_marks.proofs.downloads.mark_as_downloading.Statement as stated
-use Rattle.picker_marks.proofs.downloads.mark_as_downloading.Code as code
+use Rattle.picker_requests.proofs.requests.mark_as_downloading_core as core
+use Rattle.picker_requests.proofs.requests.mark_as_downloading_core.Symbol as core-def
+use Rattle.picker_requests.proofs.requests.mark_as_downloading_core.Met as core-thm
+use Rattle.picker_requests.proofs.requests.mark_as_downloading as this
+use Rattle.picker_requests.proofs.requests.mark_as_downloading.Key as key
+use Rattle.picker_requests.proofs.requests.mark_as_downloading.Statement as stated
+use Rattle.picker_requests.proofs.requests.mark_as_downloading.Code as code
 
 -- the call in the definition
 abbrev action : List ℕ → BlockRequest → Action
-action draws a = mark-as-downloading (numberOf (a .block .«piece_index» .0)) (numberOf (a .block .«block_index»)) (namedPeer (a .«has_peer») (a .peer)) (a .options .0) draws
+action draws a = mark-as-downloading (numberOf (a .block .«piece_index» .0)) (numberOf (a .block .«block_index»))
+    (namedPeer (a .«has_peer») (a .peer)) (a .options .0) draws
 
 -- what the core says of what it is given, of its result, and of the words and cells that it leaves
 abbrev Told : List ℕ → List ℕ → List ℕ → ℕ → List ℕ → BlockRequest → CallStep → List ℕ → List ℕ → Type 0
@@ -48,4 +49,4 @@ mark-as-downloading-spec 𝓤 H 𝓜 𝓖 𝓡 =
           (answerOf (r .out)) (r .count) (r .edit) h zs e);
     })
     (code.unfolded 𝓤 H 𝓜 𝓡) code.calls-memory-records·live-records code.calls-memory-records·unpack code.calls-memory-records·apply
-    code.calls-picker-marks·downloads·mark-as-downloading-core (core-thm.met 𝓤 H 𝓜 𝓖 𝓡)
+    code.calls-picker-requests·requests·mark-as-downloading-core (core-thm.met 𝓤 H 𝓜 𝓖 𝓡)
