@@ -11,7 +11,6 @@ use Rattle.types.specs.declared.refusal.Refusal.{Refusal}
 use Rattle.types.specs.declared.refusal.Refusal.the-variants.{ShortMemory, IllFormedMemory}
 use Rattle.model.specs.State.{validGeometry}
 use Rattle.model.specs.Calls.{Action, refusal}
-use Rattle.memory_records.specs.declared.record.DownloadingPiece.{DownloadingPiece as Record}
 use Rattle.memory_records.specs.Rows.{liveRecords, rowsOf, recordsIn}
 use Rattle.memory_layout.specs.declared.shape.Shape.{Shape}
 use Rattle.memory_layout.specs.Decode.{headWord, decode}
@@ -19,13 +18,13 @@ use Rattle.memory_layout.specs.Bounds.{ShapeOf}
 use Rattle.memory_layout.specs.Good.{short, goodBody, orElse, memoryRefusal}
 use Rattle.check_partials.specs.Records.{CountsHeld}
 use Rattle.check_memory.specs.declared.verdict.Verdict.{Verdict}
-use Rattle.check_memory.specs.declared.verdict.Verdict.the-variants.{Good, Short, IllFormed}
+use Rattle.check_memory.specs.declared.verdict.Verdict.the-variants.{Good}
 use Rattle.check_memory.specs.Verdicts.{refusalOf, Checked}
-use Rattle.check_memory.proofs.Standing.{Passes, parts-pass}
+use Rattle.check_memory.proofs.Standing.{parts-pass}
 use Rattle.check_memory.proofs.Passing.{passed-stands}
 use Rattle.picker_calls.specs.declared.admission.Admission.the-variants.{Refused, At}
 use Rattle.picker_calls.specs.Calling.{Lent, pickerOn, memoryOn, ofMemory, refusalOn}
-use Rattle.picker_calls.specs.Cores.{lending, Listless, Stood, Admitted}
+use Rattle.picker_calls.specs.Cores.{lending, Admitted}
 use Rattle.memory_records.proofs.laws.LiveLaws.{live-few}
 use Rattle.memory_layout.specs.Standing.{Stands}
 use Rattle.memory_layout.proofs.OffsetLaws.{places-min}

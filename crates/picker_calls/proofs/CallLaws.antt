@@ -24,9 +24,8 @@ use Rattle.memory_records.proofs.laws.EditLaws.{length-edited, inserted-behind,
 use Rattle.memory_records.proofs.laws.RowLaws.{records-of}
 use Rattle.memory_layout.specs.declared.shape.Shape.{Shape}
 use Rattle.memory_layout.specs.Offsets.{placesFor, wordsFor, cellsFor}
-use Rattle.memory_layout.specs.Decode.{headWord, piecesOn, blocksOn, recordAt, decode}
-use Rattle.memory_layout.specs.Stores.{WordsKept, CellsKept}
-use Rattle.memory_layout.specs.Standing.{Stands, Changed, editRecords}
+use Rattle.memory_layout.specs.Decode.{headWord, piecesOn, blocksOn, recordAt}
+use Rattle.memory_layout.specs.Standing.{Changed, editRecords}
 use Rattle.memory_layout.specs.Good.{lengths, short, memoryRefusal}
 use Rattle.memory_layout.proofs.EditedRecords.{decode-live, live-at, live-rise, stands-live, changed-edited}
 use Rattle.memory_rows.specs.Lookup.{pickerIn}

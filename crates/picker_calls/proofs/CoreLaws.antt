@@ -26,7 +26,7 @@ use Rattle.picker_calls.specs.declared.admission.Admission.the-variants.
 use Rattle.picker_calls.specs.declared.judgement.Judgement.{Judgement}
 use Rattle.picker_calls.specs.declared.judgement.Judgement.the-variants.{Refused as No, Passed}
 use Rattle.picker_calls.specs.declared.outcomes.Outcome.{Outcome}
-use Rattle.picker_calls.specs.declared.outcomes.Outcome.the-variants.{Refused, Done, Said}
+use Rattle.picker_calls.specs.declared.outcomes.Outcome.the-variants.{Refused}
 use Rattle.picker_calls.specs.Calling.{Called}
 use Rattle.picker_calls.specs.Outcomes.{outcome, judged}
 use Rattle.picker_calls.specs.Cores.{lending, Listless, Stood, Admitted, CoreCalled}

@@ -1,30 +1,29 @@
 -- The rows of a call are its live records: the test of the memory says of them what it says of all records that are lent. Assumes nothing.
-use mathlib.Core.Path.{_≡_, refl, sym, ap, subst, _∙_}
+use mathlib.Core.Path.{_≡_, refl, sym, ap, _∙_}
 use mathlib.Core.Bool.{Bool, true, false, cond, not, _&&_}
 use mathlib.Core.List.{List, []}
-use mathlib.Core.Option.{Option, none, some}
-use Prim.Native.Nat.{ℕ, zero, suc, _≤_, _<_}
+use mathlib.Core.Option.{Option, none}
+use Prim.Native.Nat.{ℕ, _≤_, _<_}
 use native.Mathlib.Omega.{arith}
 use lib.Dec.{eqb, ltb, leb}
-use lib.ListN.{length, getD, take}
-use borrow.Author.Tests.{leb-true, ltb-false, not-false}
+use lib.ListN.{length, take}
+use borrow.Author.Tests.{leb-true, ltb-false}
 use Rattle.types.specs.declared.refusal.Refusal.{Refusal}
 use Rattle.types.specs.declared.refusal.Refusal.the-variants.{ShortMemory, IllFormedMemory}
 use Rattle.model.specs.Lists.{every, from, member}
-use Rattle.model.specs.State.{Picker, validGeometry}
+use Rattle.model.specs.State.{validGeometry}
 use Rattle.model.specs.list.Order.{rank}
-use Rattle.model.specs.Memory.{Memory, memoryFor, isShort}
+use Rattle.model.specs.Memory.{memoryFor}
 use Rattle.model.specs.image.WellFormed.{headOk, piecesOk, partialsOk, extentsOk, listingOk}
 use Rattle.model.proofs.base.Truths.{and-left, and-right}
 use Rattle.model.proofs.base.MemoryLaws.{long-enough}
 use Rattle.memory_records.specs.declared.record.DownloadingPiece.{DownloadingPiece as Record}
-use Rattle.memory_records.specs.Records.{noRecord}
 use Rattle.memory_records.specs.Rows.{liveRecords, rowsOf, recordsIn}
 use Rattle.memory_records.proofs.laws.LiveLaws.{live-few}
 use Rattle.memory_records.proofs.laws.RowLaws.{records-of}
 use Rattle.memory_layout.specs.declared.shape.Shape.{Shape}
 use Rattle.memory_layout.specs.Tables.{tabulate}
-use Rattle.memory_layout.specs.Offsets.{placesFor, headLength}
+use Rattle.memory_layout.specs.Offsets.{placesFor}
 use Rattle.memory_layout.specs.Decode.{headWord, recordAt, piecesOn, blocksOn, decode}
 use Rattle.memory_layout.specs.Good.{lengths, short, headRaw, piecesRaw, recordRaw, placeRaw, rankRaw, goodHead, goodPieces}
 use Rattle.memory_layout.specs.Good.{goodPlaces, goodPartials, goodExtents, goodList, goodBody, orElse, memoryRefusal}

@@ -5,7 +5,6 @@ use mathlib.Core.List.{List}
 use mathlib.Core.Option.{none, some}
 use Prim.Native.Nat.{ℕ}
 use lib.ListN.{length}
-use Rattle.types.specs.declared.refusal.Refusal.{Refusal}
 use Rattle.model.specs.State.{Picker}
 use Rattle.model.specs.Calls.{Action, Answer, refusal}
 use Rattle.memory_records.specs.declared.record.DownloadingPiece.{DownloadingPiece as Record}
@@ -14,7 +13,6 @@ use Rattle.memory_records.specs.Records.{EditFits, edited}
 use Rattle.memory_records.specs.Rows.{rowsOf, liveRecords, recordsIn}
 use Rattle.memory_layout.specs.declared.shape.Shape.{Shape}
 use Rattle.memory_layout.specs.Decode.{headWord}
-use Rattle.memory_layout.specs.Bounds.{ShapeOf}
 use Rattle.memory_layout.specs.Standing.{Stands}
 use Rattle.memory_layout.specs.Good.{memoryRefusal}
 use Rattle.check_partials.specs.Records.{CountsHeld}

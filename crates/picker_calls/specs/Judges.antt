@@ -1,11 +1,11 @@
 -- What a judge says of a call whose memory is admitted: the definition's refusal of it. Assumes nothing.
 use mathlib.Core.Path.{_≡_}
 use mathlib.Core.List.{List}
+use mathlib.Core.Option.{Option}
 use Prim.Native.Nat.{ℕ}
-use Rattle.model.specs.State.{Picker}
-use Rattle.model.specs.Calls.{Action, refusal, refuseBadPiece}
-use mathlib.Core.Option.{Option, none}
 use Rattle.types.specs.declared.refusal.Refusal.{Refusal}
+use Rattle.model.specs.State.{Picker}
+use Rattle.model.specs.Calls.{Action, refusal}
 use Rattle.memory_records.specs.declared.record.DownloadingPiece.{DownloadingPiece as Record}
 use Rattle.memory_layout.specs.declared.shape.Shape.{Shape}
 use Rattle.memory_layout.specs.Decode.{decode}

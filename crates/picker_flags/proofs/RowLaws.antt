@@ -1,6 +1,6 @@
 -- Priority and flags of a piece whose memory is admitted: what a call that is not refused gives its change, and the call done. Assumes
 -- nothing.
-use mathlib.Core.Path.{_≡_, refl, sym, ap, subst, _∙_}
+use mathlib.Core.Path.{_≡_, refl, sym, subst, _∙_}
 use mathlib.Core.Bool.{true}
 use mathlib.Core.List.{List}
 use mathlib.Core.Option.{none}
@@ -21,12 +21,12 @@ use Rattle.memory_records.specs.Records.{risingFrom}
 use Rattle.memory_records.specs.Rows.{liveRecords, recordsIn}
 use Rattle.memory_records.proofs.laws.LiveLaws.{live-most}
 use Rattle.memory_layout.specs.declared.shape.Shape.{Shape}
-use Rattle.memory_layout.specs.Decode.{headWord, decode}
-use Rattle.memory_layout.specs.Standing.{Stands, editRecords}
+use Rattle.memory_layout.specs.Decode.{headWord}
+use Rattle.memory_layout.specs.Standing.{editRecords}
 use Rattle.memory_rows.specs.Lookup.{pickerIn}
 use Rattle.change_steps.specs.Whole.{EditRoom}
 use Rattle.change_tally.specs.RowsStanding.{RowsStand}
-use Rattle.change_flags.specs.Flagging.{RowsChanged, EditAlone}
+use Rattle.change_flags.specs.Flagging.{RowsChanged}
 use Rattle.change_flags.proofs.RowEdits.{rows-rising}
 use Rattle.change_priority.specs.declared.changes.PrioritySet.{PrioritySet}
 use Rattle.change_priority.specs.Saying.{Said}

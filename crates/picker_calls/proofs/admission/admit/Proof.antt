@@ -5,10 +5,6 @@ use Rattle.picker_calls.proofs.AdmissionLaws.{refused-verdict, good-lon
 use borrow.Author.Needs.{needs}
 use Rattle.picker_calls.proofs.admission.admit.Statement.{statement}
 use Rattle.picker_calls.proofs.admission.admit.Tie as tie
-use Rattle.picker_calls.proofs.admission.admit.Reads as reads
-use Rattle.picker_calls.proofs.admission.admit.Lts as lts
-use Rattle.check_memory.proofs.check_memory.Reads as check-memory-reads
-use Rattle.memory_layout.proofs.shape_of.Reads as shape-of-reads
 
 -- src/admission.rt:28:11
 check-memory-requires : tie.Need-check-memory-requires

@@ -7,7 +7,7 @@ use Rattle.picker_seeds.proofs.seeds.judge_dec_refcount_all.Statement.{
 use Rattle.picker_seeds.proofs.seeds.judge_dec_refcount_all.Tie as tie
 
 a-seed : tie.Need-returns
-a-seed c = record { is = λ records t. sym (dec-all-seed _ _ _ (c .before .seeds .ensures) records (c .if1 .taken)) }
+a-seed c = record { is = λ records t. sym (dec-all-seed _ _ _ (c .before .seeds .ensures) records (omega (arith, c .if1 .taken))) }
 
 refused : tie.Need-returns-2
 refused c =
