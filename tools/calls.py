@@ -11,7 +11,8 @@ import pathlib
 import sys
 from collections import namedtuple
 
-from walk.layout import formatted
+import block_calls
+from walk.layout import formatted, laid_out
 
 ROOT = pathlib.Path(__file__).resolve().parent.parent
 
@@ -275,12 +276,13 @@ def text(c):
 
 def files():
     """Every file with its text."""
-    made = {f'{c.crate}/proofs/{c.module}/{c.fn}': text(c) for c in CALLS}
+    made = {f'{c.crate}/proofs/{c.module}/{c.fn}': text(c) for c in CALLS + block_calls.CALLS}
+    made.update(block_calls.cores())
     for fn, step, law in COUNTS:
         made[f'picker_changes/proofs/counts/{fn}_core'] = COUNT.format(fn=fn, kebab=kebab(fn), step=step, law=law)
     for fn, step, back in SEEDS:
         made[f'picker_seeds/proofs/seeds/{fn}_core'] = SEED.format(fn=fn, kebab=kebab(fn), step=step, back=' .before' * back)
-    texts = formatted({f'{name.replace("/", "·")}.antt': t for name, t in made.items()})
+    texts = formatted({f'{name.replace("/", "·")}.antt': '\n'.join(laid_out(t.split('\n'))) for name, t in made.items()})
     return {ROOT / 'crates' / name / 'Proof.antt': texts[f'{name.replace("/", "·")}.antt'] for name in made}
 
 

@@ -1,0 +1,4 @@
+pub mod BlockTable
+pub mod BlockCores
+pub mod MarkTable
+pub mod Values

@@ -1,0 +1,89 @@
+// A block asked for.
+use memory_records::DownloadingPiece;
+use memory_records::apply;
+use memory_records::live_records;
+use memory_records::unpack;
+use picker_blocks::BlockRequest;
+use picker_blocks::block_number;
+use picker_blocks::judge_downloading;
+use picker_calls::Admission;
+use picker_calls::CallStep;
+use picker_calls::Judgement;
+use picker_calls::Outcome;
+use picker_calls::admit;
+use picker_calls::refused;
+ghost use mathlib.Core.Path.{_≡_};
+ghost use lib.ListN.{length};
+ghost use Rattle.picker_blocks.specs.Arguments.{downloading};
+ghost use Rattle.picker_calls.specs.Outcomes.{outcome};
+ghost use Rattle.picker_calls.specs.Calling.{Called};
+ghost use Rattle.picker_calls.specs.Cores.{lending, CoreCalled};
+
+fn mark_as_downloading_core(
+    words: &mut [u64],
+    cells: &mut [u16],
+    rows: &[u32],
+    lent: usize,
+    draws: &[u32],
+    a: BlockRequest,
+) -> CallStep
+    requires { ⌜ length (now rows) ≡ 1536 ⌝ }
+    ensures { λ r. ⌜ CoreCalled (now (words .entry)) (now (cells .entry)) (now (rows .entry)) lent
+        (downloading a (now (draws .entry))) (now (words .exit)) (now (cells .exit))
+        (outcome (r .out)) (r .count) (r .edit) ⌝ }
+{
+    let mut counts = [0; 1536];
+    match admit(words, cells, rows, lent, &mut counts) {
+        Admission::Refused(why) => refused(why),
+        Admission::At(s) => {
+            let i = a.block.piece_index.number();
+            let j = block_number(a.block);
+            let live = live_records(words);
+            match judge_downloading(words, cells, rows, live, s, draws, i, j) {
+                Judgement::Refused(why) => refused(why),
+                Judgement::Passed => {
+                    let m = change_marks::mark_as_downloading(
+                        words,
+                        cells,
+                        rows,
+                        live,
+                        &counts,
+                        s,
+                        i,
+                        j,
+                        a.has_peer,
+                        a.peer,
+                        a.options,
+                        draws,
+                    );
+                    let edit = m.edit;
+                    CallStep {
+                        out: Outcome::Said(m.answer, m.used),
+                        count: live,
+                        edit: edit,
+                    }
+                }
+            }
+        }
+    }
+}
+
+// The peer is asked for the block. Answers whether it was marked, and the draws used.
+pub fn mark_as_downloading(
+    words: &mut [u64],
+    cells: &mut [u16],
+    partials: &mut [DownloadingPiece],
+    draws: &[u32],
+    a: BlockRequest,
+) -> Outcome
+    ensures { λ r. ⌜ Called (lending (now (words .entry)) (now (cells .entry)) (now (partials .entry)))
+        (downloading a (now (draws .entry))) (lending (now (words .exit)) (now (cells .exit)) (now (partials .exit)))
+        (outcome r) ⌝ }
+{
+    let mut rows = [0; 1536];
+    let live = live_records(words);
+    let lent = unpack(partials, live, &mut rows);
+    let r = mark_as_downloading_core(words, cells, &rows, lent, draws, a);
+    apply(partials, r.count, r.edit);
+    r.out
+}
