@@ -112,7 +112,8 @@ done c =
     (front-alone _ _ _ _ (t .stands) _ _ _ (b .result) (b .ensures)) (c10 .enum-told .given .1) (x .result .edit) (x .ensures .1) _ _
     ({step} (a .draws .now) (i .result) (j .result) peer)
     (ap (λ (p : Option ℕ). doing ({step} (a .draws .now) (i .result) (j .result) p (drawing 0 d)))
-    (lent-named (a .{arg} .«has_peer») (a .{arg} .peer) (peer-wide (a .{arg}) _ (c28 .good .1 .1 .1 .1 .1 .0)))) (x .result .used) (x .ensures .0)
+    (lent-named (a .{arg} .«has_peer») (a .{arg} .peer) (peer-wide (a .{arg}) _ (c28 .good .1 .1 .1 .1 .1 .0))))
+    (x .result .used) (x .ensures .0)
 
 pub {kebab}-core-spec : {{M : Type 1}} → statement M
 {kebab}-core-spec =
@@ -200,8 +201,8 @@ def giving(fn, step):
             'use Rattle.picker_blocks.proofs.Values.{peer-wide}\n')
     head = HEAD.format(fn=fn, kebab=kebab, step=step, form='doing', paths='ap', none='', refusal=', refusal', uses=uses, here=here)
     return head + GIVING.format(
-        kebab=kebab, step=step, arg='named', memory=MEMORY.format(kebab=kebab, hole='', c2_5=back(2, 5)), c4_7=back(4, 7), c3_15=back(3, 5, 7, 12, 15),
-        c2_20=back(2, 4, 6, 7, 9, 12, 20), c4_28=back(4, 8, 10, 12, 14, 15, 17, 20, 28))
+        kebab=kebab, step=step, arg='named', memory=MEMORY.format(kebab=kebab, hole='', c2_5=back(2, 5)), c4_7=back(4, 7),
+        c3_15=back(3, 5, 7, 12, 15), c2_20=back(2, 4, 6, 7, 9, 12, 20), c4_28=back(4, 8, 10, 12, 14, 15, 17, 20, 28))
 
 
 def marking(crate, module, fn, step, judge, accepted, says):
