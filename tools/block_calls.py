@@ -46,7 +46,7 @@ def back(*depths):
 
 HEAD = """-- `{fn}_core` meets its contract. Assumes nothing.
 -- Written by tools/calls.py, and not by hand.
-use mathlib.Core.Path.{{refl, sym, ap, _∙_}}
+use mathlib.Core.Path.{{refl, {paths}}}
 use mathlib.Core.Option.{{Option{none}}}
 use Prim.Native.Nat.{{ℕ}}
 use Rattle.model.specs.list.Order.{{drawing}}
@@ -89,7 +89,7 @@ by-judge c =
     let m = c12 .admit in
     let b = c4 .judge-block in
     let t = stood-rows _ _ _ _ _ (m .result) (m .ensures) _ (c9 .s .given .1) _ refl in
-    let peer = namedPeer (a .a .«has_peer») (a .a .peer) in
+    let peer = namedPeer (a .{arg} .«has_peer») (a .{arg} .peer) in
     block-denied _ _ _ _ _ (m .result) (m .ensures) _ (c9 .s .given .1) _ refl (λ i j. {kebab} i j peer (a .draws .now))
     (λ i j. listless ({kebab} i j peer (a .draws .now)) refl) _ _ _ _ (c7 .number .ensures) (c6 .block-number .ensures) (b .result)
     (front-alone _ _ _ _ (t .stands) _ _ _ (b .result) (b .ensures)) _ (c2 .why2 .given .1) _ _ _ (c .refused2 .ensures)
@@ -106,13 +106,14 @@ done c =
     let x = c4 .{kebab} in
     let t = stood-rows _ _ _ _ _ (m .result) (m .ensures) _ (c17 .s .given .1) _ (n .ensures) in
     let d = pickerIn (n .result) (a .rows .now) (a .words .now) (a .cells .now) in
-    let peer = namedPeer (a .a .«has_peer») (a .a .peer) in
+    let peer = namedPeer (a .{arg} .«has_peer») (a .{arg} .peer) in
     block-done _ _ _ _ _ (m .result) (m .ensures) _ (c17 .s .given .1) (n .result) (n .ensures) (λ i j. {kebab} i j peer (a .draws .now))
     (λ i j. listless ({kebab} i j peer (a .draws .now)) refl) _ _ _ _ (i .ensures) (j .ensures) (b .result)
     (front-alone _ _ _ _ (t .stands) _ _ _ (b .result) (b .ensures)) (c10 .enum-told .given .1) (x .result .edit) (x .ensures .1) _ _
     ({step} (a .draws .now) (i .result) (j .result) peer)
     (ap (λ (p : Option ℕ). doing ({step} (a .draws .now) (i .result) (j .result) p (drawing 0 d)))
-    (lent-named (a .a .«has_peer») (a .a .peer) (peer-wide (a .a) _ (c28 .good .1 .1 .1 .1 .1 .0)))) (x .result .used) (x .ensures .0)
+    (lent-named (a .{arg} .«has_peer») (a .{arg} .peer) (peer-wide (a .{arg}) _ (c28 .good .1 .1 .1 .1 .1 .0))))
+    (x .result .used) (x .ensures .0)
 
 pub {kebab}-core-spec : {{M : Type 1}} → statement M
 {kebab}-core-spec =
@@ -146,7 +147,7 @@ by-judge c =
     let m = c15 .admit in
     let n = c7 .live-records in
     let b = c4 .{judge} in
-    let peer = namedPeer (a .a .«has_peer») (a .a .peer) in
+    let peer = namedPeer (a .{arg} .«has_peer») (a .{arg} .peer) in
     block-denied _ _ _ _ _ (m .result) (m .ensures) _ (c12 .s .given .1) (n .result) (n .ensures)
     (λ i j. {kebab} i j peer{options} (a .draws .now)) (λ i j. listless ({kebab} i j peer{options} (a .draws .now)) refl) _ _ _ _
     (c10 .number .ensures) (c9 .block-number .ensures) (b .result) (b .ensures .is peer {option}) _ (c2 .why2 .given .1) _ _ _
@@ -163,13 +164,13 @@ done c =
     let b = c10 .{judge} in
     let x = c4 .{kebab} in
     let d = pickerIn (n .result) (a .rows .now) (a .words .now) (a .cells .now) in
-    let peer = namedPeer (a .a .«has_peer») (a .a .peer) in
+    let peer = namedPeer (a .{arg} .«has_peer») (a .{arg} .peer) in
     {law} _ _ _ _ _ (m .result) (m .ensures) _ (c18 .s .given .1) (n .result) (n .ensures)
     (λ i j. {kebab} i j peer{options} (a .draws .now)) (λ i j. listless ({kebab} i j peer{options} (a .draws .now)) refl) _ _ _ _
     (i .ensures) (j .ensures) (b .result) (b .ensures .is peer {option}) (c8 .enum-told .given .1) (x .result .edit) (x .ensures .1) _ _
     ({step} (a .draws .now) (i .result) (j .result) peer{options})
     (ap (λ (p : Option ℕ). {form} ({step} (a .draws .now) (i .result) (j .result) p{options} (drawing 0 d)))
-    (lent-named (a .a .«has_peer») (a .a .peer) ({wide} (a .a) _ (c29 .good .1 .1 .1 .1 .1 .0)))) {answered}
+    (lent-named (a .{arg} .«has_peer») (a .{arg} .peer) ({wide} (a .{arg}) _ (c29 .good .1 .1 .1 .1 .1 .0)))) {answered}
 
 pub {kebab}-core-spec : {{M : Type 1}} → statement M
 {kebab}-core-spec =
@@ -198,9 +199,10 @@ def giving(fn, step):
     uses = ('use Rattle.picker_blocks.proofs.BlockTable.{front-alone, front-place}\n'
             'use Rattle.picker_blocks.proofs.BlockCores.{lent-named, stood-shape, stood-rows, block-denied, block-done}\n'
             'use Rattle.picker_blocks.proofs.Values.{peer-wide}\n')
-    return HEAD.format(fn=fn, kebab=kebab, step=step, form='doing', none='', refusal=', refusal', uses=uses, here=here) + GIVING.format(
-        kebab=kebab, step=step, memory=MEMORY.format(kebab=kebab, hole='', c2_5=back(2, 5)), c4_7=back(4, 7), c3_15=back(3, 5, 7, 12, 15),
-        c2_20=back(2, 4, 6, 7, 9, 12, 20), c4_28=back(4, 8, 10, 12, 14, 15, 17, 20, 28))
+    head = HEAD.format(fn=fn, kebab=kebab, step=step, form='doing', paths='ap', none='', refusal=', refusal', uses=uses, here=here)
+    return head + GIVING.format(
+        kebab=kebab, step=step, arg='named', memory=MEMORY.format(kebab=kebab, hole='', c2_5=back(2, 5)), c4_7=back(4, 7),
+        c3_15=back(3, 5, 7, 12, 15), c2_20=back(2, 4, 6, 7, 9, 12, 20), c4_28=back(4, 8, 10, 12, 14, 15, 17, 20, 28))
 
 
 def marking(crate, module, fn, step, judge, accepted, says):
@@ -214,10 +216,12 @@ def marking(crate, module, fn, step, judge, accepted, says):
             f'use Rattle.picker_blocks.proofs.BlockCores.{{lent-named, stood-rows, block-denied, {law}}}\n'
             f'use Rattle.picker_blocks.proofs.Values.{{{wide}}}\n')
     form = 'changing' if says else 'doing'
-    return HEAD.format(fn=fn, kebab=kebab, step=step, form=form, none=', none', refusal='', uses=uses, here=here) + MARKS.format(
+    head = HEAD.format(fn=fn, kebab=kebab, step=step, form=form, paths='sym, ap, _∙_', none=', none', refusal='', uses=uses, here=here)
+    return head + MARKS.format(
         kebab=kebab, step=step, judge=judge, accepted=accepted, law=law, form=form, wide=wide,
-        options=' (a .a .options .0)' if asks else '',
-        option='(a .a .options .0)' if asks else '0', zero=' 0' if asks else '',
+        arg='request' if asks else 'named',
+        options=' (a .request .options .0)' if asks else '',
+        option='(a .request .options .0)' if asks else '0', zero=' 0' if asks else '',
         given=f'(t, (p .0 .place, {"(p .1 .0, (p .1 .1, p .0 .draw))" if asks else "(p .1, p .0 .draw)"}))',
         answered='(x .result .answer) (x .result .used) (x .ensures .0 .says) (x .ensures .0 .done)' if says
         else '(x .result .used) (x .ensures .0)',

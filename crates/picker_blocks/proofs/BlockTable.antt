@@ -10,7 +10,7 @@ use Rattle.types.specs.declared.refusal.Refusal.{Refusal}
 use Rattle.types.specs.declared.refusal.Refusal.the-variants.{OutOfRange}
 use Rattle.model.specs.State.{Picker, blocksInPiece}
 use Rattle.model.specs.list.Order.{Draws}
-use Rattle.model.specs.Calls.{check, refuseFewDraws, refuseBadBlock}
+use Rattle.model.specs.Calls.{refuseFewDraws, refuseBadBlock}
 use Rattle.model.proofs.keep.KeepCalls.{check-none}
 use Rattle.memory_records.specs.declared.record.DownloadingPiece.{DownloadingPiece as Record}
 use Rattle.memory_layout.specs.declared.shape.Shape.{Shape}

@@ -26,19 +26,19 @@ fn mark_as_finished_core(
     rows: &[u32],
     lent: usize,
     draws: &[u32],
-    a: BlockPeer,
+    named: BlockPeer,
 ) -> CallStep
     requires { ⌜ length (now rows) ≡ 1536 ⌝ }
     ensures { λ r. ⌜ CoreCalled (now (words .entry)) (now (cells .entry)) (now (rows .entry)) lent
-        (onBlock mark-as-finished a (now (draws .entry))) (now (words .exit)) (now (cells .exit))
+        (onBlock mark-as-finished named (now (draws .entry))) (now (words .exit)) (now (cells .exit))
         (outcome (r .out)) (r .count) (r .edit) ⌝ }
 {
     let mut counts = [0; 1536];
     match admit(words, cells, rows, lent, &mut counts) {
         Admission::Refused(why) => refused(why),
         Admission::At(s) => {
-            let i = a.block.piece_index.number();
-            let j = block_number(a.block);
+            let i = named.block.piece_index.number();
+            let j = block_number(named.block);
             let live = live_records(words);
             match judge_finished(words, cells, rows, live, s, draws, i, j) {
                 Judgement::Refused(why) => refused(why),
@@ -52,8 +52,8 @@ fn mark_as_finished_core(
                         s,
                         i,
                         j,
-                        a.has_peer,
-                        a.peer,
+                        named.has_peer,
+                        named.peer,
                         draws,
                     );
                     let edit = m.edit;
@@ -74,16 +74,16 @@ pub fn mark_as_finished(
     cells: &mut [u16],
     partials: &mut [DownloadingPiece],
     draws: &[u32],
-    a: BlockPeer,
+    named: BlockPeer,
 ) -> Outcome
     ensures { λ r. ⌜ Called (lending (now (words .entry)) (now (cells .entry)) (now (partials .entry)))
-        (onBlock mark-as-finished a (now (draws .entry))) (lending (now (words .exit)) (now (cells .exit)) (now (partials .exit)))
+        (onBlock mark-as-finished named (now (draws .entry))) (lending (now (words .exit)) (now (cells .exit)) (now (partials .exit)))
         (outcome r) ⌝ }
 {
     let mut rows = [0; 1536];
     let live = live_records(words);
     let lent = unpack(partials, live, &mut rows);
-    let r = mark_as_finished_core(words, cells, &rows, lent, draws, a);
+    let r = mark_as_finished_core(words, cells, &rows, lent, draws, named);
     apply(partials, r.count, r.edit);
     r.out
 }

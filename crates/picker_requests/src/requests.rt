@@ -25,19 +25,19 @@ fn mark_as_downloading_core(
     rows: &[u32],
     lent: usize,
     draws: &[u32],
-    a: BlockRequest,
+    request: BlockRequest,
 ) -> CallStep
     requires { ⌜ length (now rows) ≡ 1536 ⌝ }
     ensures { λ r. ⌜ CoreCalled (now (words .entry)) (now (cells .entry)) (now (rows .entry)) lent
-        (downloading a (now (draws .entry))) (now (words .exit)) (now (cells .exit))
+        (downloading request (now (draws .entry))) (now (words .exit)) (now (cells .exit))
         (outcome (r .out)) (r .count) (r .edit) ⌝ }
 {
     let mut counts = [0; 1536];
     match admit(words, cells, rows, lent, &mut counts) {
         Admission::Refused(why) => refused(why),
         Admission::At(s) => {
-            let i = a.block.piece_index.number();
-            let j = block_number(a.block);
+            let i = request.block.piece_index.number();
+            let j = block_number(request.block);
             let live = live_records(words);
             match judge_downloading(words, cells, rows, live, s, draws, i, j) {
                 Judgement::Refused(why) => refused(why),
@@ -51,9 +51,9 @@ fn mark_as_downloading_core(
                         s,
                         i,
                         j,
-                        a.has_peer,
-                        a.peer,
-                        a.options,
+                        request.has_peer,
+                        request.peer,
+                        request.options,
                         draws,
                     );
                     let edit = m.edit;
@@ -74,16 +74,16 @@ pub fn mark_as_downloading(
     cells: &mut [u16],
     partials: &mut [DownloadingPiece],
     draws: &[u32],
-    a: BlockRequest,
+    request: BlockRequest,
 ) -> Outcome
     ensures { λ r. ⌜ Called (lending (now (words .entry)) (now (cells .entry)) (now (partials .entry)))
-        (downloading a (now (draws .entry))) (lending (now (words .exit)) (now (cells .exit)) (now (partials .exit)))
+        (downloading request (now (draws .entry))) (lending (now (words .exit)) (now (cells .exit)) (now (partials .exit)))
         (outcome r) ⌝ }
 {
     let mut rows = [0; 1536];
     let live = live_records(words);
     let lent = unpack(partials, live, &mut rows);
-    let r = mark_as_downloading_core(words, cells, &rows, lent, draws, a);
+    let r = mark_as_downloading_core(words, cells, &rows, lent, draws, request);
     apply(partials, r.count, r.edit);
     r.out
 }

@@ -6,27 +6,20 @@ use Rattle.picker_blocks.proofs.BlockTable.{no-piece, no-block, some-bl
 use borrow.Author.Needs.{needs}
 use Rattle.picker_blocks.proofs.blocks.judge_block.Statement.{statement}
 use Rattle.picker_blocks.proofs.blocks.judge_block.Tie as tie
-use Rattle.picker_blocks.proofs.blocks.judge_block.Reads as reads
-use Rattle.picker_blocks.proofs.blocks.judge_block.Lts as lts
-use Rattle.memory_partials.proofs.blocks_in_piece.Reads as blocks-in-piece-reads
 
--- src/blocks.rt:15:9
 returns : tie.Need-returns
 unfolding andThen
 returns c = record { is = λ records cells b rest. few-yes _ _ (c .if1 .taken) }
 
--- src/blocks.rt:18:9
 returns-2 : tie.Need-returns-2
 unfolding andThen
 returns-2 c = record {
   is = λ records cells b rest. few-no _ _ (c .before .before .if1 .left) ∙ no-piece _ records _ cells b _ _ rest (c .if2 .taken);
 }
 
--- src/blocks.rt:20:8
 blocks-in-piece-requires : tie.Need-blocks-in-piece-requires
 blocks-in-piece-requires c κs = search needs
 
--- src/blocks.rt:21:9
 returns-3 : tie.Need-returns-3
 unfolding andThen
 returns-3 c = record {
@@ -34,7 +27,6 @@ returns-3 c = record {
       ∙ no-block _ records _ cells b _ _ rest (c .before .before .if2 .left) _ (c .before .blocks-in-piece .ensures) (c .if3 .taken);
 }
 
--- src/blocks.rt:10:1
 returns-4 : tie.Need-returns-4
 unfolding andThen
 returns-4 c = record {

@@ -63,11 +63,12 @@ by-judge c =
     let m = c15 .admit in
     let n = c7 .live-records in
     let b = c4 .judge-downloading in
-    let peer = namedPeer (a .a .«has_peer») (a .a .peer) in
+    let peer = namedPeer (a .request .«has_peer») (a .request .peer) in
     block-denied _ _ _ _ _ (m .result) (m .ensures) _ (c12 .s .given .1) (n .result) (n .ensures)
-    (λ i j. mark-as-downloading i j peer (a .a .options .0) (a .draws .now))
-    (λ i j. listless (mark-as-downloading i j peer (a .a .options .0) (a .draws .now)) refl) _ _ _ _
-    (c10 .number .ensures) (c9 .block-number .ensures) (b .result) (b .ensures .is peer (a .a .options .0)) _ (c2 .why2 .given .1) _ _ _
+    (λ i j. mark-as-downloading i j peer (a .request .options .0) (a .draws .now))
+    (λ i j. listless (mark-as-downloading i j peer (a .request .options .0) (a .draws .now)) refl) _ _ _ _
+    (c10 .number .ensures) (c9 .block-number .ensures) (b .result) (b .ensures .is peer (a .request .options .0)) _ (c2 .why2 .given .1) _ _
+    _
     (c .refused2 .ensures)
 
 done : tie.Need-returns-3
@@ -90,16 +91,16 @@ done c =
     let b = c10 .judge-downloading in
     let x = c4 .mark-as-downloading in
     let d = pickerIn (n .result) (a .rows .now) (a .words .now) (a .cells .now) in
-    let peer = namedPeer (a .a .«has_peer») (a .a .peer) in
+    let peer = namedPeer (a .request .«has_peer») (a .request .peer) in
     block-said _ _ _ _ _ (m .result) (m .ensures) _ (c18 .s .given .1) (n .result) (n .ensures)
-    (λ i j. mark-as-downloading i j peer (a .a .options .0) (a .draws .now))
-    (λ i j. listless (mark-as-downloading i j peer (a .a .options .0) (a .draws .now)) refl) _ _ _ _
-    (i .ensures) (j .ensures) (b .result) (b .ensures .is peer (a .a .options .0)) (c8 .enum-told .given .1) (x .result .edit)
+    (λ i j. mark-as-downloading i j peer (a .request .options .0) (a .draws .now))
+    (λ i j. listless (mark-as-downloading i j peer (a .request .options .0) (a .draws .now)) refl) _ _ _ _
+    (i .ensures) (j .ensures) (b .result) (b .ensures .is peer (a .request .options .0)) (c8 .enum-told .given .1) (x .result .edit)
     (x .ensures .1) _ _
-    (markAsDownloading (a .draws .now) (i .result) (j .result) peer (a .a .options .0))
-    (ap (λ (p : Option ℕ). changing (markAsDownloading (a .draws .now) (i .result) (j .result) p (a .a .options .0) (drawing 0 d)))
-    (lent-named (a .a .«has_peer») (a .a .peer) (request-wide (a .a) _ (c29 .good .1 .1 .1 .1 .1 .0)))) (x .result .answer)
-    (x .result .used) (x .ensures .0 .says) (x .ensures .0 .done)
+    (markAsDownloading (a .draws .now) (i .result) (j .result) peer (a .request .options .0))
+    (ap (λ (p : Option ℕ). changing (markAsDownloading (a .draws .now) (i .result) (j .result) p (a .request .options .0) (drawing 0 d)))
+    (lent-named (a .request .«has_peer») (a .request .peer) (request-wide (a .request) _ (c29 .good .1 .1 .1 .1 .1 .0))))
+    (x .result .answer) (x .result .used) (x .ensures .0 .says) (x .ensures .0 .done)
 
 pub mark-as-downloading-core-spec : {M : Type 1} → statement M
 mark-as-downloading-core-spec =
