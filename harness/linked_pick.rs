@@ -17,26 +17,25 @@ struct Request {
     bits: usize,
 }
 
-/// Where the output ends, the flags set and the draws used.
+/// Where the output ends, the flags set, the draws used and the steps of the seven loops.
 #[repr(C)]
 pub struct Picked {
     pub end: usize,
     pub flags: u32,
     pub used: usize,
+    pub loops: [u64; 7],
 }
 
 #[link(name = "link_pick", kind = "static")]
 extern "C" {
     fn pk_pick_pieces(words: *mut u64, words_len: usize, cells: *const u16, cells_len: usize, rows: *const u32, rows_len: usize,
         live: usize, counts: *const u16, counts_len: usize, g: Geometry, request: Request, bytes: *const u8, bytes_len: usize,
-        suggestions: *const i32, suggestions_len: usize, draws: *const u32, draws_len: usize, out: *mut u64, out_len: usize, end: usize,
-        loops: *mut [u64; 7]) -> Picked;
+        suggestions: *const i32, suggestions_len: usize, draws: *const u32, draws_len: usize, out: *mut u64, out_len: usize, end: usize) -> Picked;
 }
 
 /// A pick that no refusal stops: its blocks stand in the output from place `end` on.
 #[inline(always)]
-pub fn pick_pieces(lent: &mut Lent, pick: &Pick, suggestions: &[i32], draws: &[u32], out: &mut [u64], end: usize,
-    loops: &mut [u64; 7]) -> Picked {
+pub fn pick_pieces(lent: &mut Lent, pick: &Pick, suggestions: &[i32], draws: &[u32], out: &mut [u64], end: usize) -> Picked {
     let (live, geometry) = (lent.live(), lent.geometry());
     let request = Request {
         options: pick.options,
@@ -52,7 +51,7 @@ pub fn pick_pieces(lent: &mut Lent, pick: &Pick, suggestions: &[i32], draws: &[u
     unsafe {
         pk_pick_pieces(words.as_mut_ptr(), words.len(), cells.as_ptr(), cells.len(), lent.rows.as_ptr(), ROWS, live,
             lent.counts.as_ptr(), ROWS, geometry, request, pick.bytes.as_ptr(), pick.bytes.len(), suggestions.as_ptr(),
-            suggestions.len(), draws.as_ptr(), draws.len(), out.as_mut_ptr(), out.len(), end, loops)
+            suggestions.len(), draws.as_ptr(), draws.len(), out.as_mut_ptr(), out.len(), end)
     }
 }
 

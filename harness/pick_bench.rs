@@ -85,12 +85,12 @@ fn timed(fields: &Fields, pick: &Pick, dirty: bool) -> [f64; 2] {
     let mut lent = Lent::laid_out(&mut Rng::new(7), fields);
     assert!(lent.test() == 0, "the memory test refuses the buffers");
     let have = Bitfield::from_bytes(&pick.bytes, pick.bits as usize).expect("bytes enough");
-    let (mut out, mut blocks, mut loops) = (vec![0; 4600], Vec::new(), [0; 7]);
-    let ours = |lent: &mut Lent, out: &mut [u64], loops: &mut [u64; 7]| {
+    let (mut out, mut blocks) = (vec![0; 4600], Vec::new());
+    let ours = |lent: &mut Lent, out: &mut [u64]| {
         if dirty {
             (lent.words[5], lent.words[6]) = (1, 0);
         }
-        linked_pick::pick_pieces(lent, pick, &[], &WORDS, out, 0, loops)
+        linked_pick::pick_pieces(lent, pick, &[], &WORDS, out, 0)
     };
     let rusts = |rust: &mut PiecePicker, blocks: &mut Vec<PieceBlock>| {
         if dirty {
@@ -99,12 +99,12 @@ fn timed(fields: &Fields, pick: &Pick, dirty: bool) -> [f64; 2] {
         lend();
         theirs(rust, &have, pick, blocks)
     };
-    let (found, flags) = (ours(&mut lent, &mut out, &mut loops), rusts(&mut rust, &mut blocks));
+    let (found, flags) = (ours(&mut lent, &mut out), rusts(&mut rust, &mut blocks));
     let due: Vec<u64> = blocks.iter().map(|at| (at.piece_index.0 as u64) << 16 | at.block_index as u64).collect();
     assert!(out[..found.end] == due[..] && found.flags == flags && found.used as u64 == random::used(), "another pick");
     times([
         &mut || {
-            black_box(ours(black_box(&mut lent), &mut out, &mut loops));
+            black_box(ours(black_box(&mut lent), &mut out));
         },
         &mut || {
             black_box(rusts(black_box(&mut rust), &mut blocks));

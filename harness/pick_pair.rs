@@ -60,14 +60,13 @@ impl Pair {
         // some output from before, and sometimes more places than there have to be
         let (start, more) = (rng.place(4), rng.place(3));
         let mut out: Vec<u64> = (0..start + free as usize + more).map(untold).collect();
-        let mut loops = [7; 7];
-        let mut found = pick_pieces(&mut self.lent, pick, &suggestions_of(pick), draws, &mut out, start, &mut loops);
+        let mut found = pick_pieces(&mut self.lent, pick, &suggestions_of(pick), draws, &mut out, start);
         match spoilt {
             SpoiltPick::Nothing => {}
             SpoiltPick::Block if found.end > start => out[start] ^= 1,
             SpoiltPick::Fewer if found.end > start => found.end -= 1,
             SpoiltPick::Flags => found.flags ^= 4,
-            SpoiltPick::Loops => loops[3] += 1,
+            SpoiltPick::Loops => found.loops[3] += 1,
             SpoiltPick::Draws => found.used += 1,
             SpoiltPick::Before if start > 0 => out[0] ^= 1,
             SpoiltPick::Behind if found.end < out.len() => out[found.end] ^= 1,
@@ -81,9 +80,9 @@ impl Pair {
         if (0..out.len()).any(|k| (k < start || k >= found.end) && out[k] != untold(k)) {
             return Err("output before or behind the blocks moved".into());
         }
-        if (found.flags, loops, found.used as u64) != (due.flags, due.loops(), due.draws) {
+        if (found.flags, found.loops, found.used as u64) != (due.flags, due.loops(), due.draws) {
             let due = (due.flags, due.loops(), due.draws);
-            return Err(format!("flags, loops and draws {:?} where {due:?} are due", (found.flags, loops, found.used)));
+            return Err(format!("flags, loops and draws {:?} where {due:?} are due", (found.flags, found.loops, found.used)));
         }
         self.compare()?;
         Ok(PickMade { blocks: blocks.len(), flags: found.flags, used: found.used, differences })

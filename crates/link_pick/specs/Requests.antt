@@ -1,6 +1,4 @@
 -- What the numbers of a lent request and of an answer are to the pick itself. Assumes nothing.
-use Prim.Native.Nat.{ℕ}
-use mathlib.Core.List.{List}
 use Rattle.types.specs.declared.options.PickerOptions.{PickerOptions}
 use Rattle.pick_state.specs.declared.request.PickRequest.{PickRequest}
 use Rattle.pick_pieces.specs.declared.pieces.Picked.{Picked}
@@ -20,6 +18,18 @@ asked r =
       bits = r .bits;
     }
 
--- the answer, with the counters that were lent
-abbrev pub gave : (r : PickEnd) (loops : List ℕ) → Picked
-gave r loops = record { end = r .end; flags = r .flags; used = r .used; loops = loops }
+-- the answer, field by field
+abbrev pub gave : (r : PickEnd) → Picked
+gave r =
+    record {
+      end = r .end;
+      flags = r .flags;
+      used = r .used;
+      «partial_loops» = r .«partial_loops»;
+      «suggest_loops» = r .«suggest_loops»;
+      «reverse_rare_loops» = r .«reverse_rare_loops»;
+      «rare_loops» = r .«rare_loops»;
+      «rand_start_loops» = r .«rand_start_loops»;
+      «rand_loops» = r .«rand_loops»;
+      «busy_loops» = r .«busy_loops»;
+    }

@@ -29,12 +29,19 @@ pub struct Request {
     pub bits: usize,
 }
 
-// Where the output ends, the flags set and the draws used.
+// Where the output ends, the flags set, the draws used and the steps of the seven loops.
 #[repr(C)]
 pub struct PickEnd {
     pub end: usize,
     pub flags: u32,
     pub used: usize,
+    pub partial_loops: u64,
+    pub suggest_loops: u64,
+    pub reverse_rare_loops: u64,
+    pub rare_loops: u64,
+    pub rand_start_loops: u64,
+    pub rand_loops: u64,
+    pub busy_loops: u64,
 }
 
 #[no_mangle]
@@ -51,7 +58,6 @@ pub extern "C" fn pk_pick_pieces(
     draws: &[u32],
     out: &mut [u64],
     end: usize,
-    loops: &mut [u64; 7],
 ) -> PickEnd
     requires { ⌜ Picks (shaped (g .pieces) (g .blocks) (g .places)) live (now rows) (now words) (now cells) (asked request) ⌝ }
     requires { ⌜ (CountsHeld (pickerIn live (now rows) (now words) (now cells)) live (now counts)) × (length (now counts) ≡ 1536) ⌝ }
@@ -59,7 +65,7 @@ pub extern "C" fn pk_pick_pieces(
     ensures { λ r. ⌜ PickGave (pickPieces (now (draws .entry)) (pickerIn live (now (rows .entry)) (now (words .entry)) (now (cells .entry)))
         (requestWith (asked request) (now (bytes .entry)) (each numberOf (now (suggestions .entry)))))
         (pickerIn live (now (rows .entry)) (now (words .exit)) (now (cells .entry))) end (now (out .entry)) (now (out .exit))
-        (gave r (now (loops .exit))) ⌝ }
+        (gave r) ⌝ }
     ensures { λ _. ⌜ PickLeft (shaped (g .pieces) (g .blocks) (g .places)) live (now (rows .entry)) (now (words .entry)) (now (words .exit))
         (now (cells .entry)) (asked request) ⌝ }
 {
@@ -91,11 +97,16 @@ pub extern "C" fn pk_pick_pieces(
         out,
         end,
     );
-    let counted = r.loops;
-    *loops = counted;
     PickEnd {
         end: r.end,
         flags: r.flags,
         used: r.used,
+        partial_loops: r.partial_loops,
+        suggest_loops: r.suggest_loops,
+        reverse_rare_loops: r.reverse_rare_loops,
+        rare_loops: r.rare_loops,
+        rand_start_loops: r.rand_start_loops,
+        rand_loops: r.rand_loops,
+        busy_loops: r.busy_loops,
     }
 }
