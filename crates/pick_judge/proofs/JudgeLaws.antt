@@ -4,7 +4,6 @@ use mathlib.Core.Bool.{Bool, true, false, not, _&&_}
 use mathlib.Core.List.{List, [], _∷_}
 use mathlib.Core.Option.{Option, none, some}
 use Prim.Native.Nat.{ℕ, suc, _+_, _%_, _≤_, _<_}
-use native.Mathlib.Omega.{arith}
 use lib.Dec.{eqb, ltb, leb}
 use lib.IntN.{ℤ}
 use lib.ListN.{length}
@@ -19,14 +18,12 @@ use Rattle.model.specs.State.{Picker, piecesIn}
 use Rattle.model.specs.Options.{rarestFirst, sequential}
 use Rattle.model.specs.list.Order.{Draws}
 use Rattle.model.specs.pick.Blocks.{PickRequest, option}
-use Rattle.model.specs.Calls.{Action, pick-pieces, check, refuseFewDraws, bitfieldFits, requestFits, refusal}
+use Rattle.model.specs.Calls.{pick-pieces, check, refuseFewDraws, bitfieldFits, requestFits, refusal}
 use Rattle.model.proofs.base.Truths.{and-left, and-right}
 use Rattle.memory_layout.specs.declared.shape.Shape.{Shape}
 use Rattle.pick_state.specs.declared.request.PickRequest.{PickRequest as Request}
 use Rattle.pick_start.specs.Starting.{requestWith}
-use Rattle.picker_calls.specs.declared.judgement.Judgement.{Judgement}
 use Rattle.picker_calls.specs.declared.judgement.Judgement.the-variants.{Refused, Passed}
-use Rattle.picker_calls.specs.Outcomes.{judged}
 use Rattle.pick_judge.specs.declared.arguments.PickInput.{PickInput}
 use Rattle.pick_judge.specs.Asking.{requestNumbers, numbersFit, RequestSays, PickJudged}
 

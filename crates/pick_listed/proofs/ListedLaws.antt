@@ -3,7 +3,7 @@
 use mathlib.Core.Path.{_≡_, refl, sym, ap, ap₂, _∙_}
 use mathlib.Core.Bool.{Bool, true, false}
 use mathlib.Core.List.{List}
-use Prim.Native.Nat.{ℕ, _+_, _≤_}
+use Prim.Native.Nat.{ℕ, _≤_}
 use native.Mathlib.Omega.{arith}
 use borrow.Author.Tests.{ne-eqb, eq-eqb}
 use Rattle.model.specs.Lists.{len, unless, when}
@@ -31,9 +31,9 @@ use Rattle.pick_state.specs.Room.{Underway}
 use Rattle.pick_state.proofs.DidLaws.{kept-same, kept-then}
 use Rattle.pick_state.proofs.RoomLaws.{underway-same}
 use Rattle.pick_free.specs.Picking.{Picks}
-use Rattle.pick_visits.specs.Steps.{Stepped, SteppedBeside}
+use Rattle.pick_visits.specs.Steps.{Stepped}
 use Rattle.pick_extents.specs.Extents.{Moved}
-use Rattle.pick_extents.proofs.MoveLaws.{underway-beside, stepped-moved, moved-as, moved-then}
+use Rattle.pick_extents.proofs.MoveLaws.{underway-beside, stepped-moved, moved-as}
 use Rattle.pick_listed.specs.Listed.{withUsed, walkListed}
 
 -- ---- the list

@@ -2,15 +2,15 @@
 use mathlib.Core.Path.{_≡_, refl, sym, ap, subst, _∙_}
 use mathlib.Core.Bool.{Bool, true, false}
 use mathlib.Core.List.{List, [], _∷_}
-use Prim.Native.Nat.{ℕ, zero, suc, _+_, _≤_, _<_}
+use Prim.Native.Nat.{ℕ, zero, suc, _≤_}
 use native.Mathlib.Omega.{arith}
 use lib.ListN.{length, getD, replicate, length-replicate}
 use Rattle.model.specs.Lists.{nth}
-use Rattle.model.specs.State.{Picker, maxPieces}
+use Rattle.model.specs.State.{maxPieces}
 use Rattle.model.specs.Options.{numCounters}
 use Rattle.model.specs.list.Order.{Draws}
 use Rattle.model.specs.pick.Blocks.{PickRequest, PickState}
-use Rattle.model.specs.pick.Pick.{isForced, effectiveRequest, startPick, phases, pickPieces}
+use Rattle.model.specs.pick.Pick.{isForced, startPick, phases, pickPieces}
 use Rattle.memory_layout.specs.declared.shape.Shape.{Shape}
 use Rattle.memory_rows.specs.Lookup.{pickerIn}
 use Rattle.pick_state.specs.declared.numbers.PickNumbers.{PickNumbers}
@@ -18,7 +18,7 @@ use Rattle.pick_state.specs.declared.request.PickRequest.{PickRequest as Reques
 use Rattle.pick_state.specs.Requests.{requestOf}
 use Rattle.pick_state.specs.PickStates.{stateOf}
 use Rattle.pick_free.specs.Picking.{Picks}
-use Rattle.pick_start.specs.Starting.{ForcedSays, requestWith, forcedNumbers, effectiveNumbers, startNumbers}
+use Rattle.pick_start.specs.Starting.{requestWith, forcedNumbers, effectiveNumbers, startNumbers}
 use Rattle.pick_start.proofs.StartLaws.{Begun, start-begun, effective-is, start-is}
 use Rattle.pick_pieces.specs.declared.pieces.Picked.{Picked}
 use Rattle.pick_pieces.specs.Whole.{pickPhases, Ended, LowLoops, loopsOf, PickGave, PickLeft}

@@ -7,16 +7,15 @@ use mathlib.Core.Option.{Option, none, some}
 use Prim.Native.Nat.{ℕ, _+_, _≤_}
 use native.Mathlib.Omega.{arith}
 use borrow.Author.Tests.{lt-leb}
-use lib.ListN.{length}
 use Rattle.model.specs.Lists.{walk}
 use Rattle.model.specs.State.{Picker}
 use Rattle.model.specs.Options.{partialLoops, suggestLoops, rareLoops, reverseRareLoops}
-use Rattle.model.specs.list.Order.{Draws, drawing, updatePieces}
+use Rattle.model.specs.list.Order.{Draws, drawing}
 use Rattle.model.specs.pick.Blocks.{PickRequest, PickState, spent, withOut, withBackup, withPicker, ignore, flagged, steps, enoughAside}
 use Rattle.model.specs.pick.Pick.{pickPartials, suggest, forgetExtent, withListUpdated, pickListed}
 use Rattle.model.proofs.base.WalkLaws.{walk-keeps}
 use Rattle.model.proofs.list.ListingLaws.{updatePieces-used}
-use Rattle.model.proofs.pick.FrameLaws.{Blind, anyPartial}
+use Rattle.model.proofs.pick.FrameLaws.{anyPartial}
 use Rattle.model.proofs.pick.PhaseLaws.{Kept, blind-kept, pickPartials-keeps, suggest-keeps, pickListed-keeps}
 use Rattle.model.proofs.pick.SoundPick.{sound-sized}
 use Rattle.model.specs.image.Sound.{Sound}

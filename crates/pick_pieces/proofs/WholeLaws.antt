@@ -2,10 +2,9 @@
 use mathlib.Core.Path.{_≡_, refl, sym, ap, ap₂, _∙_}
 use mathlib.Core.Bool.{Bool, true, false, _||_}
 use mathlib.Core.List.{List}
-use Prim.Native.Nat.{ℕ, _+_, _-_, _≤_, _<_}
+use Prim.Native.Nat.{ℕ, _+_, _≤_}
 use native.Mathlib.Omega.{arith}
 use borrow.Author.Tests.{ne-eqb, eq-eqb}
-use lib.Dec.{eqb}
 use lib.ListN.{length}
 use Rattle.model.specs.Lists.{unless, branch, walk}
 use Rattle.model.specs.State.{Picker}
@@ -13,19 +12,17 @@ use Rattle.model.specs.Options.{sequential, rarestFirst}
 use Rattle.model.specs.list.Order.{Draws}
 use Rattle.model.specs.pick.Blocks.{PickRequest, PickState, option, spent}
 use Rattle.model.specs.pick.Pick.{pickPartials, suggest, pickListed, pickRandom, pickMain, pickRest, phases}
-use Rattle.model.specs.image.Sound.{Sound}
 use Rattle.memory_layout.specs.declared.shape.Shape.{Shape}
-use Rattle.memory_layout.proofs.BoundsLaws.{words-kept-again}
 use Rattle.memory_rows.specs.Lookup.{pickerIn}
 use Rattle.pick_state.specs.declared.numbers.PickNumbers.{PickNumbers}
 use Rattle.pick_state.specs.declared.request.PickRequest.{PickRequest as Request}
 use Rattle.pick_state.specs.Requests.{requestOf}
 use Rattle.pick_state.specs.PickStates.{stateOf}
-use Rattle.pick_state.specs.Room.{Underway, Working}
+use Rattle.pick_state.specs.Room.{Underway}
 use Rattle.pick_state.proofs.DidLaws.{kept-then}
-use Rattle.pick_state.proofs.RoomLaws.{working-left, working-aside, working-marks, working-unspent}
+use Rattle.pick_state.proofs.RoomLaws.{working-left, working-aside, working-marks}
 use Rattle.pick_free.specs.Picking.{Picks}
-use Rattle.pick_visits.specs.Steps.{Stepped, Risen}
+use Rattle.pick_visits.specs.Steps.{Stepped}
 use Rattle.pick_visits.proofs.VisitLaws.{picks-sound}
 use Rattle.pick_visits.proofs.StepLaws.{stepped-then, stepped-as, did-spent, did-unspent}
 use Rattle.pick_extents.specs.Extents.{Moved}

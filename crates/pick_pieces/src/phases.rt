@@ -9,7 +9,7 @@ use pick_state::PickRequest;
 use pick_visits::pick_suggested;
 use types::PickerOptions;
 ghost use mathlib.Core.Path.{_≡_};
-ghost use Prim.Native.Nat.{_+_, _≤_};
+ghost use Prim.Native.Nat.{_≤_};
 ghost use lib.ListN.{length};
 ghost use Rattle.types.specs.Piece.{numberOf};
 ghost use Rattle.model.specs.Lists.{each};

@@ -1,22 +1,21 @@
 -- The forcing rule from the rows: the partials counted, and where they need not be. Assumes nothing.
 use mathlib.Core.Path.{_≡_, refl, sym, ap, ap₂, _∙_}
-use mathlib.Core.Bool.{Bool, true, false, _||_, _&&_}
-use mathlib.Core.List.{List, [], _∷_, _++_}
-use Prim.Native.Nat.{ℕ, suc, _+_, _*_, _/_, _≤_, _<_}
+use mathlib.Core.Bool.{Bool, true, false, _||_}
+use mathlib.Core.List.{List, [], _∷_}
+use Prim.Native.Nat.{ℕ, suc, _+_, _*_, _/_, _≤_}
 use native.Mathlib.Nat.{mul-le-mul}
 use native.Mathlib.Omega.{arith}
-use lib.Dec.{eqb, ltb, leb}
+use lib.Dec.{eqb, ltb}
 use lib.ListN.{length, length-append}
-use borrow.Author.Tests.{ltb-true, le-ltb, leb-true}
+use borrow.Author.Tests.{le-ltb}
 use Rattle.types.specs.declared.queue.DownloadQueue.{DownloadQueue}
 use Rattle.types.specs.declared.queue.DownloadQueue.the-variants.{Downloading}
 use Rattle.types.specs.Queue.{queueNumber}
 use Rattle.model.specs.Lists.{bit, each, len}
-use Rattle.model.specs.State.{DownloadingPiece, Picker, sameQueue, blocksPerPiece}
+use Rattle.model.specs.State.{DownloadingPiece, sameQueue, blocksPerPiece}
 use Rattle.model.specs.change.Partials.{inQueue}
 use Rattle.model.specs.pick.Blocks.{PickRequest}
 use Rattle.model.specs.pick.Pick.{forced, isForced}
-use Rattle.model.proofs.base.Truths.{and-left, and-right}
 use Rattle.memory_records.specs.Rows.{recordsIn}
 use Rattle.memory_layout.specs.declared.shape.Shape.{Shape}
 use Rattle.memory_layout.specs.Changes.{partialIn}

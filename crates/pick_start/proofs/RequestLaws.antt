@@ -1,22 +1,22 @@
 -- Suggestions belong to their own phase: every other part of a pick is the same without them. Assumes nothing.
-use mathlib.Core.Path.{_≡_, refl, sym, ap, ap₂, _∙_, fun-ext}
-use mathlib.Core.Bool.{Bool, true, false, cond, not, _&&_, _||_}
-use mathlib.Core.List.{List, [], _∷_}
+use mathlib.Core.Path.{_≡_, refl, ap, fun-ext}
+use mathlib.Core.Bool.{false, cond}
+use mathlib.Core.List.{List}
 use mathlib.Core.Option.{Option, none, some}
-use Prim.Native.Nat.{ℕ, zero, suc, _+_, _-_}
-use Rattle.model.specs.Lists.{unless, when, branch, walk, forEach, repeat}
+use Prim.Native.Nat.{ℕ, zero, suc, _-_}
+use Rattle.model.specs.Lists.{walk, repeat}
 use Rattle.model.specs.State.{DownloadingPiece, Picker}
 use Rattle.model.specs.list.Order.{Draws}
-use Rattle.model.specs.pick.Blocks.{PickRequest, option, hasBit, PickState, spent, isPieceFree, canPick, downBy, upBy, Span, lowestStart}
+use Rattle.model.specs.pick.Blocks.{PickRequest, option, hasBit, PickState, spent, isPieceFree, canPick, downBy, upBy, lowestStart}
 use Rattle.model.specs.pick.Blocks.{spanFrom, spanOf}
 use Rattle.model.specs.pick.Blocks.{expandPiece, addNewPiece, addBlocksDownloading, addPartialOf, addStanding, addBlocks}
 use Rattle.model.specs.pick.Pick.{usable, scanStep, scanPartials, byRarity, orderedPartials, partialStep, walkPartials, pickScanned}
 use Rattle.model.specs.pick.Pick.{pickPartials}
 use Rattle.model.specs.pick.Pick.{visit, suggest, pickSuggested, visitBelowTop, pickRange, pickSequential, inRange, visitOutside, rareStep}
 use Rattle.model.specs.pick.Pick.{reverseRareStep, extentStep, pickExtents, pickForward, pickRarest, RandomWalk, standsOpen, skipDone, skip}
-use Rattle.model.specs.pick.Pick.{randomSpan, randomPiece, randomVisit, marked, ended, lapEnds, lapFrom, lapStep, walkOver, ringFuel, trace}
+use Rattle.model.specs.pick.Pick.{randomSpan, randomPiece, randomVisit, lapEnds, lapFrom, lapStep, walkOver, ringFuel, trace}
 use Rattle.model.specs.pick.Pick.{ring}
-use Rattle.model.specs.pick.Pick.{pickRandom, busyBlocks, fullPartials, endGameStep, pickEndGame, withListUpdated, pickListed, pickMain}
+use Rattle.model.specs.pick.Pick.{pickRandom, busyBlocks, fullPartials, endGameStep, pickEndGame, pickListed, pickMain}
 use Rattle.model.specs.pick.Pick.{pickRest}
 use Rattle.pick_state.specs.declared.request.PickRequest.{PickRequest as Request}
 use Rattle.pick_state.specs.Requests.{requestOf}

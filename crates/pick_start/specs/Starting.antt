@@ -5,7 +5,6 @@ use mathlib.Core.Bool.{Bool, cond}
 use mathlib.Core.List.{List}
 use lib.Dec.{ltb}
 use Rattle.types.specs.Bits.{union}
-use Rattle.types.specs.declared.options.PickerOptions.{PickerOptions}
 use Rattle.model.specs.Options.{prioritizePartials, partialRatio, preferContiguous}
 use Rattle.model.specs.pick.Blocks.{PickRequest}
 use Rattle.model.specs.pick.Pick.{isForced}

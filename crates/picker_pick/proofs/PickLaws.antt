@@ -3,11 +3,11 @@ use mathlib.Core.Path.{_≡_, refl, sym, ap, ap₂, subst, _∙_}
 use mathlib.Core.Bool.{Bool, true, false, not, _&&_}
 use mathlib.Core.List.{List}
 use mathlib.Core.Option.{Option, none, some}
-use Prim.Native.Nat.{ℕ, _+_, _-_, _%_, _≤_, _<_}
+use Prim.Native.Nat.{ℕ, _+_, _-_, _%_}
 use native.Mathlib.Omega.{arith}
 use lib.Dec.{eqb, ltb, leb}
 use lib.IntN.{ℤ}
-use lib.ListN.{length, getD}
+use lib.ListN.{length}
 use borrow.Author.Tests.{leb-true, ltb-false, eqb-true, not-false}
 use Rattle.types.specs.Piece.{numberOf}
 use Rattle.types.specs.declared.refusal.Refusal.{Refusal}
@@ -16,16 +16,15 @@ use Rattle.model.specs.Lists.{len, each}
 use Rattle.model.specs.Bep3.{bitfieldBytes}
 use Rattle.model.specs.State.{Picker, piecesIn}
 use Rattle.model.specs.Options.{rarestFirst, sequential}
-use Rattle.model.specs.list.Order.{Draws, rank}
-use Rattle.model.specs.pick.Blocks.{PickRequest, PickState, option}
+use Rattle.model.specs.list.Order.{Draws}
+use Rattle.model.specs.pick.Blocks.{PickRequest, option}
 use Rattle.model.specs.pick.Pick.{pickPieces}
-use Rattle.model.specs.Calls.{Action, pick-pieces, picked, answering, picking, lentPeer, lentRequest, check, refuseFewDraws, bitfieldFits}
+use Rattle.model.specs.Calls.{pick-pieces, picked, answering, picking, lentPeer, lentRequest, check, refuseFewDraws, bitfieldFits}
 use Rattle.model.specs.Calls.{requestFits, refusal, act}
 use Rattle.model.proofs.base.Truths.{and-left, and-right, four-true}
 use Rattle.model.proofs.keep.KeepCalls.{check-none}
-use Rattle.memory_records.specs.declared.record.DownloadingPiece.{DownloadingPiece as Record}
 use Rattle.memory_records.specs.declared.edits.Edit.the-variants.{Keep}
-use Rattle.memory_records.specs.Rows.{liveRecords, rowsOf, recordsIn}
+use Rattle.memory_records.specs.Rows.{liveRecords, recordsIn}
 use Rattle.memory_layout.specs.declared.shape.Shape.{Shape}
 use Rattle.memory_layout.specs.Decode.{headWord}
 use Rattle.memory_layout.specs.Standing.{Changed, editRecords}
@@ -52,7 +51,7 @@ use Rattle.picker_calls.specs.Calling.{ofMemory}
 use Rattle.picker_calls.specs.Outcomes.{judged}
 use Rattle.picker_calls.specs.Cores.{Listless, Stood, Admitted}
 use Rattle.picker_calls.proofs.CoreLaws.{keep-insert, stood-at, barred, denied, acted}
-use Rattle.picker_output.specs.Picking.{PickAnswer, notPicked, gave, pickAnswer, Appended, OutputKept}
+use Rattle.picker_output.specs.Picking.{notPicked, gave, pickAnswer, OutputKept}
 use Rattle.picker_pick.specs.Answers.{PickCore}
 
 -- ---- none of its refusals is 2

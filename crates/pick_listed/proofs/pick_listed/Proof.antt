@@ -1,7 +1,5 @@
 -- `pick_listed` meets its contract. Assumes nothing.
-use mathlib.Core.Path.{sym, ap, subst, _∙_}
-use Prim.Native.Nat.{ℕ, _≤_}
-use Rattle.pick_state.specs.declared.numbers.PickNumbers.{PickNumbers}
+use mathlib.Core.Path.{_∙_}
 use Rattle.pick_state.specs.Requests.{requestOf}
 use Rattle.pick_listed.proofs.ListedLaws.{listed-asks, updated-left, updated-picks, updated-underway, updated-moved, listed-whole}
 use Rattle.pick_listed.proofs.pick_listed.Statement.{statement}

@@ -1,5 +1,5 @@
 -- `pick_pieces` meets its contract: a call of the shape of `memory_records`, `walks/Pick`. Assumes nothing.
-use mathlib.Core.Path.{_≡_, refl}
+use mathlib.Core.Path.{refl}
 use mathlib.Core.List.{List}
 use Prim.Native.Nat.{ℕ}
 use lib.IntN.{ℤ}

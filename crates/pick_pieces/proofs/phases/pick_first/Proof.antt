@@ -1,5 +1,5 @@
 -- `pick_first` meets its contract. Assumes nothing.
-use mathlib.Core.Path.{refl, _∙_}
+use mathlib.Core.Path.{_∙_}
 use native.Mathlib.Omega.{arith}
 use Rattle.types.specs.Piece.{numberOf}
 use Rattle.model.specs.Lists.{each}

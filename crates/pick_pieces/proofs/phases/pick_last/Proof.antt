@@ -1,5 +1,5 @@
 -- `pick_last` meets its contract. Assumes nothing.
-use mathlib.Core.Path.{refl, _∙_}
+use mathlib.Core.Path.{_∙_}
 use native.Mathlib.Omega.{arith}
 use Rattle.pick_state.specs.Requests.{requestOf}
 use Rattle.pick_pieces.proofs.UsedLaws.{low-risen, low-most}

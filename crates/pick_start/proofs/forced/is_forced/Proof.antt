@@ -1,6 +1,5 @@
 -- `is_forced` meets its contract. Assumes nothing.
 use mathlib.Core.Path.{refl}
-use mathlib.Core.Bool.{_&&_}
 use lib.Dec.{leb}
 use Prim.Native.Nat.{_*_, _/_}
 use native.Mathlib.Omega.{arith}

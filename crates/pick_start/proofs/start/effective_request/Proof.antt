@@ -1,8 +1,5 @@
 -- `effective_request` meets its contract. Assumes nothing.
-use mathlib.Core.Path.{_≡_, refl, sym, ap, _∙_}
-use mathlib.Core.Bool.{Bool}
 use borrow.Author.Needs.{needs}
-use Rattle.pick_start.specs.Starting.{forcedNumbers, effectiveNumbers}
 use Rattle.pick_start.proofs.StartLaws.{forced-made, forced-kept}
 use Rattle.pick_start.proofs.start.effective_request.Statement.{statement}
 use Rattle.pick_start.proofs.start.effective_request.Tie as tie
