@@ -1,36 +1,35 @@
 -- The phase put together: steps counted, the order of the pick, the walk. Assumes nothing.
 use mathlib.Core.Path.{_≡_, refl, sym, ap, ap₂, _∙_}
-use mathlib.Core.Bool.{Bool, true, false, cond, not, _&&_}
+use mathlib.Core.Bool.{Bool, true, false, not, _&&_}
 use mathlib.Core.List.{List}
 use Prim.Native.Nat.{ℕ, _+_, _≤_, _<_}
 use native.Mathlib.Omega.{arith}
 use native.Mathlib.Decide.{ℕ-discrete}
-use lib.ListN.{length, getD, take, length-set}
+use lib.ListN.{length, getD, length-set}
 use lib.Seq.{getD-set-same, getD-set-other}
 use Rattle.types.specs.declared.queue.DownloadQueue.the-variants.{Downloading}
-use Rattle.types.specs.Bits.{meets, union}
-use Rattle.model.specs.Lists.{each, filter, len, nth, setNth, when, sortBy}
+use Rattle.types.specs.Bits.{meets}
+use Rattle.model.specs.Lists.{filter, len, nth, setNth, when}
 use Rattle.model.specs.State.{DownloadingPiece, Picker}
-use Rattle.model.specs.Options.{rarestFirst, onParole, prioritizePartials, rarestFirstPartials, partialLoops}
+use Rattle.model.specs.Options.{rarestFirst, onParole, prioritizePartials, partialLoops}
 use Rattle.model.specs.change.Partials.{inQueue}
-use Rattle.model.specs.pick.Blocks.{PickRequest, PickState, option, flagged, steps}
-use Rattle.model.specs.pick.Pick.{usable, scanPartials, partialCompareRarestFirst, byRarity, orderedPartials, walkPartials, pickScanned}
+use Rattle.model.specs.pick.Blocks.{PickRequest, PickState, option, steps}
+use Rattle.model.specs.pick.Pick.{usable, scanPartials, byRarity, orderedPartials, walkPartials, pickScanned}
 use Rattle.model.specs.pick.Pick.{pickPartials}
 use Rattle.model.proofs.pick.ScanLaws.{scan-work, scan-partials}
-use Rattle.memory_layout.specs.Changes.{partialIn}
 use Rattle.pick_state.specs.declared.numbers.PickNumbers.{PickNumbers}
 use Rattle.pick_state.specs.declared.request.PickRequest.{PickRequest as Request}
 use Rattle.pick_state.specs.Requests.{requestOf}
-use Rattle.pick_state.specs.PickStates.{withFlags, stateOf}
+use Rattle.pick_state.specs.PickStates.{stateOf}
 use Rattle.pick_state.specs.Room.{Underway}
 use Rattle.pick_state.proofs.DidLaws.{kept-none}
 use Rattle.pick_state.proofs.RoomLaws.{underway-same}
 use Rattle.pick_blocks.specs.Blocks.{PartialRoom}
-use Rattle.pick_scan.specs.Scans.{PlacesRise, Ordered}
+use Rattle.pick_busy.specs.Full.{PlacesIn}
+use Rattle.pick_scan.specs.Scans.{PlacesRise}
 use Rattle.pick_visits.specs.Steps.{Stepped, Risen}
 use Rattle.pick_visits.proofs.StepLaws.{stepped-none, stepped-then, stepped-as}
-use Rattle.pick_partials.specs.Phase.{MarksRoom, SteppedUnmarked, SteppedAlone, OrderedBy}
-use Rattle.pick_partials.proofs.WalkLaws.{flag-alone}
+use Rattle.pick_partials.specs.Phase.{MarksRoom, SteppedUnmarked, SteppedAlone, walkRarest, walkOrdered}
 
 -- beside the counters that there are
 pub marks-room : {d : Picker} {t : PickNumbers} {out aside loops : List ℕ} → MarksRoom d t out aside loops → PartialRoom d t out aside
@@ -75,52 +74,24 @@ rarity-is : (q : Request) (bytes : List ℕ)
 unfolding byRarity option requestOf
 rarity-is q bytes = refl
 
-module _ (q : Request) (d : Picker) (live many : ℕ) (t : PickNumbers) (row : List ℕ) (p : PlacesRise live many row) (b : Bool)
-    (e : b ≡ (meets (q .options .0) rarestFirst && not (meets (q .options .0) onParole))) where
-  -- by rising piece: as they were found
-  pub order-none : not b ≡ true → OrderedBy q d live many t t row row
-  unfolding orderedPartials when
-  order-none n =
-      let z : (bytes : List ℕ) → byRarity (requestOf q bytes) ≡ false = λ bytes. rarity-is q bytes ∙ sym e ∙ no b n in
-      record {
-        is = λ bytes. sym (ap (λ (c : Bool). cond c (sortBy (partialCompareRarestFirst d) (each (partialIn d) (take many row)))
-            (each (partialIn d) (take many row))) (z bytes));
-        flag = λ bytes out aside ignored loops u.
-            stepped-as (stepped-none u)
-            (λ start h. sym (when-no (flagged rarestFirstPartials) (stateOf start d t out aside ignored loops) (z bytes)));
-        wanted = refl;
-        places = record { few = let f = p .few in let m = p .most in omega arith; low = p .low; long = p .long };
-      }
-    where
-      no : (c : Bool) → not c ≡ true → c ≡ false
-      no true h = sym h
-      no false h = refl
-
-      when-no : {c : Bool} (f : PickState → PickState) (w : PickState) → c ≡ false → when c f w ≡ w
-      when-no f w h = ap (λ (x : Bool). when x f w) h
-
+module _ (q : Request) (bytes : List ℕ) (b : Bool)
+    (e : b ≡ (meets (q .options .0) rarestFirst && not (meets (q .options .0) onParole))) (ds : List DownloadingPiece)
+    {d : Picker} {t r : PickNumbers} {out aside out′ aside′ : List ℕ} where
   -- by rarity
-  pub order-some : not b ≡ false → (r : PickNumbers) (row′ : List ℕ) → Ordered d live many row row′
-      → r ≡ withFlags (union (t .flags) rarestFirstPartials) t → OrderedBy q d live many t r row row′
-  unfolding orderedPartials when withFlags
-  order-some n r row′ o f =
-      let z : (bytes : List ℕ) → byRarity (requestOf q bytes) ≡ true = λ bytes. rarity-is q bytes ∙ sym e ∙ yes b n in
-      record {
-        is = λ bytes. o .is ∙ sym (ap (λ (c : Bool). cond c (sortBy (partialCompareRarestFirst d) (each (partialIn d) (take many row)))
-            (each (partialIn d) (take many row))) (z bytes));
-        flag = λ bytes out aside ignored loops u.
-            stepped-as (flag-alone rarestFirstPartials r out aside f ignored loops u)
-            (λ start h. sym (when-yes (flagged rarestFirstPartials) (stateOf start d t out aside ignored loops) (z bytes)));
-        wanted = ap (λ (x : PickNumbers). x .left) f;
-        places = record { few = let x = p .few in let m = p .most in omega arith; low = o .low; long = o .long };
-      }
-    where
-      yes : (c : Bool) → not c ≡ false → c ≡ true
-      yes true h = refl
-      yes false h = sym h
+  pub ordered-some : b ≡ true → SteppedAlone (walkRarest (requestOf q bytes) d ds) d t r out aside out′ aside′
+      → SteppedAlone (walkOrdered (requestOf q bytes) d ds) d t r out aside out′ aside′
+  unfolding walkRarest walkOrdered orderedPartials when stateOf
+  ordered-some h x ignored loops u = stepped-as (x ignored loops u) (λ start g. rw (rarity-is q bytes ∙ sym e ∙ h) refl)
 
-      when-yes : {c : Bool} (f : PickState → PickState) (w : PickState) → c ≡ true → when c f w ≡ f w
-      when-yes f w h = ap (λ (x : Bool). when x f w) h
+  -- as they stand
+  pub ordered-none : b ≡ false → SteppedAlone (walkPartials (requestOf q bytes) ds) d t r out aside out′ aside′
+      → SteppedAlone (walkOrdered (requestOf q bytes) d ds) d t r out aside out′ aside′
+  unfolding walkOrdered orderedPartials when stateOf
+  ordered-none h x ignored loops u = stepped-as (x ignored loops u) (λ start g. rw (rarity-is q bytes ∙ sym e ∙ h) refl)
+
+-- places that rise are places
+pub rise-places : {live many : ℕ} {row : List ℕ} → PlacesRise live many row → PlacesIn live many row
+rise-places p = record { few = let f = p .few in let m = p .most in omega arith; low = p .low; long = p .long }
 
 -- ---- whether partials come first
 module _ (q : Request) (bytes : List ℕ) (r : Bool) (e : r ≡ meets (q .options .0) prioritizePartials) where
@@ -150,31 +121,24 @@ module _ (a : PickRequest) (d : Picker) where
       stepped-as (stepped-none u)
       (λ start h. sym (ap (λ (b : Bool). when b (λ v. pickScanned a (scanPartials a v)) (stateOf start d t out aside ignored loops)) e))
 
-  module _ (e : option prioritizePartials a ≡ true) (n : ℕ) (en : n ≡ len (inQueue Downloading d)) (found ordered : List DownloadingPiece)
-      (ef : found ≡ filter (usable a d) (inQueue Downloading d)) (eo : ordered ≡ orderedPartials a d found) where
+  module _ (e : option prioritizePartials a ≡ true) (n : ℕ) (en : n ≡ len (inQueue Downloading d)) (found : List DownloadingPiece)
+      (ef : found ≡ filter (usable a d) (inQueue Downloading d)) where
     -- the definition's steps, in the order of the code
-    phase-is : (w : PickState) → w .picker ≡ d
-        → walkPartials a ordered (when (byRarity a) (flagged rarestFirstPartials) (steps n partialLoops w)) ≡ pickPartials a w
-    unfolding pickPartials pickScanned steps when
+    phase-is : (w : PickState) → w .picker ≡ d → walkOrdered a d found (steps n partialLoops w) ≡ pickPartials a w
+    unfolding pickPartials pickScanned steps when walkOrdered
     phase-is w q = sym (
         ap (λ (b : Bool). when b (λ v. pickScanned a (scanPartials a v)) w) e
-        ∙ ap₂ (λ (v : PickState) (ds : List DownloadingPiece).
-        walkPartials a (orderedPartials a (v .picker) ds) (when (byRarity a) (flagged rarestFirstPartials) v))
-        (scan-work a w) (scan-partials a w)
-        ∙ ap (λ (p : Picker). walkPartials a (orderedPartials a p (filter (usable a p) (inQueue Downloading p)))
-        (when (byRarity a) (flagged rarestFirstPartials) (steps (len (inQueue Downloading p)) partialLoops w))) q
-        ∙ ap₂ (λ (ds : List DownloadingPiece) (m : ℕ).
-        walkPartials a ds (when (byRarity a) (flagged rarestFirstPartials) (steps m partialLoops w)))
-        (sym (eo ∙ ap (orderedPartials a d) ef)) (sym en))
+        ∙ ap₂ (λ (v : PickState) (ds : List DownloadingPiece). walkOrdered a (v .picker) ds v) (scan-work a w) (scan-partials a w)
+        ∙ ap (λ (p : Picker). walkOrdered a p (filter (usable a p) (inQueue Downloading p))
+        (steps (len (inQueue Downloading p)) partialLoops w)) q
+        ∙ ap₂ (λ (ds : List DownloadingPiece) (m : ℕ). walkOrdered a d ds (steps m partialLoops w)) (sym ef) (sym en))
 
-    pub phase-some : {t u r : PickNumbers} {out aside loops loops₁ out₁ aside₁ : List ℕ}
+    pub phase-some : {t r : PickNumbers} {out aside loops loops₁ out₁ aside₁ : List ℕ}
         → loops₁ ≡ setNth partialLoops (nth 0 loops partialLoops + n) loops
-        → SteppedAlone (when (byRarity a) (flagged rarestFirstPartials)) d t u out aside out aside
-        → SteppedAlone (walkPartials a ordered) d u r out aside out₁ aside₁
+        → SteppedAlone (walkOrdered a d found) d t r out aside out₁ aside₁
         → SteppedUnmarked (pickPartials a) d t r out aside loops out₁ aside₁ loops₁
     unfolding stateOf
-    phase-some {t = t} {out = out} {aside = aside} {loops = loops} {loops₁ = loops₁} el x y ignored g =
+    phase-some {t = t} {out = out} {aside = aside} {loops = loops} {loops₁ = loops₁} el y ignored g =
         let s = steps-stepped partialLoops n loops loops₁ el g in
-        let f = x ignored loops₁ (s .underway) in
-        stepped-as (stepped-then (stepped-then s f) (y ignored loops₁ (f .underway)))
+        stepped-as (stepped-then s (y ignored loops₁ (s .underway)))
         (λ start h. phase-is (stateOf start d t out aside ignored loops) refl)

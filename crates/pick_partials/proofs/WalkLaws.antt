@@ -2,7 +2,7 @@
 use mathlib.Core.Path.{_≡_, refl, sym, ap, _∙_}
 use mathlib.Core.Bool.{Bool, true, false}
 use mathlib.Core.List.{List, [], _∷_}
-use Prim.Native.Nat.{ℕ, suc, _+_, _-_, _≤_, _<_}
+use Prim.Native.Nat.{ℕ, zero, suc, _+_, _-_, _≤_, _<_}
 use native.Mathlib.Omega.{arith}
 use lib.Dec.{leb}
 use lib.ListN.{length, getD, take, drop}
@@ -27,7 +27,6 @@ use Rattle.pick_state.proofs.TakeLaws.{between-length}
 use Rattle.pick_state.proofs.RoomLaws.{working-left, working-marks, working-aside, working-tight, working-unspent, working-kept}
 use Rattle.pick_state.proofs.RoomLaws.{working-downloading}
 use Rattle.pick_state.proofs.RestLaws.{Rest, rest-start, rest-next, rest-end, rest-last}
-use Rattle.pick_order.proofs.HalvesLaws.{drop-over}
 use Rattle.pick_partial.specs.Adding.{BlocksDid}
 use Rattle.pick_blocks.specs.Blocks.{PartialRoom}
 use Rattle.pick_blocks.proofs.AddingLaws.{blocks-worked, partial-room}
@@ -172,6 +171,12 @@ rest-cons many j row h l =
     drop-cons (take many row) j 0 (omega (arith, length-take-le many row h))
     ∙ ap (λ (x : ℕ). x ∷ drop (suc j) (take many row)) (getD-take many row j 0 l)
     ∙ ap (λ (n : ℕ). getD row j 0 ∷ drop n (take many row)) (sym e)
+
+drop-over : (n : ℕ) (l : List ℕ) → length l ≤ n → drop n l ≡ []
+drop-over zero [] h = refl
+drop-over (suc n) [] h = refl
+drop-over zero (x ∷ xs) h = absurd (omega arith)
+drop-over (suc n) (x ∷ xs) h = drop-over n xs (omega arith)
 
 pub rest-none : (many j : ℕ) (row : List ℕ) → many ≤ length row → many ≤ j → drop j (take many row) ≡ []
 rest-none many j row h l = drop-over j (take many row) (omega (arith, length-take-le many row h))

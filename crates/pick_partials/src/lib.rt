@@ -1,5 +1,6 @@
 // The first phase of a pick: partials before all else, where they come first.
 mod phase;
+mod rarest;
 mod walks;
 
 pub use phase::pick_partials;

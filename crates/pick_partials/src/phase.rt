@@ -1,30 +1,29 @@
-// The phase: the scan, the order of a pick by rarity, the walk.
+// The phase: the scan, and the walk over what it found.
+use crate::rarest::walk_rarest;
 use crate::walks::walk_partials;
 use memory_layout::Shape;
-use pick_scan::order_partials;
 use pick_scan::scan_partials;
 use pick_state::PickNumbers;
 use pick_state::PickRequest;
-use pick_state::flagged;
-use types::PickerFlags;
 use types::PickerOptions;
 use types::usize_to_u64;
 ghost use mathlib.Core.Path.{_≡_};
 ghost use mathlib.Core.Bool.{_&&_, not};
 ghost use Prim.Native.Nat.{_+_, _≤_, _<_};
-ghost use lib.ListN.{length};
+ghost use lib.ListN.{length, take};
 ghost use Rattle.types.specs.Bits.{meets};
-ghost use Rattle.model.specs.Lists.{nth, setNth};
+ghost use Rattle.model.specs.Lists.{each, nth, setNth};
 ghost use Rattle.model.specs.Options.{rarestFirst, onParole};
 ghost use Rattle.model.specs.pick.Pick.{pickPartials};
+ghost use Rattle.memory_layout.specs.Changes.{partialIn};
 ghost use Rattle.check_partials.specs.Records.{CountsHeld};
 ghost use Rattle.memory_rows.specs.Lookup.{pickerIn};
-ghost use Rattle.ask_picker.specs.Asked.{Asked};
 ghost use Rattle.pick_state.specs.Requests.{requestOf};
 ghost use Rattle.pick_free.specs.Picking.{Picks};
+ghost use Rattle.pick_blocks.specs.Blocks.{PartialRoom};
 ghost use Rattle.pick_visits.specs.Steps.{Risen};
 ghost use Rattle.pick_scan.specs.Scans.{PlacesRise};
-ghost use Rattle.pick_partials.specs.Phase.{MarksRoom, SteppedUnmarked, OrderedBy};
+ghost use Rattle.pick_partials.specs.Phase.{walkOrdered, MarksRoom, SteppedUnmarked, SteppedAlone};
 
 // n steps more on a counter.
 fn count_steps(loops: &mut [u64], counter: usize, n: usize)
@@ -43,8 +42,8 @@ fn by_rarity(q: PickRequest) -> bool
     rarest & !parole
 }
 
-// The partials at the first places of a row in the order of the pick, and its flag.
-fn order_found(
+// The partials at the first places of a row, by rarity or as they stand there.
+fn walk_ordered(
     words: &[u64],
     cells: &[u16],
     rows: &[u32],
@@ -52,21 +51,54 @@ fn order_found(
     counts: &[u16],
     s: Shape,
     q: PickRequest,
+    bytes: &[u8],
+    out: &mut [u64],
+    aside: &mut [u64],
     t: PickNumbers,
-    places: &mut [u16; 512],
+    places: &[u16; 512],
     many: usize,
 ) -> PickNumbers
-    requires { ⌜ Asked s live (now rows) (now words) (now cells) ⌝ }
+    requires { ⌜ Picks s live (now rows) (now words) (now cells) q ⌝ }
     requires { ⌜ (CountsHeld (pickerIn live (now rows) (now words) (now cells)) live (now counts)) × (length (now counts) ≡ 1536) ⌝ }
-    requires { ⌜ PlacesRise live many (now places) ⌝ }
-    ensures { λ r. ⌜ OrderedBy q (pickerIn live (now (rows .entry)) (now (words .entry)) (now (cells .entry))) live many t r
-        (now (places .entry)) (now (places .exit)) ⌝ }
+    requires { ⌜ PartialRoom (pickerIn live (now rows) (now words) (now cells)) t (now out) (now aside) ⌝ }
+    requires { ⌜ (1 ≤ t .left) × (PlacesRise live many (now places)) ⌝ }
+    ensures { λ r. ⌜ SteppedAlone (walkOrdered (requestOf q (now (bytes .entry)))
+        (pickerIn live (now (rows .entry)) (now (words .entry)) (now (cells .entry)))
+        (each (partialIn (pickerIn live (now (rows .entry)) (now (words .entry)) (now (cells .entry)))) (take many (now (places .entry)))))
+        (pickerIn live (now (rows .entry)) (now (words .entry)) (now (cells .entry))) t r
+        (now (out .entry)) (now (aside .entry)) (now (out .exit)) (now (aside .exit)) ⌝ }
 {
-    if !by_rarity(q) {
-        return t;
+    if by_rarity(q) {
+        return walk_rarest(
+            words,
+            cells,
+            rows,
+            live,
+            counts,
+            s,
+            q,
+            bytes,
+            out,
+            aside,
+            t,
+            places,
+            many,
+        );
     }
-    order_partials(words, cells, rows, live, counts, s, places, many);
-    flagged(t, PickerFlags::RAREST_FIRST_PARTIALS)
+    walk_partials(
+        words,
+        cells,
+        rows,
+        live,
+        s,
+        q,
+        bytes,
+        out,
+        aside,
+        t,
+        places,
+        many,
+    )
 }
 
 // Partials in turn, where they come first: by rarity or by rising piece.
@@ -99,20 +131,19 @@ pub fn pick_partials(
     let mut places = [0; 512];
     let found = scan_partials(words, cells, rows, live, s, q, bytes, &mut places);
     count_steps(loops, 0, found.downloading);
-    let many = found.many;
-    let u = order_found(words, cells, rows, live, counts, s, q, t, &mut places, many);
-    walk_partials(
+    walk_ordered(
         words,
         cells,
         rows,
         live,
+        counts,
         s,
         q,
         bytes,
         out,
         aside,
-        u,
+        t,
         &places,
-        many,
+        found.many,
     )
 }

@@ -4,7 +4,7 @@ use mathlib.Core.List.{List}
 use Prim.Native.Nat.{ℕ, _+_, _-_, _*_, _≤_, _<_}
 use native.Mathlib.Decide.{ℕ-discrete}
 use native.Mathlib.Omega.{arith}
-use lib.ListN.{length, getD, set, take, replicate, length-set, length-replicate}
+use lib.ListN.{length, getD, set, take, length-set}
 use lib.Seq.{getD-set-same, getD-set-other, getD-take, length-take-le, ext-getD}
 use Rattle.types.specs.declared.block.BlockState.the-variants.{Requested, Writing, Finished}
 use Rattle.model.specs.Lists.{each, len}
@@ -103,7 +103,3 @@ module _ (f : ℕ → ℕ) (xs : List ℕ) where
             ∙ sym (each-at f (take many xs) i 0 (omega arith)));
         long = g .long;
       }
-
--- the front of a row of zeros
-pub zeros-take : (size many : ℕ) → many ≤ size → length (take many (replicate {A = ℕ} size 0)) ≡ many
-zeros-take size many h = length-take-le many (replicate {A = ℕ} size 0) (omega (arith, length-replicate {A = ℕ} size 0))

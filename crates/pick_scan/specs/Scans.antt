@@ -3,14 +3,14 @@ use Prim.Native.Nat.{ℕ, suc, _+_, _-_, _*_, _≤_, _<_}
 use mathlib.Core.Path.{_≡_}
 use mathlib.Core.Bool.{Bool, true, _&&_}
 use mathlib.Core.List.{List, [], _∷_}
-use lib.Dec.{leb}
+use lib.Dec.{ltb, leb}
 use lib.ListN.{length, getD, take}
 use Rattle.types.specs.declared.queue.DownloadQueue.the-variants.{Downloading}
-use Rattle.model.specs.Lists.{filter, each, len, sortBy}
+use Rattle.model.specs.Lists.{filter, every, each, len}
 use Rattle.model.specs.State.{DownloadingPiece, Picker, sameQueue, pieceAt}
 use Rattle.model.specs.change.Partials.{progress, inQueue}
 use Rattle.model.specs.pick.Blocks.{PickRequest}
-use Rattle.model.specs.pick.Pick.{usable, partialCompareRarestFirst}
+use Rattle.model.specs.pick.Pick.{usable}
 use Rattle.memory_layout.specs.Changes.{partialIn}
 use Rattle.memory_queues.specs.Queues.{queueIn}
 use Rattle.pick_scan.specs.declared.found.Scan.{Scan}
@@ -33,6 +33,10 @@ pub record PlacesRise (live many : ℕ) (row : List ℕ) : Type 0 where
   pub rise : climbs 0 (take many row) ≡ true
   pub long : length row ≡ 512
 
+-- each number is below the bound
+unfoldable pub below : (bound : ℕ) (l : List ℕ) → Bool
+below bound l = every (λ x. ltb x bound) l
+
 -- they are those of the definition's scan, and its steps are counted
 pub record Scanned (a : PickRequest) (d : Picker) (live : ℕ) (r : Scan) (row : List ℕ) : Type 0 where
   pub is : each (partialIn d) (take (r .many) row) ≡ filter (usable a d) (inQueue Downloading d)
@@ -53,9 +57,3 @@ orderOf d p = pieceAt d (p .piece) .peerCount * 512 + (256 - progress p)
 -- with its place, which tells equals apart
 unfoldable pub keyOf : (d : Picker) (k : ℕ) → ℕ
 keyOf d k = orderOf d (partialIn d k) * 512 + k
-
--- the first of a row were put in the definition's order
-pub record Ordered (d : Picker) (live many : ℕ) (row row′ : List ℕ) : Type 0 where
-  pub is : each (partialIn d) (take many row′) ≡ sortBy (partialCompareRarestFirst d) (each (partialIn d) (take many row))
-  pub low : (j : ℕ) → j < many → getD row′ j 0 < live
-  pub long : length row′ ≡ 512

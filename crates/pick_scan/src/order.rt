@@ -1,23 +1,22 @@
-// The places of partials put in the order of a pick by rarity: fewer peers first, then more blocks at work, then the lower piece. Each
-// partial is one number, so that its blocks and its peers are looked at once.
+// The order of partials in a pick by rarity: fewer peers first, then more blocks at work, then the lower piece. Each partial is one number,
+// so that its blocks and its peers are looked at once; the number ends with its place.
 use memory_fields::peer_count;
 use memory_layout::Shape;
 use memory_rows::finished;
 use memory_rows::requested;
 use memory_rows::writing;
-use pick_order::sort;
 use types::u16_to_usize;
 use types::u32_to_usize;
 use types::usize_to_u32;
 ghost use mathlib.Core.Path.{_≡_};
-ghost use Prim.Native.Nat.{_%_, _≤_, _<_};
+ghost use Prim.Native.Nat.{_≤_, _<_};
 ghost use lib.ListN.{length};
 ghost use Rattle.model.specs.change.Partials.{progress};
 ghost use Rattle.memory_layout.specs.Changes.{partialIn};
 ghost use Rattle.check_partials.specs.Records.{CountsHeld};
 ghost use Rattle.memory_rows.specs.Lookup.{pickerIn};
 ghost use Rattle.ask_picker.specs.Asked.{Asked};
-ghost use Rattle.pick_scan.specs.Scans.{keyOf, Gives, PlacesRise, Ordered};
+ghost use Rattle.pick_scan.specs.Scans.{keyOf, Gives, PlacesRise};
 
 // How many blocks of partial k are not free, by the counts that the memory test left.
 fn progress_of(
@@ -62,7 +61,7 @@ fn key_of(
 }
 
 // Those of the first places.
-fn keys_of(
+pub fn keys_of(
     words: &[u64],
     cells: &[u16],
     rows: &[u32],
@@ -84,40 +83,4 @@ fn keys_of(
         keys[j] = key_of(words, cells, rows, live, counts, s, u16_to_usize(places[j]));
         j += 1;
     }
-}
-
-// The places that numbers end with.
-fn places_of(keys: &[u32; 512], many: usize, places: &mut [u16; 512])
-    requires { ⌜ (many ≤ 512) × (length (now keys) ≡ 512) × (length (now places) ≡ 512) ⌝ }
-    ensures { λ _. ⌜ Gives (λ x. x % 512) many (now (keys .entry)) (now (places .exit)) ⌝ }
-{
-    let mut j = 0;
-    while j < many {
-        places[j] = (keys[j] % 512) as u16;
-        j += 1;
-    }
-}
-
-// The first places in their order.
-pub fn order_partials(
-    words: &[u64],
-    cells: &[u16],
-    rows: &[u32],
-    live: usize,
-    counts: &[u16],
-    s: Shape,
-    places: &mut [u16; 512],
-    many: usize,
-)
-    requires { ⌜ Asked s live (now rows) (now words) (now cells) ⌝ }
-    requires { ⌜ (CountsHeld (pickerIn live (now rows) (now words) (now cells)) live (now counts)) × (length (now counts) ≡ 1536) ⌝ }
-    requires { ⌜ PlacesRise live many (now places) ⌝ }
-    ensures { λ _. ⌜ Ordered (pickerIn live (now (rows .entry)) (now (words .entry)) (now (cells .entry))) live many (now (places .entry))
-        (now (places .exit)) ⌝ }
-{
-    let mut keys = [0; 512];
-    let mut spare = [0; 512];
-    keys_of(words, cells, rows, live, counts, s, places, many, &mut keys);
-    sort(&mut keys[..many], &mut spare[..many]);
-    places_of(&keys, many, places);
 }

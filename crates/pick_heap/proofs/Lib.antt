@@ -1,0 +1,3 @@
+pub mod OrderLaws
+pub mod SiftLaws
+pub mod TopLaws

@@ -1,4 +1,0 @@
-pub mod MergeLaws
-pub mod OrderLaws
-pub mod HalvesLaws
-pub mod PartLaws
