@@ -1,0 +1,32 @@
+// The blocks of a partial, which stand thirteen bytes apart behind its record.
+use crate::offsets::cells_start;
+use crate::offsets::peers_start;
+use image_lay::lay1;
+use image_lay::lay2;
+use image_lay::lay8;
+use memory_layout::Shape;
+ghost use Prim.Native.Nat.{_+_, _*_, _≤_, _<_};
+ghost use lib.ListN.{length};
+ghost use Rattle.memory_layout.specs.Bounds.{Spans};
+ghost use Rattle.image_columns.specs.Columns.{BlocksStored};
+
+// `many` blocks from `start` on become the first blocks of place p: peers into words; state, num_peers and has-peer into cells.
+pub fn store_blocks(
+    bytes: &[u8],
+    start: usize,
+    many: usize,
+    s: Shape,
+    p: usize,
+    words: &mut [u64],
+    cells: &mut [u16],
+)
+    requires { ⌜ Spans s (now words) (now cells) ⌝ }
+    requires { ⌜ (p < s .places) × (many ≤ s .blocks) × (1 ≤ many) × (start + 13 * many ≤ length (now bytes)) ⌝ }
+    ensures { λ _. ⌜ BlocksStored s p start many (now (bytes .entry)) (now (words .entry)) (now (cells .entry))
+        (now (words .exit)) (now (cells .exit)) ⌝ }
+{
+    lay8(bytes, start + 5, 13, many, words, peers_start(s, p));
+    lay1(bytes, start + 1, 13, many, cells, cells_start(s, 0, p));
+    lay2(bytes, start + 2, 13, many, cells, cells_start(s, 1, p));
+    lay1(bytes, start + 4, 13, many, cells, cells_start(s, 2, p));
+}

@@ -1,0 +1,6 @@
+pub mod FoundLaws
+pub mod HeldLaws
+pub mod StoreLaws
+pub mod PartLaws
+pub mod TailLaws
+pub mod StandLaws

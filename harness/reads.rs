@@ -1,0 +1,211 @@
+//! Reads the images of `compare.judged` (standard input), whole and damaged, into lent buffers by the proved code. One that the reference
+//! accepts has to be read into buffers as long as they have to be or somewhat longer: the memory test finds the picker well-formed, its
+//! image is written again byte for byte, nothing beyond the needs moved; a buffer that is one too short is refused with 2. One that the
+//! reference refuses is refused with 13, in buffers of any length. A refusal leaves every buffer as it was. Built like the programs of
+//! `harness/run`. Prints how many were compared, and ends with status 1 at the first difference. With `time` as an argument it prints
+//! instead how fast the longest images of `compare.images` (standard input) are read, beside a copy of their bytes and the memory test.
+
+mod records;
+
+use records::{unpack, DownloadingPiece, ROWS};
+use std::hint::black_box;
+use std::io::BufRead;
+use std::process::exit;
+use std::time::Instant;
+
+/// Pieces, blocks of a whole piece, and places for partials.
+#[repr(C)]
+#[derive(Clone, Copy)]
+struct Geometry {
+    pieces: usize,
+    blocks: usize,
+    places: usize,
+}
+
+#[link(name = "link_read", kind = "static")]
+extern "C" {
+    fn im_read(bytes: *const u8, bytes_len: usize, words: *mut u64, words_len: usize, cells: *mut u16, cells_len: usize,
+        rows: *mut u32, rows_len: usize, lent: usize) -> u8;
+}
+
+#[link(name = "link_image", kind = "static")]
+extern "C" {
+    fn im_write(words: *const u64, words_len: usize, cells: *const u16, cells_len: usize, rows: *const u32, rows_len: usize,
+        live: usize, g: Geometry, bytes: *mut u8, bytes_len: usize) -> usize;
+}
+
+#[link(name = "link_memory", kind = "static")]
+extern "C" {
+    fn pm_check(words: *const u64, words_len: usize, cells: *const u16, cells_len: usize, rows: *const u32, rows_len: usize,
+        lent: usize, counts: *mut u16, counts_len: usize) -> u8;
+}
+
+fn differs(line: usize, why: &str) -> ! {
+    eprintln!("reads: line {line}: {why}");
+    exit(1)
+}
+
+fn bytes(hex: &str) -> Vec<u8> {
+    if hex == "-" { return Vec::new(); }
+    (0..hex.len()).step_by(2).map(|k| u8::from_str_radix(&hex[k..k + 2], 16).unwrap()).collect()
+}
+
+/// Numbers that mean nothing, one after another.
+struct Anything(u64);
+
+impl Anything {
+    fn next(&mut self) -> u64 {
+        self.0 = self.0.wrapping_mul(6364136223846793005).wrapping_add(1442695040888963407);
+        self.0 >> 24
+    }
+}
+
+/// Words, cells and rows that are lent, with the number of lent records.
+#[derive(Clone, PartialEq)]
+struct Lent {
+    words: Vec<u64>,
+    cells: Vec<u16>,
+    rows: [u32; ROWS],
+    records: usize,
+}
+
+impl Lent {
+    /// Buffers that hold anything.
+    fn anything(words: usize, cells: usize, records: usize, any: &mut Anything) -> Lent {
+        let mut lent = Lent { words: vec![0; words], cells: vec![0; cells], rows: [0; ROWS], records };
+        lent.words.iter_mut().for_each(|w| *w = any.next());
+        lent.cells.iter_mut().for_each(|c| *c = any.next() as u16);
+        lent.rows.iter_mut().for_each(|r| *r = any.next() as u32);
+        lent
+    }
+
+    fn read(&mut self, data: &[u8]) -> u8 {
+        unsafe {
+            im_read(data.as_ptr(), data.len(), self.words.as_mut_ptr(), self.words.len(), self.cells.as_mut_ptr(), self.cells.len(),
+                self.rows.as_mut_ptr(), ROWS, self.records)
+        }
+    }
+
+    fn check(&self, counts: &mut [u16; ROWS]) -> u8 {
+        unsafe {
+            pm_check(self.words.as_ptr(), self.words.len(), self.cells.as_ptr(), self.cells.len(), self.rows.as_ptr(), ROWS,
+                self.records, counts.as_mut_ptr(), ROWS)
+        }
+    }
+
+    fn write(&self, g: Geometry, data: &mut [u8]) -> usize {
+        unsafe {
+            im_write(self.words.as_ptr(), self.words.len(), self.cells.as_ptr(), self.cells.len(), self.rows.as_ptr(), ROWS,
+                self.words[7] as usize, g, data.as_mut_ptr(), data.len())
+        }
+    }
+}
+
+/// The geometry in the head of an image.
+fn geometry(data: &[u8]) -> Geometry {
+    let total = u64::from_be_bytes(data[1..9].try_into().unwrap());
+    let size = u32::from_be_bytes(data[9..13].try_into().unwrap()) as u64;
+    let pieces = total.div_ceil(size) as usize;
+    Geometry { pieces, blocks: size.div_ceil(size.min(16384)) as usize, places: pieces.min(512) }
+}
+
+/// What a picker needs: words, cells, records.
+fn needs(g: Geometry) -> [usize; 3] {
+    let blocks = g.places * g.blocks;
+    [16 + 2 * g.pieces + blocks, 4 * g.pieces + 3 * blocks, g.places]
+}
+
+fn accepted(line: usize, data: &[u8], any: &mut Anything) {
+    let g = geometry(data);
+    let need = needs(g);
+    let longer = any.next() as usize % 5;
+    let before = Lent::anything(need[0] + longer, need[1] + longer, need[2] + longer, any);
+    let mut after = before.clone();
+    if after.read(data) != 0 {
+        differs(line, "an image is refused");
+    }
+    if after.words[need[0]..] != before.words[need[0]..] || after.cells[need[1]..] != before.cells[need[1]..] {
+        differs(line, "something beyond the needs moved");
+    }
+    if after.check(&mut [0; ROWS]) != 0 {
+        differs(line, "no well-formed picker stands in the buffers");
+    }
+    // the records that the rows are packed as, unpacked by the next call
+    let live = after.words[7] as usize;
+    let record = |k: usize| DownloadingPiece { index: after.rows[k], info_idx: after.rows[512 + k], flags: after.rows[1024 + k] };
+    let partials: Vec<DownloadingPiece> = (0..live).map(record).collect();
+    let mut again = after.clone();
+    unpack(&after.words, &partials, &mut again.rows);
+    let mut written = vec![0xAA; data.len() + 3];
+    if again.write(g, &mut written) != data.len() || written[..data.len()] != *data {
+        differs(line, "another image is written again");
+    }
+    let short = any.next() as usize % 3;
+    let less = |k: usize| need[k] - (k == short) as usize;
+    let before = Lent::anything(less(0), less(1), less(2), any);
+    let mut after = before.clone();
+    if after.read(data) != 2 || after != before {
+        differs(line, "a buffer is too short, and 2 is not answered, or something moved");
+    }
+}
+
+fn refused(line: usize, data: &[u8], any: &mut Anything) {
+    let before = Lent::anything(any.next() as usize % 60, any.next() as usize % 60, any.next() as usize % 5, any);
+    let mut after = before.clone();
+    if after.read(data) != 13 || after != before {
+        differs(line, "a fault, and 13 is not answered, or something moved");
+    }
+}
+
+/// The least of many rounds, in nanoseconds.
+fn timed(data: &[u8]) {
+    let g = geometry(data);
+    let need = needs(g);
+    let mut lent = Lent::anything(need[0], need[1], need[2], &mut Anything(1));
+    let (mut to, mut counts) = (vec![0; data.len()], [0; ROWS]);
+    let mut least = [f64::MAX; 3];
+    for _ in 0..400 {
+        for (k, least) in least.iter_mut().enumerate() {
+            let start = Instant::now();
+            match k {
+                0 => drop(black_box(lent.read(black_box(data)))),
+                1 => black_box(&mut to).copy_from_slice(black_box(data)),
+                _ => drop(black_box(lent.check(black_box(&mut counts)))),
+            }
+            *least = least.min(start.elapsed().as_nanos() as f64);
+        }
+    }
+    println!("reads: {} bytes read in {:.2} µs, {:.2} GB/s; copied in {:.2} µs, tested in {:.2} µs; {:.2} of 3 tests and 2 copies",
+        data.len(), least[0] / 1000.0, data.len() as f64 / least[0], least[1] / 1000.0, least[2] / 1000.0,
+        least[0] / (3.0 * least[2] + 2.0 * least[1]));
+}
+
+fn main() {
+    let lines = std::io::stdin().lock().lines().map(|line| line.unwrap());
+    if std::env::args().nth(1).is_some_and(|w| w == "time") {
+        let mut images: Vec<Vec<u8>> = lines.filter_map(|l| l.strip_prefix("image ").map(bytes)).collect();
+        images.sort_by_key(|data| data.len());
+        images.iter().rev().take(4).for_each(|data| timed(data));
+        return;
+    }
+    let (mut any, mut read, mut faults) = (Anything(7), 0, 0);
+    for (k, text) in lines.enumerate() {
+        let fields: Vec<&str> = text.split(' ').collect();
+        if fields[0] != "image" {
+            continue;
+        }
+        let data = bytes(fields[1]);
+        if fields[2] == "-" {
+            accepted(k + 1, &data, &mut any);
+            read += 1;
+        } else {
+            refused(k + 1, &data, &mut any);
+            faults += 1;
+        }
+    }
+    if read == 0 || faults == 0 {
+        eprintln!("reads: {read} images and {faults} faults, or cut short");
+        exit(2);
+    }
+    println!("reads: {read} images read, and written again as they were; {faults} refused with nothing moved");
+}
