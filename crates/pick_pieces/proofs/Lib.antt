@@ -1,0 +1,3 @@
+pub mod UsedLaws
+pub mod WholeLaws
+pub mod GaveLaws
