@@ -33,7 +33,8 @@ use Rattle.pick_judge.specs.Asking.{requestNumbers, numbersFit, RequestS
 -- ---- what is asked
 pub request-made : (a : PickInput) (w c p l : ℕ) → w ≡ numberOf (a .«num_blocks») → c ≡ numberOf (a .«prefer_contiguous_blocks»)
     → p ≡ numberOf (a .«num_peers») → l ≡ a .peer % 18446744073709551616
-    → record { options = a .options; wanted = w; contiguous = c; peers = p; «has_peer» = a .«has_peer»; peer = l; bits = a .bits } ≡ requestNumbers a
+    → record { options = a .options; wanted = w; contiguous = c; peers = p; «has_peer» = a .«has_peer»; peer = l; bits = a .bits } ≡
+    requestNumbers a
 unfolding requestNumbers
 request-made a w c p l ew ec ep el = rw (ew, ec, ep, el)
 
@@ -49,14 +50,17 @@ order true true true true false false g h = refl
 order true true true true true false g h = refl
 order true true true true true true g h = refl
 
-module _ (s : Shape) (q : Request) (many suggested : ℕ) (fit : Bool) (ef : fit ≡ numbersFit q) (most : ℕ) (em : most ≡ bitfieldBytes (q .bits)) where
-  fits-few : (((fit && leb suggested 256) && eqb (q .bits) (s .pieces)) && eqb many most) ≡ true → (q .wanted ≤ 2048) × (q .contiguous ≤ 2048)
+module _ (s : Shape) (q : Request) (many suggested : ℕ) (fit : Bool) (ef : fit ≡ numbersFit q) (most : ℕ)
+    (em : most ≡ bitfieldBytes (q .bits)) where
+  fits-few : (((fit && leb suggested 256) && eqb (q .bits) (s .pieces)) && eqb many most) ≡ true → (q .wanted ≤ 2048) ×
+      (q .contiguous ≤ 2048)
   unfolding numbersFit
   fits-few h =
       let a = sym ef ∙ and-left fit (leb suggested 256) (and-left (fit && leb suggested 256) (eqb (q .bits) (s .pieces))
       (and-left ((fit && leb suggested 256) && eqb (q .bits) (s .pieces)) (eqb many most) h)) in
       let w = leb 1 (q .wanted) && leb (q .wanted) 2048 in
-      let b = and-left ((w && leb (q .contiguous) 2048) && leb (q .peers) 1000) (not (meets (q .options .0) rarestFirst && meets (q .options .0) sequential)) a in
+      let b = and-left ((w && leb (q .contiguous) 2048) && leb (q .peers) 1000)
+      (not (meets (q .options .0) rarestFirst && meets (q .options .0) sequential)) a in
       let c = and-left (w && leb (q .contiguous) 2048) (leb (q .peers) 1000) b in (
         leb-true (q .wanted) 2048 (and-right (leb 1 (q .wanted)) (leb (q .wanted) 2048) (and-left w (leb (q .contiguous) 2048) c)),
         leb-true (q .contiguous) 2048 (and-right w (leb (q .contiguous) 2048) c),
@@ -68,8 +72,10 @@ module _ (s : Shape) (q : Request) (many suggested : ℕ) (fit : Bool) (ef : fit
   fits-is d ed bytes suggestions eb es =
       ap (λ (x : Bool). (((x && leb suggested 256) && eqb (q .bits) (s .pieces)) && eqb many most)) ef
       ∙ order (leb 1 (q .wanted)) (leb (q .wanted) 2048) (leb (q .contiguous) 2048) (leb (q .peers) 1000)
-      (not (meets (q .options .0) rarestFirst && meets (q .options .0) sequential)) (leb suggested 256) (eqb (q .bits) (s .pieces)) (eqb many most)
-      ∙ rest (leb suggested 256) (leb (len suggestions) 256) (ap (λ (n : ℕ). leb n 256) (sym es)) (eqb (q .bits) (s .pieces)) (eqb (q .bits) (piecesIn d))
+      (not (meets (q .options .0) rarestFirst && meets (q .options .0) sequential)) (leb suggested 256) (eqb (q .bits) (s .pieces))
+      (eqb many most)
+      ∙ rest (leb suggested 256) (leb (len suggestions) 256) (ap (λ (n : ℕ). leb n 256) (sym es)) (eqb (q .bits) (s .pieces))
+      (eqb (q .bits) (piecesIn d))
       (ap (eqb (q .bits)) (sym ed)) (eqb many most) (eqb (length bytes) (bitfieldBytes (q .bits))) (ap₂ eqb (sym eb) em)
     where
       rest : (f f′ : Bool) → f ≡ f′ → (g g′ : Bool) → g ≡ g′ → (h h′ : Bool) → h ≡ h′
@@ -79,8 +85,13 @@ module _ (s : Shape) (q : Request) (many suggested : ℕ) (fit : Bool) (ef : fit
           && (f′ && (not (meets (q .options .0) rarestFirst && meets (q .options .0) sequential) && (g′ && h′)))))))
       rest f f′ x g g′ y h h′ z = rw (x, y, z)
 
-  pub request-says : (r : Bool) → r ≡ (((fit && leb suggested 256) && eqb (q .bits) (s .pieces)) && eqb many most) → RequestSays s q many suggested r
-  request-says r e = record { is = λ d ed bytes suggestions eb es. e ∙ fits-is d ed bytes suggestions eb es; few = λ h. fits-few (sym e ∙ h) }
+  pub request-says : (r : Bool) → r ≡ (((fit && leb suggested 256) && eqb (q .bits) (s .pieces)) && eqb many most) → RequestSays s q many
+      suggested r
+  request-says r e = record {
+    is = λ d ed bytes suggestions eb es. e ∙ fits-is d ed bytes suggestions eb es;
+    few = λ h. fits-few
+        (sym e ∙ h);
+  }
 
 -- ---- the table
 yes : (t : Bool) (why : Refusal) (r : Option Refusal) → t ≡ true → check t why r ≡ some why
@@ -91,7 +102,7 @@ no : (t : Bool) (why : Refusal) (r : Option Refusal) → t ≡ false → check t
 unfolding check
 no t why r e = rw e refl
 
-many-each : (l : List ℤ) → len (each numberOf l) ≡ length l
+pub many-each : (l : List ℤ) → len (each numberOf l) ≡ length l
 unfolding len each
 many-each [] = refl
 many-each (x ∷ l) = ap suc (many-each l)
@@ -114,7 +125,8 @@ module _ (s : Shape) (q : Request) (bytes : List ℕ) (lent : List ℤ) (draws :
     -- 11
     pub judged-arguments : not r ≡ true → PickJudged s (pick-pieces a free draws) (Refused PickArguments)
     judged-arguments h = record {
-      is = λ d e. sym (after-four d ∙ yes _ PickArguments _ (ap not (sym (x .is d e bytes (each numberOf lent) refl (many-each lent))) ∙ h));
+      is = λ d e. sym (after-four d ∙ yes _ PickArguments _
+          (ap not (sym (x .is d e bytes (each numberOf lent) refl (many-each lent))) ∙ h));
     }
 
     module _ (h : not r ≡ false) where
@@ -125,8 +137,14 @@ module _ (s : Shape) (q : Request) (bytes : List ℕ) (lent : List ℤ) (draws :
 
       -- 12
       pub judged-output : free < q .wanted + q .contiguous + 255 → PickJudged s (pick-pieces a free draws) (Refused ShortOutput)
-      judged-output l = record { is = λ d e. sym (after-eleven d e ∙ yes _ ShortOutput none (lt-ltb free (q .wanted + q .contiguous + 255) l)) }
+      judged-output l = record {
+        is = λ d e. sym
+            (after-eleven d e ∙ yes _ ShortOutput none (lt-ltb free (q .wanted + q .contiguous + 255) l));
+      }
 
       -- none
       pub judged-passed : q .wanted + q .contiguous + 255 ≤ free → PickJudged s (pick-pieces a free draws) Passed
-      judged-passed l = record { is = λ d e. sym (after-eleven d e ∙ no _ ShortOutput none (le-ltb free (q .wanted + q .contiguous + 255) l)) }
+      judged-passed l = record {
+        is = λ d e. sym
+            (after-eleven d e ∙ no _ ShortOutput none (le-ltb free (q .wanted + q .contiguous + 255) l));
+      }

@@ -43,7 +43,8 @@ pub fn judge_pick(
     draws: &[u32],
     free: usize,
 ) -> Judgement
-    ensures { λ r. ⌜ PickJudged s (pick-pieces (requestWith q (now (bytes .entry)) (each numberOf (now (suggestions .entry)))) free (now (draws .entry))) r ⌝ }
+    ensures { λ r. ⌜ PickJudged s (pick-pieces (requestWith q (now (bytes .entry)) (each numberOf (now (suggestions .entry)))) free
+        (now (draws .entry))) r ⌝ }
 {
     if draws.len() < 4352 {
         return Judgement::Refused(Refusal::FewDraws);

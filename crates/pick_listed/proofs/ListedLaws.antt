@@ -52,7 +52,8 @@ module _ {s : Shape} {live : ℕ} {rows words cells : List ℕ} {q : Request} (p
         ranks-right s records words cells (g .ranks),
       )
 
-  module _ (draws : Draws) {words′ : List ℕ} (t : PickNumbers) (u : ℕ) (x : ListBecame s (updatePieces draws) words words′ cells (t .used) u) where
+  module _ (draws : Draws) {words′ : List ℕ} (t : PickNumbers) (u : ℕ)
+      (x : ListBecame s (updatePieces draws) words words′ cells (t .used) u) where
     updated-is : pickerIn live rows words′ cells ≡ updatePieces draws (drawing (t .used) (pickerIn live rows words cells)) .picker
     updated-is = x .became .became (recordsIn live rows) (p .asked .stands .bounds) .is
 
@@ -79,7 +80,8 @@ module _ {s : Shape} {live : ℕ} {rows words cells : List ℕ} {q : Request} (p
               plain = b .plain (g .plain);
               ranks = x .ranks records;
               sound = ap wellFormed updated-is
-                  ∙ sound-wellFormed (updatePieces draws (drawing (t .used) d) .picker) (sound-updatePieces draws (t .used) d (wellFormed-sound d (g .sound)));
+                  ∙ sound-wellFormed (updatePieces draws (drawing (t .used) d) .picker)
+                  (sound-updatePieces draws (t .used) d (wellFormed-sound d (g .sound)));
             };
             many = p .asked .many ∙ many;
             wide = p .asked .wide;
@@ -88,7 +90,8 @@ module _ {s : Shape} {live : ℕ} {rows words cells : List ℕ} {q : Request} (p
         }
 
     pub updated-underway : (r : PickNumbers) → r ≡ withUsed u t → {out aside : List ℕ} {ignored : List Bool} {loops : List ℕ}
-        → Underway (pickerIn live rows words cells) t out aside ignored loops → Underway (pickerIn live rows words′ cells) r out aside ignored loops
+        → Underway (pickerIn live rows words cells) t out aside ignored loops → Underway (pickerIn live rows words′ cells) r out aside
+        ignored loops
     unfolding withUsed
     updated-underway r e {loops = loops} w =
         underway-beside (pickerIn live rows words′ cells)
@@ -102,7 +105,8 @@ module _ {s : Shape} {live : ℕ} {rows words cells : List ℕ} {q : Request} (p
     updated-moved r e {out = out} {aside = aside} {ignored = ignored} {loops = loops} w = record {
       is = λ start h.
           ap (λ (y : PickNumbers). stateOf start (pickerIn live rows words′ cells) y out aside ignored loops) e
-          ∙ ap₂ (λ (d : Picker) (n : ℕ). stateOf start d (withUsed n t) out aside ignored loops) updated-is (x .next-is (recordsIn live rows));
+          ∙ ap₂ (λ (d : Picker) (n : ℕ). stateOf start d (withUsed n t) out aside ignored loops) updated-is
+          (x .next-is (recordsIn live rows));
       kept = kept-same t r out (ap (λ (y : PickNumbers). y .end) e);
       longAside = refl;
       longIgnored = refl;
@@ -116,7 +120,8 @@ module _ {s : Shape} {live : ℕ} {rows words cells : List ℕ} {q : Request} (p
 module _ {f : PickState → PickState} {s : Shape} {live : ℕ} {rows words words₁ cells : List ℕ} {q : Request} {t u : PickNumbers}
     {out aside : List ℕ} {ignored : List Bool} {loops : List ℕ} {out₁ aside₁ : List ℕ} {ignored₁ : List Bool} {loops₁ : List ℕ}
     (x : Moved f s live rows words words₁ cells q t u out aside ignored loops out₁ aside₁ ignored₁ loops₁) where
-  pub moved-again : {g : PickState → PickState} {words₂ : List ℕ} {r : PickNumbers} {out₂ aside₂ : List ℕ} {ignored₂ : List Bool} {loops₂ : List ℕ}
+  pub moved-again : {g : PickState → PickState} {words₂ : List ℕ} {r : PickNumbers} {out₂ aside₂ : List ℕ} {ignored₂ : List Bool}
+      {loops₂ : List ℕ}
       → Moved g s live rows words₁ words₂ cells q u r out₁ aside₁ ignored₁ loops₁ out₂ aside₂ ignored₂ loops₂
       → Moved (λ w. g (f w)) s live rows words words₂ cells q t r out aside ignored loops out₂ aside₂ ignored₂ loops₂
   moved-again {g = g} {words₂ = words₂} y = record {
@@ -131,7 +136,8 @@ module _ {f : PickState → PickState} {s : Shape} {live : ℕ} {rows words word
   }
 
   -- whether blocks are wanted after it
-  pub moved-spent : (b : Bool) → spent (stateOf 0 (pickerIn live rows words₁ cells) u out₁ aside₁ ignored₁ loops₁) ≡ b → (start : ℕ) → start ≤ t .end
+  pub moved-spent : (b : Bool) → spent (stateOf 0 (pickerIn live rows words₁ cells) u out₁ aside₁ ignored₁ loops₁) ≡ b → (start : ℕ) →
+      start ≤ t .end
       → spent (f (stateOf start (pickerIn live rows words cells) t out aside ignored loops)) ≡ b
   unfolding spent stateOf
   moved-spent b z start h = sym (ap spent (x .is start h)) ∙ z
@@ -142,7 +148,8 @@ module _ {s : Shape} {live : ℕ} {rows words cells : List ℕ} {q : Request} (p
     (a : PickRequest) (e : option sequential a ≡ true)
     (y : Stepped (pickSequential a) (pickerIn live rows words cells) t u out aside ignored loops out₁ aside₁ ignored₁ loops₁) where
   -- no block is wanted any more
-  pub listed-stop : u .left ≡ 0 → Moved (walkListed a) s live rows words words cells q t u out aside ignored loops out₁ aside₁ ignored₁ loops₁
+  pub listed-stop : u .left ≡ 0 → Moved (walkListed a) s live rows words words cells q t u out aside ignored loops out₁ aside₁ ignored₁
+      loops₁
   unfolding walkListed when unless spent stateOf
   listed-stop z =
       let x = stepped-moved p y in

@@ -32,7 +32,8 @@ fn with_list_updated(
     requires { ⌜ ListBounds s (now words) (now cells) ⌝ }
     requires { ⌜ RanksRight s (now words) (now cells) ⌝ }
     requires { ⌜ t .used ≤ length (now draws) ⌝ }
-    ensures { λ r. ⌜ ListBecame s (updatePieces (now (draws .entry))) (now (words .entry)) (now (words .exit)) (now (cells .entry)) (t .used) (r .used) ⌝ }
+    ensures { λ r. ⌜ ListBecame s (updatePieces (now (draws .entry))) (now (words .entry)) (now (words .exit)) (now (cells .entry))
+        (t .used) (r .used) ⌝ }
     ensures { λ r. ⌜ r ≡ withUsed (r .used) t ⌝ }
 {
     let used = update_pieces(words, cells, s, draws, t.used);
@@ -65,7 +66,8 @@ fn walk_listed(
     requires { ⌜ Picks s live (now rows) (now words) (now cells) q ⌝ }
     requires { ⌜ Underway (pickerIn live (now rows) (now words) (now cells)) t (now out) (now aside) (now ignored) (now loops) ⌝ }
     requires { ⌜ (1 ≤ t .left) × (nth 0 (now loops) 2 ≤ 4294967296) × (nth 0 (now loops) 3 ≤ 4294967296) ⌝ }
-    ensures { λ r. ⌜ Moved (walkListed (requestOf q (now (bytes .entry)))) s live (now (rows .entry)) (now (words .entry)) (now (words .exit)) (now (cells .entry)) q t r
+    ensures { λ r. ⌜ Moved (walkListed (requestOf q (now (bytes .entry)))) s live (now (rows .entry)) (now (words .entry))
+        (now (words .exit)) (now (cells .entry)) q t r
         (now (out .entry)) (now (aside .entry)) (now (ignored .entry)) (now (loops .entry))
         (now (out .exit)) (now (aside .exit)) (now (ignored .exit)) (now (loops .exit)) ⌝ }
     ensures { λ _. ⌜ Risen 4096 (now (loops .entry)) (now (loops .exit)) ⌝ }
@@ -136,8 +138,10 @@ pub fn pick_listed(
 ) -> PickNumbers
     requires { ⌜ Picks s live (now rows) (now words) (now cells) q ⌝ }
     requires { ⌜ Underway (pickerIn live (now rows) (now words) (now cells)) t (now out) (now aside) (now ignored) (now loops) ⌝ }
-    requires { ⌜ (1 ≤ t .left) × (t .used ≤ length (now draws)) × (nth 0 (now loops) 2 ≤ 4294967296) × (nth 0 (now loops) 3 ≤ 4294967296) ⌝ }
-    ensures { λ r. ⌜ Moved (pickListed (now (draws .entry)) (requestOf q (now (bytes .entry)))) s live (now (rows .entry)) (now (words .entry)) (now (words .exit)) (now (cells .entry)) q t r
+    requires { ⌜ (1 ≤ t .left) × (t .used ≤ length (now draws)) × (nth 0 (now loops) 2 ≤ 4294967296) × (nth 0 (now loops) 3 ≤ 4294967296)
+        ⌝ }
+    ensures { λ r. ⌜ Moved (pickListed (now (draws .entry)) (requestOf q (now (bytes .entry)))) s live (now (rows .entry))
+        (now (words .entry)) (now (words .exit)) (now (cells .entry)) q t r
         (now (out .entry)) (now (aside .entry)) (now (ignored .entry)) (now (loops .entry))
         (now (out .exit)) (now (aside .exit)) (now (ignored .exit)) (now (loops .exit)) ⌝ }
     ensures { λ _. ⌜ Risen 4096 (now (loops .entry)) (now (loops .exit)) ⌝ }

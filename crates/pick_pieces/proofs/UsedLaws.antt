@@ -50,7 +50,8 @@ module _ (n : ℕ) where
 pub partials-used : (a : PickRequest) (w : PickState) → enoughAside w ≡ false → pickPartials a w .used ≤ w .used
 unfolding UpTo
 partials-used a w e =
-    pickPartials-keeps a anyPartial (UpTo (w .used)) (upto-kept (w .used) a) w e (omega arith) (upto-steps (w .used) _ partialLoops w (omega arith))
+    pickPartials-keeps a anyPartial (UpTo (w .used)) (upto-kept (w .used) a) w e (omega arith)
+    (upto-steps (w .used) _ partialLoops w (omega arith))
 
 -- the list takes a draw for each piece at most
 pub listed-used : (draws : Draws) (a : PickRequest) (w : PickState) → spent w ≡ false → Sound (w .picker)
@@ -67,7 +68,8 @@ pub suggested-used : (a : PickRequest) (is : List ℕ) (w : PickState) → spent
 unfolding UpTo
 suggested-used a is w e =
     let n = w .used in
-    walk-keeps (UpTo n) (suggest a) spent (λ i t z h. suggest-keeps a anyPartial (UpTo n) (upto-kept n a) i t z (upto-steps n 1 suggestLoops t h)) is w e (omega arith)
+    walk-keeps (UpTo n) (suggest a) spent
+    (λ i t z h. suggest-keeps a anyPartial (UpTo n) (upto-kept n a) i t z (upto-steps n 1 suggestLoops t h)) is w e (omega arith)
 
 -- ---- at the start
 -- more blocks are wanted than are set aside, where none is

@@ -52,7 +52,8 @@ last-two : (m r : PickState → PickState) (v : PickState)
 unfolding unless
 last-two m r v = go (spent v) refl
   where
-    go : (b : Bool) → spent v ≡ b → (let x = unless (spent v) m v in unless (spent x) r x) ≡ unless (spent v) (λ u. unless (spent (m u)) r (m u)) v
+    go : (b : Bool) → spent v ≡ b → (let x = unless (spent v) m v in unless (spent x) r x) ≡ unless (spent v)
+        (λ u. unless (spent (m u)) r (m u)) v
     go true e = rw (e, e)
     go false e = rw e
 
@@ -71,7 +72,8 @@ phases-are draws q bytes suggestions w =
     (unless (spent (pickPartials b w)) (walk (suggest b) spent suggestions) (pickPartials b w))
 
 -- ---- partials, then suggestions
-module _ {d : Picker} {t u : PickNumbers} {out aside : List ℕ} {ignored : List Bool} {loops : List ℕ} {out₁ aside₁ : List ℕ} {ignored₁ : List Bool}
+module _ {d : Picker} {t u : PickNumbers} {out aside : List ℕ} {ignored : List Bool} {loops : List ℕ} {out₁ aside₁ : List ℕ}
+    {ignored₁ : List Bool}
     {loops₁ : List ℕ} (a : PickRequest) (suggestions : List ℕ)
     (x : Stepped (pickPartials a) d t u out aside ignored loops out₁ aside₁ ignored₁ loops₁) where
   -- no block is wanted any more
@@ -111,12 +113,14 @@ module _ {d : Picker} {t u : PickNumbers} {out aside : List ℕ} {ignored : List
 module _ {s : Shape} {live : ℕ} {rows words words′ cells : List ℕ} {q : Request} {t r : PickNumbers} {out aside : List ℕ}
     {ignored : List Bool} {loops : List ℕ} {out′ aside′ : List ℕ} {ignored′ : List Bool} {loops′ : List ℕ} (draws : Draws) (a : PickRequest)
     (e f : Bool) (es : e ≡ option sequential a) (ef : f ≡ option rarestFirst a) where
-  pub main-listed : (e || f) ≡ true → Moved (pickListed draws a) s live rows words words′ cells q t r out aside ignored loops out′ aside′ ignored′ loops′
+  pub main-listed : (e || f) ≡ true → Moved (pickListed draws a) s live rows words words′ cells q t r out aside ignored loops out′ aside′
+      ignored′ loops′
       → Moved (pickMain draws a) s live rows words words′ cells q t r out aside ignored loops out′ aside′ ignored′ loops′
   unfolding pickMain branch
   main-listed g x = moved-as x (λ start h. rw (sym (ap₂ (λ (k l : Bool). k || l) es ef) ∙ g))
 
-  pub main-random : (e || f) ≡ false → Moved (pickRandom draws a) s live rows words words′ cells q t r out aside ignored loops out′ aside′ ignored′ loops′
+  pub main-random : (e || f) ≡ false → Moved (pickRandom draws a) s live rows words words′ cells q t r out aside ignored loops out′
+      aside′ ignored′ loops′
       → Moved (pickMain draws a) s live rows words words′ cells q t r out aside ignored loops out′ aside′ ignored′ loops′
   unfolding pickMain branch
   main-random g x = moved-as x (λ start h. rw (sym (ap₂ (λ (k l : Bool). k || l) es ef) ∙ g))
@@ -127,16 +131,19 @@ pub main-used : {s : Shape} {live : ℕ} {rows words words′ cells : List ℕ} 
     → Picks s live rows words cells q → 1 ≤ t .left → t .used ≡ 0
     → Moved (pickListed draws a) s live rows words words′ cells q t r out aside ignored loops out′ aside′ ignored′ loops′ → r .used ≤ 4096
 unfolding stateOf spent
-main-used {live = live} {rows = rows} {words = words} {cells = cells} {t = t} {out = out} {aside = aside} {ignored = ignored} {loops = loops} draws a p w z x =
+main-used {live = live} {rows = rows} {words = words} {cells = cells} {t = t} {out = out} {aside = aside} {ignored = ignored}
+    {loops = loops} draws a p w z x =
     omega (
       arith,
       ap (λ (v : PickState). v .used) (x .is (t .end) (omega arith)),
-      listed-used draws a (stateOf (t .end) (pickerIn live rows words cells) t out aside ignored loops) (ne-eqb (t .left) 0 (λ y. omega arith)) (picks-sound p),
+      listed-used draws a (stateOf (t .end) (pickerIn live rows words cells) t out aside ignored loops)
+          (ne-eqb (t .left) 0 (λ y. omega arith)) (picks-sound p),
     )
 
 -- ---- the rest
 -- what it asks
-pub rest-asks : {d : Picker} {t : PickNumbers} {out aside : List ℕ} {ignored : List Bool} {loops : List ℕ} → Underway d t out aside ignored loops
+pub rest-asks : {d : Picker} {t : PickNumbers} {out aside : List ℕ} {ignored : List Bool} {loops : List ℕ} → Underway d t out aside
+    ignored loops
     → (t .end + t .left ≤ length out) × (t .aside ≤ length aside)
 rest-asks u =
     let w = u .working in
@@ -147,7 +154,8 @@ rest-asks u =
     let k = w .within in
     (omega arith, omega (arith, working-aside w))
 
-pub rest-counts : {d : Picker} {t : PickNumbers} {out aside : List ℕ} {ignored : List Bool} {loops : List ℕ} → Underway d t out aside ignored loops
+pub rest-counts : {d : Picker} {t : PickNumbers} {out aside : List ℕ} {ignored : List Bool} {loops : List ℕ} → Underway d t out aside
+    ignored loops
     → LowLoops 274877906944 loops → CountRoom 200 loops
 rest-counts u l = record { wide = working-marks (u .working) .1; room = omega (arith, l .low 6) }
 
@@ -184,7 +192,8 @@ module _ {f : PickState → PickState} {s : Shape} {live : ℕ} {rows words word
   }
 
   -- the rest after a move
-  rest-ended : Moved f s live rows words words′ cells q t u out aside ignored loops out₁ aside₁ ignored₁ loops₁ → (draws : Draws) (a : PickRequest)
+  rest-ended : Moved f s live rows words words′ cells q t u out aside ignored loops out₁ aside₁ ignored₁ loops₁ → (draws : Draws)
+      (a : PickRequest)
       {r : PickNumbers} {out₂ loops₂ : List ℕ} → RestDid draws a (pickerIn live rows words′ cells) u r out₁ out₂ aside₁ loops₁ loops₂
       → Ended (λ w. pickRest draws a (f w)) s live rows words words′ cells q t r out aside ignored loops out₂ aside₁ ignored₁ loops₂
   rest-ended x draws a z =
@@ -201,10 +210,12 @@ module _ {f : PickState → PickState} {s : Shape} {live : ℕ} {rows words word
       }
 
 -- after the main phase
-module _ {s : Shape} {live : ℕ} {rows words words′ cells : List ℕ} {q : Request} {t u : PickNumbers} {out aside : List ℕ} {ignored : List Bool}
+module _ {s : Shape} {live : ℕ} {rows words words′ cells : List ℕ} {q : Request} {t u : PickNumbers} {out aside : List ℕ}
+    {ignored : List Bool}
     {loops : List ℕ} {out₁ aside₁ : List ℕ} {ignored₁ : List Bool} {loops₁ : List ℕ} (draws : Draws) (a : PickRequest)
     (x : Moved (pickMain draws a) s live rows words words′ cells q t u out aside ignored loops out₁ aside₁ ignored₁ loops₁) where
-  pub last-stop : u .left ≡ 0 → Ended (pickLast draws a) s live rows words words′ cells q t u out aside ignored loops out₁ aside₁ ignored₁ loops₁
+  pub last-stop : u .left ≡ 0 → Ended (pickLast draws a) s live rows words words′ cells q t u out aside ignored loops out₁ aside₁
+      ignored₁ loops₁
   unfolding pickLast unless spent stateOf
   last-stop z = ended-as (moved-ended x) (λ start h. rw (moved-spent x true (eq-eqb (u .left) 0 z) start h))
 
@@ -216,7 +227,8 @@ module _ {s : Shape} {live : ℕ} {rows words words′ cells : List ℕ} {q : Re
 
 -- ---- all of them
 module _ {s : Shape} {live : ℕ} {rows words cells : List ℕ} {q : Request} (p : Picks s live rows words cells q) {t u : PickNumbers}
-    {out aside : List ℕ} {ignored : List Bool} {loops : List ℕ} {out₁ aside₁ : List ℕ} {ignored₁ : List Bool} {loops₁ : List ℕ} (draws : Draws)
+    {out aside : List ℕ} {ignored : List Bool} {loops : List ℕ} {out₁ aside₁ : List ℕ} {ignored₁ : List Bool} {loops₁ : List ℕ}
+    (draws : Draws)
     (a : PickRequest) (suggestions : List ℕ)
     (x : Stepped (pickFirst a suggestions) (pickerIn live rows words cells) t u out aside ignored loops out₁ aside₁ ignored₁ loops₁) where
   pub phases-stop : u .left ≡ 0

@@ -2,7 +2,7 @@
 use Prim.Native.Nat.{ℕ, _+_, _≤_, _<_}
 use mathlib.Core.Path.{_≡_}
 use mathlib.Core.Bool.{Bool}
-use mathlib.Core.List.{List}
+use mathlib.Core.List.{List, [], _∷_}
 use lib.ListN.{length, getD}
 use Rattle.model.specs.Lists.{nth, unless, walk}
 use Rattle.model.specs.State.{Picker}
@@ -43,17 +43,18 @@ pub record LowLoops (n : ℕ) (loops : List ℕ) : Type 0 where
 
 -- `step` was made, and led from the picker in the words to another one there, which stands; the pick is over or may be
 pub record Ended (step : PickState → PickState) (s : Shape) (live : ℕ) (rows words words′ cells : List ℕ) (q : Request) (t r : PickNumbers)
-    (out aside : List ℕ) (ignored : List Bool) (loops : List ℕ) (out′ aside′ : List ℕ) (ignored′ : List Bool) (loops′ : List ℕ) : Type 0 where
-  pub is : (start : ℕ) → start ≤ t .end
-      → stateOf start (pickerIn live rows words′ cells) r out′ aside′ ignored′ loops′
-      ≡ step (stateOf start (pickerIn live rows words cells) t out aside ignored loops)
-  pub kept : OutKept t r out out′
-  pub within : r .end ≤ length out′
-  pub longAside : length aside′ ≡ length aside
-  pub longIgnored : length ignored′ ≡ length ignored
-  pub longLoops : length loops′ ≡ length loops
-  pub picks : Picks s live rows words′ cells q
-  pub wordsKept : WordsKept s words words′
+    (out aside : List ℕ) (ignored : List Bool) (loops : List ℕ) (out′ aside′ : List ℕ) (ignored′ : List Bool) (loops′ : List ℕ) : Type 0
+  where
+    pub is : (start : ℕ) → start ≤ t .end
+        → stateOf start (pickerIn live rows words′ cells) r out′ aside′ ignored′ loops′
+        ≡ step (stateOf start (pickerIn live rows words cells) t out aside ignored loops)
+    pub kept : OutKept t r out out′
+    pub within : r .end ≤ length out′
+    pub longAside : length aside′ ≡ length aside
+    pub longIgnored : length ignored′ ≡ length ignored
+    pub longLoops : length loops′ ≡ length loops
+    pub picks : Picks s live rows words′ cells q
+    pub wordsKept : WordsKept s words words′
 
 -- ---- a whole pick
 -- what is asked is in range, and the output has room behind place `end`
@@ -65,13 +66,19 @@ pub record PickRoom (q : Request) (many end long : ℕ) : Type 0 where
   pub suggestions : many ≤ 256
   pub room : end + q .wanted + q .contiguous + 255 ≤ long
 
+-- the seven counters, in document 01's order
+unfoldable pub loopsOf : (r : Picked) → List ℕ
+loopsOf r =
+    r .«partial_loops» ∷ r .«suggest_loops» ∷ r .«reverse_rare_loops» ∷ r .«rare_loops» ∷ r .«rand_start_loops» ∷ r .«rand_loops»
+    ∷ r .«busy_loops» ∷ []
+
 -- what the pick has come to is the definition's w: the picker, the blocks that stand in the output from `start` on, flags, counters and
 -- draws; of the output nothing else was written
 pub record PickGave (w : PickState) (d : Picker) (start : ℕ) (out out′ : List ℕ) (r : Picked) : Type 0 where
   pub picker : d ≡ w .picker
   pub blocks : blocksBetween start (r .end) out′ ≡ w .out
   pub flags : r .flags ≡ w .flags
-  pub loops : r .loops ≡ w .loops
+  pub loops : loopsOf r ≡ w .loops
   pub used : r .used ≡ w .used
   pub rises : start ≤ r .end
   pub within : r .end ≤ length out′

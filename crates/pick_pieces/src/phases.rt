@@ -42,7 +42,8 @@ fn pick_main(
     requires { ⌜ Picks s live (now rows) (now words) (now cells) q ⌝ }
     requires { ⌜ Underway (pickerIn live (now rows) (now words) (now cells)) t (now out) (now aside) (now ignored) (now loops) ⌝ }
     requires { ⌜ (1 ≤ t .left) × (t .used ≡ 0) × LowLoops 4294967296 (now loops) ⌝ }
-    ensures { λ r. ⌜ Moved (pickMain (now (draws .entry)) (requestOf q (now (bytes .entry)))) s live (now (rows .entry)) (now (words .entry)) (now (words .exit)) (now (cells .entry)) q t r
+    ensures { λ r. ⌜ Moved (pickMain (now (draws .entry)) (requestOf q (now (bytes .entry)))) s live (now (rows .entry))
+        (now (words .entry)) (now (words .exit)) (now (cells .entry)) q t r
         (now (out .entry)) (now (aside .entry)) (now (ignored .entry)) (now (loops .entry))
         (now (out .exit)) (now (aside .exit)) (now (ignored .exit)) (now (loops .exit)) ⌝ }
     ensures { λ r. ⌜ (Risen 137573171200 (now (loops .entry)) (now (loops .exit))) × (r .used ≤ 4096) ⌝ }
@@ -163,7 +164,8 @@ fn pick_last(
     requires { ⌜ Picks s live (now rows) (now words) (now cells) q ⌝ }
     requires { ⌜ Underway (pickerIn live (now rows) (now words) (now cells)) t (now out) (now aside) (now ignored) (now loops) ⌝ }
     requires { ⌜ (1 ≤ t .left) × (t .used ≡ 0) × LowLoops 4294967296 (now loops) ⌝ }
-    ensures { λ r. ⌜ Ended (pickLast (now (draws .entry)) (requestOf q (now (bytes .entry)))) s live (now (rows .entry)) (now (words .entry)) (now (words .exit)) (now (cells .entry)) q t r
+    ensures { λ r. ⌜ Ended (pickLast (now (draws .entry)) (requestOf q (now (bytes .entry)))) s live (now (rows .entry))
+        (now (words .entry)) (now (words .exit)) (now (cells .entry)) q t r
         (now (out .entry)) (now (aside .entry)) (now (ignored .entry)) (now (loops .entry))
         (now (out .exit)) (now (aside .exit)) (now (ignored .exit)) (now (loops .exit)) ⌝ }
 {
@@ -223,7 +225,8 @@ pub fn pick_phases(
     requires { ⌜ (CountsHeld (pickerIn live (now rows) (now words) (now cells)) live (now counts)) × (length (now counts) ≡ 1536) ⌝ }
     requires { ⌜ Underway (pickerIn live (now rows) (now words) (now cells)) t (now out) (now aside) (now ignored) (now loops) ⌝ }
     requires { ⌜ (1 ≤ t .left) × (t .aside ≡ 0) × (t .used ≡ 0) × (length (now suggestions) ≤ 256) × LowLoops 1000000 (now loops) ⌝ }
-    ensures { λ r. ⌜ Ended (pickPhases (now (draws .entry)) (requestOf q (now (bytes .entry))) (each numberOf (now (suggestions .entry)))) s live
+    ensures { λ r. ⌜ Ended (pickPhases (now (draws .entry)) (requestOf q (now (bytes .entry)))
+        (each numberOf (now (suggestions .entry)))) s live
         (now (rows .entry)) (now (words .entry)) (now (words .exit)) (now (cells .entry)) q t r
         (now (out .entry)) (now (aside .entry)) (now (ignored .entry)) (now (loops .entry))
         (now (out .exit)) (now (aside .exit)) (now (ignored .exit)) (now (loops .exit)) ⌝ }

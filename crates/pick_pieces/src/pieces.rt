@@ -16,13 +16,19 @@ ghost use Rattle.pick_free.specs.Picking.{Picks};
 ghost use Rattle.pick_start.specs.Starting.{requestWith};
 ghost use Rattle.pick_pieces.specs.Whole.{PickRoom, PickGave, PickLeft};
 
-// Where the output ends now, the flags set, the draws used and the steps of the seven loops: Partial, Suggest, ReverseRare, Rare, RandStart,
-// Rand, Busy.
+// Where the output ends now, the flags set, the draws used and the steps of the seven loops. An enum holds no array today, so that the
+// counters are fields.
 pub struct Picked {
     pub end: usize,
     pub flags: u32,
     pub used: usize,
-    pub loops: [u64; 7],
+    pub partial_loops: u64,
+    pub suggest_loops: u64,
+    pub reverse_rare_loops: u64,
+    pub rare_loops: u64,
+    pub rand_start_loops: u64,
+    pub rand_loops: u64,
+    pub busy_loops: u64,
 }
 
 // The blocks picked stand in the output from `end` on, each as a word: piece · 65,536 + block.
@@ -75,6 +81,12 @@ pub fn pick_pieces(
         end: r.end,
         flags: r.flags,
         used: r.used,
-        loops: loops,
+        partial_loops: loops[0],
+        suggest_loops: loops[1],
+        reverse_rare_loops: loops[2],
+        rare_loops: loops[3],
+        rand_start_loops: loops[4],
+        rand_loops: loops[5],
+        busy_loops: loops[6],
     }
 }

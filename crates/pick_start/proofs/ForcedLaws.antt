@@ -69,7 +69,8 @@ module _ (s : Shape) (live : ℕ) (rows cells : List ℕ) (h : InQueues s live r
   unfolding placesIn
   queue-long words g =
       let d = pickerIn live rows words cells in
-      ap (λ (l : List ℕ). len l) (below-same held (queueIn d) Downloading live (λ k l. held-is s live rows words cells g k l (h .there k l)))
+      ap (λ (l : List ℕ). len l) (below-same held (queueIn d) Downloading live
+      (λ k l. held-is s live rows words cells g k l (h .there k l)))
       ∙ ap (λ (m : ℕ). len (placesBelow (queueIn d) Downloading m)) (sym (live-number s live rows words cells g))
       ∙ sym (each-long (partialIn d) (placesIn Downloading d)) ∙ ap (λ (l : List DownloadingPiece). len l) (places-queue Downloading d)
 

@@ -7,13 +7,17 @@ use Prim.Native.Nat.{ℕ, zero, suc, _+_, _-_}
 use Rattle.model.specs.Lists.{unless, when, branch, walk, forEach, repeat}
 use Rattle.model.specs.State.{DownloadingPiece, Picker}
 use Rattle.model.specs.list.Order.{Draws}
-use Rattle.model.specs.pick.Blocks.{PickRequest, option, hasBit, PickState, spent, isPieceFree, canPick, downBy, upBy, Span, lowestStart, spanFrom, spanOf}
+use Rattle.model.specs.pick.Blocks.{PickRequest, option, hasBit, PickState, spent, isPieceFree, canPick, downBy, upBy, Span, lowestStart}
+use Rattle.model.specs.pick.Blocks.{spanFrom, spanOf}
 use Rattle.model.specs.pick.Blocks.{expandPiece, addNewPiece, addBlocksDownloading, addPartialOf, addStanding, addBlocks}
-use Rattle.model.specs.pick.Pick.{usable, scanStep, scanPartials, byRarity, orderedPartials, partialStep, walkPartials, pickScanned, pickPartials}
+use Rattle.model.specs.pick.Pick.{usable, scanStep, scanPartials, byRarity, orderedPartials, partialStep, walkPartials, pickScanned}
+use Rattle.model.specs.pick.Pick.{pickPartials}
 use Rattle.model.specs.pick.Pick.{visit, suggest, pickSuggested, visitBelowTop, pickRange, pickSequential, inRange, visitOutside, rareStep}
 use Rattle.model.specs.pick.Pick.{reverseRareStep, extentStep, pickExtents, pickForward, pickRarest, RandomWalk, standsOpen, skipDone, skip}
-use Rattle.model.specs.pick.Pick.{randomSpan, randomPiece, randomVisit, marked, ended, lapEnds, lapFrom, lapStep, walkOver, ringFuel, trace, ring}
-use Rattle.model.specs.pick.Pick.{pickRandom, busyBlocks, fullPartials, endGameStep, pickEndGame, withListUpdated, pickListed, pickMain, pickRest}
+use Rattle.model.specs.pick.Pick.{randomSpan, randomPiece, randomVisit, marked, ended, lapEnds, lapFrom, lapStep, walkOver, ringFuel, trace}
+use Rattle.model.specs.pick.Pick.{ring}
+use Rattle.model.specs.pick.Pick.{pickRandom, busyBlocks, fullPartials, endGameStep, pickEndGame, withListUpdated, pickListed, pickMain}
+use Rattle.model.specs.pick.Pick.{pickRest}
 use Rattle.pick_state.specs.declared.request.PickRequest.{PickRequest as Request}
 use Rattle.pick_state.specs.Requests.{requestOf}
 use Rattle.pick_start.specs.Starting.{requestWith}
@@ -149,7 +153,8 @@ module _ (q : Request) (bytes suggestions : List ℕ) where
 
   -- ---- the phases
   pub partials-same : pickPartials a ≡ pickPartials b
-  unfolding pickPartials pickScanned walkPartials partialStep orderedPartials byRarity scanPartials scanStep usable isPieceFree hasBit option requestWith requestOf addBlocksDownloading
+  unfolding pickPartials pickScanned walkPartials partialStep orderedPartials byRarity scanPartials scanStep usable isPieceFree hasBit
+      option requestWith requestOf addBlocksDownloading
   partials-same = refl
 
   pub main-same : (draws : Draws) → pickMain draws a ≡ pickMain draws b

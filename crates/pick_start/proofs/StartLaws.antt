@@ -22,12 +22,30 @@ use Rattle.pick_start.specs.Starting.{requestWith, forcedNumbers, effect
 
 -- ---- what is asked
 -- the rule forces it
-pub forced-made : (q : Request) (options : PickerOptions) → options .0 ≡ union (q .options .0) prioritizePartials → (forced : Bool) → forced ≡ true
-    → record { options = options; wanted = q .wanted; contiguous = 0; peers = q .peers; «has_peer» = q .«has_peer»; peer = q .peer; bits = q .bits }
+pub forced-made : (q : Request) (options : PickerOptions) → options .0 ≡ union (q .options .0) prioritizePartials → (forced : Bool) →
+    forced ≡ true
+    → record {
+      options = options;
+      wanted = q .wanted;
+      contiguous = 0;
+      peers = q .peers;
+      «has_peer» = q .«has_peer»;
+      peer = q .peer;
+      bits
+          = q .bits;
+    }
     ≡ effectiveNumbers forced q
 unfolding effectiveNumbers forcedNumbers
 forced-made q options e forced f =
-    ap (λ (n : ℕ). record { options = record { 0 = n }; wanted = q .wanted; contiguous = 0; peers = q .peers; «has_peer» = q .«has_peer»; peer = q .peer; bits = q .bits }) e
+    ap (λ (n : ℕ). record {
+      options = record { 0 = n };
+      wanted = q .wanted;
+      contiguous = 0;
+      peers = q .peers;
+      «has_peer» = q .«has_peer»;
+      peer = q .peer;
+      bits = q .bits;
+    }) e
     ∙ sym (ap (λ (b : Bool). effectiveNumbers b q) f)
 
 -- or not
@@ -47,7 +65,8 @@ module _ (d : Picker) (q : Request) (bytes suggestions : List ℕ) where
       → effectiveRequest d (requestWith q bytes suggestions) ≡ requestWith (effectiveNumbers forced q) bytes suggestions
   unfolding effectiveRequest
   effective-is forced e =
-      effective-by (isForced d (requestWith q bytes suggestions)) ∙ ap (λ (b : Bool). requestWith (effectiveNumbers b q) bytes suggestions) (sym e)
+      effective-by (isForced d (requestWith q bytes suggestions)) ∙ ap
+      (λ (b : Bool). requestWith (effectiveNumbers b q) bytes suggestions) (sym e)
 
 -- ---- the start
 empty-between : (end : ℕ) (words : List ℕ) → blocksBetween end end words ≡ []
@@ -88,7 +107,8 @@ module _ (d : Picker) (end : ℕ) (out aside : List ℕ) (ignored : List Bool) (
   flagged-is false flag t = refl
 
   -- the definition's start
-  pub start-is : ignored ≡ replicate maxPieces false → loops ≡ replicate numCounters 0 → (q : Request) (bytes suggestions : List ℕ) (forced : Bool)
+  pub start-is : ignored ≡ replicate maxPieces false → loops ≡ replicate numCounters 0 → (q : Request) (bytes suggestions : List ℕ)
+      (forced : Bool)
       → forced ≡ isForced d (requestWith q bytes suggestions)
       → state (startNumbers (effectiveNumbers forced q) forced end) ≡ startPick d (requestWith q bytes suggestions)
   unfolding startNumbers startPick requestWith
@@ -98,7 +118,8 @@ module _ (d : Picker) (end : ℕ) (out aside : List ℕ) (ignored : List Bool) (
       flagged-is forced partialRatio (flaggedWhere (ltb 0 (p .contiguous)) preferContiguous (firstNumbers p end))
       ∙ ap (when forced (flagged partialRatio)) (flagged-is (ltb 0 (p .contiguous)) preferContiguous (firstNumbers p end)
       ∙ ap (when (ltb 0 (p .contiguous)) (flagged preferContiguous)) (first-is p bytes suggestions ei el)
-      ∙ ap (λ (x : PickRequest). when (ltb 0 (x .contiguous)) (flagged preferContiguous) (startState d x)) (sym (effective-is d q bytes suggestions forced e)))
+      ∙ ap (λ (x : PickRequest). when (ltb 0 (x .contiguous)) (flagged preferContiguous) (startState d x))
+      (sym (effective-is d q bytes suggestions forced e)))
       ∙ ap (λ (b : Bool). when b (flagged partialRatio) (when (ltb 0 (effectiveRequest d a .contiguous)) (flagged preferContiguous)
       (startState d (effectiveRequest d a)))) e
 
@@ -126,10 +147,12 @@ first-begun q end false = record { left = refl; asked = omega arith; given = ref
 pub start-begun : (q : Request) (end : ℕ) (forced : Bool) → Begun q end (startNumbers (effectiveNumbers forced q) forced end)
 unfolding startNumbers
 start-begun q end forced =
-    flag-begun q end _ forced partialRatio (flag-begun q end _ (ltb 0 (effectiveNumbers forced q .contiguous)) preferContiguous (first-begun q end forced))
+    flag-begun q end _ forced partialRatio
+    (flag-begun q end _ (ltb 0 (effectiveNumbers forced q .contiguous)) preferContiguous (first-begun q end forced))
 
 -- a pick that begins is under way
-pub start-underway : (d : Picker) (q : Request) (end : ℕ) (t : PickNumbers) → Begun q end t → (out aside : List ℕ) (ignored : List Bool) (loops : List ℕ)
+pub start-underway : (d : Picker) (q : Request) (end : ℕ) (t : PickNumbers) → Begun q end t → (out aside : List ℕ) (ignored : List Bool)
+    (loops : List ℕ)
     → q .wanted ≤ 2048 → q .contiguous ≤ 2048 → end + q .wanted + q .contiguous + 255 ≤ length out → length aside ≡ 2304
     → length ignored ≡ 4096 → length loops ≡ 7 → Underway d t out aside ignored loops
 unfolding stateOf contiguousOf len

@@ -19,7 +19,8 @@ use Rattle.pick_state.specs.PickStates.{withFlags}
 -- ---- the forcing rule
 -- beside any words: what the definition says of a request with these peers
 pub record ForcedSays (s : Shape) (live : ℕ) (rows cells : List ℕ) (peers : ℕ) (r : Bool) : Type 0 where
-  pub is : (words : List ℕ) → LiveRows s live rows words cells → (a : PickRequest) → a .peers ≡ peers → r ≡ isForced (pickerIn live rows words cells) a
+  pub is : (words : List ℕ) → LiveRows s live rows words cells → (a : PickRequest) → a .peers ≡ peers → r ≡ isForced
+      (pickerIn live rows words cells) a
 
 -- ---- what is asked
 -- the definition's request, with the pieces suggested

@@ -65,6 +65,27 @@ pick-phases-requires c κs =
       ),
     )
 
+array-read-t32 : tie.Need-array-read-t32
+array-read-t32 c = search needs
+
+array-read-t35 : tie.Need-array-read-t35
+array-read-t35 c = search needs
+
+array-read-t38 : tie.Need-array-read-t38
+array-read-t38 c = search needs
+
+array-read-t41 : tie.Need-array-read-t41
+array-read-t41 c = search needs
+
+array-read-t44 : tie.Need-array-read-t44
+array-read-t44 c = search needs
+
+array-read-t47 : tie.Need-array-read-t47
+array-read-t47 c = search needs
+
+array-read-t50 : tie.Need-array-read-t50
+array-read-t50 c = search needs
+
 same-length : tie.Need-same-length
 same-length c = c .before .before .before .before .before .before .before .pick-phases .ensures .wordsKept .long
 
@@ -97,6 +118,13 @@ pick-pieces-spec =
     slice-aggregate-pick-phases-2
     slice-aggregate-pick-phases-3
     pick-phases-requires
+    array-read-t32
+    array-read-t35
+    array-read-t38
+    array-read-t41
+    array-read-t44
+    array-read-t47
+    array-read-t50
     same-length
     same-length-2
     returns)
