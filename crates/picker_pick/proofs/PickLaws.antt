@@ -47,23 +47,16 @@ use Rattle.picker_calls.specs.declared.admission.Admission.the-variants.{Refuse
 use Rattle.picker_calls.specs.declared.judgement.Judgement.{Judgement}
 use Rattle.picker_calls.specs.declared.judgement.Judgement.the-variants.{Refused as No, Passed}
 use Rattle.picker_calls.specs.declared.outcomes.Outcome.the-variants.{Refused}
-use Rattle.picker_calls.specs.Calling.{ofMemory}
 use Rattle.picker_calls.specs.Outcomes.{judged}
 use Rattle.picker_calls.specs.Cores.{Listless, Stood, Admitted}
+use Rattle.picker_calls.proofs.ListlessLaws.{listless}
 use Rattle.picker_calls.proofs.CoreLaws.{keep-insert, stood-at, barred, denied, acted}
 use Rattle.picker_output.specs.Picking.{notPicked, gave, pickAnswer, OutputKept}
 use Rattle.picker_pick.specs.Answers.{PickCore}
 
 -- ---- none of its refusals is 2
-after : (t : Bool) (why : Refusal) (r : Option Refusal) → ofMemory (some why) ≡ false → ofMemory r ≡ false → ofMemory (check t why r) ≡
-    false
-unfolding check
-after true why r e h = e
-after false why r e h = h
-
 pick-listless : (request : PickRequest) (free : ℕ) (draws : Draws) → Listless (pick-pieces request free draws)
-unfolding refusal refuseFewDraws ofMemory
-pick-listless request free draws d = after _ FewDraws _ refl (after _ PickArguments _ refl (after _ ShortOutput none refl refl))
+pick-listless request free draws = listless (pick-pieces request free draws) refl
 
 -- ---- what is asked, and what the judge was shown
 module _ (a : PickInput) (bytes suggestions : List ℕ) where
@@ -180,9 +173,9 @@ module _ (words cells rows counts : List ℕ) (lent : ℕ) (v : Admission) (g : 
     unfolding pickAnswer OutputKept
     pick-denied why e = record {
       done = λ partials l r. record {
-        called = denied words cells rows counts lent v g s at (pick-pieces request (length out - a .end) draws)
-            (pick-listless request (length out - a .end) draws) j judged-is why e (Refused why) 0 Keep (refl, refl, refl) .done partials
-            l r .1;
+        called = denied s lent rows counts words cells (stood-at words cells rows counts lent v g s at)
+            (pick-pieces request (length out - a .end) draws) (pick-listless request (length out - a .end) draws) j judged-is why e
+            (Refused why) 0 Keep (refl, refl, refl) .done partials l r .1;
         output = refl;
       };
     }
@@ -256,9 +249,9 @@ module _ (words cells rows counts : List ℕ) (lent : ℕ) (v : Admission) (g : 
         unfolding pickAnswer OutputKept
         pick-did = record {
           done = λ partials l k. record {
-            called = acted words cells rows counts lent v g s at (pick-pieces request (length out - a .end) draws)
-                (pick-listless request (length out - a .end) draws) j judged-is e live many Keep (λ f i. absurd (keep-insert f i)) words′
-                cells
+            called = acted s lent rows counts words cells stood (pick-pieces request (length out - a .end) draws)
+                (pick-listless request (length out - a .end) draws) (sym judged-is ∙ ap judged e) live many Keep (λ f i. keep-insert f i)
+                words′ cells
                 (picked (blocksBetween (a .end) (r .end) out′) (r .flags) (loopsOf r) (r .used))
                 (pickPieces draws d (lentRequest request) .picker)
                 answers changed .done partials l k .1;
