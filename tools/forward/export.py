@@ -113,7 +113,7 @@ def clause_params(s):
     conv = f'(conv : {taken_type(made)} .Denot → {given_type(made)} .Denot) ' if made else ''
     return [f'          {makes}',
             f'          {plain}(cc : Clauses 𝓤 (callEnded {call_types(s)})) (cd : Clauses 𝓤 (plainEnded So Rr)) '
-            f'(cf : Clauses 𝓤 exportEnded) {conv}(back : Rr .Denot → So .Denot) (P : {said_type(s)}) where']
+            f'(cf : Clauses 𝓤 exportEnded) {conv}(coded : So .Denot → Rr .Denot) (P : {said_type(s)}) where']
 
 
 def call_types(s):
@@ -188,7 +188,7 @@ def links(s):
     nows = words(*[f'(b{path(i)}' + ('' if p.kind == 'val' else ' .now') + ')' for i, p in enumerate(s.params)])
     leaves = words(*[f'(ws{path(s.at[p.name])})' for p in s.written])
     made = s.values[0] if s.makes else None
-    binders = words('(r : Rr .Denot)', last_binders(s))
+    binders = words('(o : So .Denot) (r : Rr .Denot)', last_binders(s))
     return ['        -- what links the contracts. P: what the call says of what it is given, of its answer, and of what it leaves',
             '        pub record Links : Type 2 where'] + (
                 plain_links('make', 'cm', f'{taken_type(made)} {given_type(made)}', 'r ≡ conv x') if made else []) + [
@@ -196,8 +196,8 @@ def links(s):
                 f'          pub asks : {at} → ent 𝓤 (emp 𝓤) (cc κs b .requires (ghosts κs b))',
                 f'          pub tells : {at} (r : So .Denot) (ws : Lasts {of} κs b) '
                 f'→ ent 𝓤 (cc κs b .ensures (ghosts κs b) r (atExit {of} κs b ws)) (fact 𝓤 (P {words(nows, "r", leaves)}))'] + \
-        plain_links('code', 'cd', 'So Rr', 'back r ≡ x') + [
-            f'          pub ends : (κs : Lfts {n}) (a : Args) (g : cf κs a .ghost) {binders} → {said(s, "(back r)")} '
+        plain_links('code', 'cd', 'So Rr', 'r ≡ coded x') + [
+            f'          pub ends : (κs : Lfts {n}) (a : Args) (g : cf κs a .ghost) {binders} → r ≡ coded o → {said(s, "o")} '
             f'→ ent 𝓤 (emp 𝓤) (cf κs a .ensures g r (atExit exportEnded κs a {left_values(s)}))', '']
 
 
@@ -236,7 +236,7 @@ def exits(s):
     c = Context([n for n, _ in had], '!')
     c.step(f'suffices ! _ (ends-at 𝓤 H A exportEnded stayed cf W ({at_entry(s)}, g) (vr r) r {left_values(s)} {fits})')
     c.push('ens', f'use0 W (raw (cf κs a .ensures g r (atExit exportEnded κs a {left_values(s)}))) '
-           f'(links .ends κs a g {words("r", *map(last, s.written), "h")})')
+           f'(links .ends κs a g {words("o r", *map(last, s.written), "er h")})')
     c.push('toks', 'nothing !')
     for p in reversed(s.lent):
         c.join('tok ' + p.name, 'toks', 'toks')
@@ -251,7 +251,7 @@ def exits(s):
     c.step('frame !')
     lens = ''.join(f'length {last(p)} ≡ length ({argument(s, p.name)} .now) → ' for p in s.written)
     binders = last_binders(s) + ' → ' if s.written else ''
-    names = words('r is', *map(last, s.written), *['l·' + p.name for p in s.written], 'h')
-    return [f'            exits : (r : Rr .Denot) → Is Rr r (vr r ∷ []) → {binders}{lens}{said(s, "(back r)")} '
+    names = words('o r er is', *map(last, s.written), *['l·' + p.name for p in s.written], 'h')
+    return [f'            exits : (o : So .Denot) (r : Rr .Denot) → r ≡ coded o → Is Rr r (vr r ∷ []) → {binders}{lens}{said(s, "o")} '
             f'→ ent 𝓤 (⋆ 𝓤 H A ({cons(t for _, t in had)})) (Post′ (vr r))',
             f'            exits {names} = qed W ({cons(t for _, t in had)}) ∵ {c.taken()}done !', '']

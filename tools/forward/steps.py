@@ -120,7 +120,7 @@ class Walk:
 
     def code(self):
         """The answer made a struct of numbers."""
-        self.cut('plain-step So Rr 𝓤 H A W makes·o vr tells·r cd o (vo o) ! fm (λ r. back r ≡ o) known-code (links .code-ghosts o) is-o '
+        self.cut('plain-step So Rr 𝓤 H A W makes·o vr tells·r cd o (vo o) ! fm (λ r. r ≡ coded o) known-code (links .code-ghosts o) is-o '
                  f'(links .code-asks o) (links .code-tells o) (λ u. {operands([look(self.c, "o", 1)])}) (λ r is er.')
         self.land('ret', '(typed·r r is)')
 
@@ -139,25 +139,22 @@ class Walk:
         self.cut()
         had = ['fin ' + p.name for p in s.written] + ['tok ' + p.name for p in s.lent]
         c.step(f'keep ! ({cons(str(c.place(n)) for n in had)})')
-        given = words('r is', *map(last, s.written), *['l·' + p.name for p in s.written])
-        proved = f'(told {words("m em" * s.makes, "o r er", *map(last, s.written), "h")})'
+        given = words('o r er is', *map(last, s.written), *['l·' + p.name for p in s.written])
+        proved = f'(told {words("m em o", *map(last, s.written), "h")})' if s.makes else 'h'
         self.cut(f'by ! (exits {given} {proved})')
         self.lines[-1] += ')' * self.opened
 
 
 def told(s):
-    """What the public call says of its answer is said of the export's."""
-    lasts = words(*map(last, s.written))
-    binders = ''.join(f' ({last(p)} : {listed(p)})' for p in s.written)
+    """What the public call says of what was made of the argument."""
     if not s.makes:
-        return [f'                  told : (o : So .Denot) (r : Rr .Denot) → back r ≡ o →{binders}{" → " if binders else " "}{said(s, "o")} '
-                f'→ {said(s, "(back r)")}',
-                f'                  told {words("o r er", lasts, "h")} = subst (λ (o′ : So .Denot). {said(s, "o′")}) (sym er) h', '']
+        return ['']
     of, x = given_type(s.values[0]), f'({argument(s, s.values[0].name)})'
-    return [f'                  told : (m : {of} .Denot) → m ≡ conv {x} → (o : So .Denot) (r : Rr .Denot) → back r ≡ o '
-            f'→{binders}{" → " if binders else " "}{said(s, "o", "m")} → {said(s, "(back r)")}',
-            f'                  told {words("m em o r er", lasts, "h")} = subst (λ (m′ : {of} .Denot). {said(s, "(back r)", "m′")}) em '
-            f'(subst (λ (o′ : So .Denot). {said(s, "o′", "m")}) (sym er) h)', '']
+    binders = ''.join(f' ({last(p)} : {listed(p)})' for p in s.written)
+    return ['                where',
+            f'                  told : (m : {of} .Denot) → m ≡ conv {x} → (o : So .Denot){binders} → {said(s, "o", "m")} → {said(s, "o")}',
+            f'                  told {words("m em o", *map(last, s.written), "h")} = '
+            f'subst (λ (m′ : {of} .Denot). {said(s, "o", "m′")}) em h', '']
 
 
 def known(s, calls):
@@ -180,7 +177,7 @@ def walk(s, code):
             f'              walk : {rooms}ent 𝓤 (onEntry 𝓤 H A (exportEnded .signature) κs {tup(list(map(share, s.lent)))} a vals) '
             f'(WpFn 𝓤 H C Λ exportFn ({cons(machine(s, p) for p in s.params)}) Post′)',
             f'              walk {words(*["room·" + p.name for p in s.lent])} ='] + [
-                '                  ' + line for line in w.lines if line] + ['                where'] + told(s)
+                '                  ' + line for line in w.lines if line] + told(s)
 
 
 def meets(s):
@@ -231,7 +228,7 @@ def own_terms(s):
         return f'({v} .val) ({v} .tells) ({v} .typed {AT})'
     told = words(*[f'{value(v)} (λ κs. {v} .silent) ({v} .last)' for v in taken], *[value(v) for v in made + ['Vo', 'Vr']])
     makes = words(*[f'({v} .makes {AT})' for v in taken + made + ['Vo', 'Vr']])
-    return call, public, words(public, told, AT, makes, 'cm' * s.makes, 'cc cd cf', 'conv' * s.makes, 'back P')
+    return call, public, words(public, told, AT, makes, 'cm' * s.makes, 'cc cd cf', 'conv' * s.makes, 'coded P')
 
 
 def own_known(s):
@@ -267,7 +264,7 @@ def own_part(s):
         '  abbrev W : Given 𝓤 H (𝓖 .A)', '  W = givenOf 𝓤 H 𝓜 𝓖', '',
         '  abbrev 𝓣 : MachineTables 𝓤 H 𝓜', '  𝓣 = tables 𝓤 H 𝓜 𝓡 γ', '',
         f'  module _ {make}(cc : Clauses 𝓤 (callEnded {call})) (cd : Clauses 𝓤 (plainEnded (Vo .row) (Vr .row))) '
-        f'(cf : Clauses 𝓤 (exportEnded {public})) {conv}(back : Vr .row .Denot → Vo .row .Denot) (P : {own_said(s)}) where',
+        f'(cf : Clauses 𝓤 (exportEnded {public})) {conv}(coded : Vo .row .Denot → Vr .row .Denot) (P : {own_said(s)}) where',
         '    abbrev pub Linking : Type 2', f'    Linking = Links {everything}', '',
         f'    pub {word}-export : Linking → Closed 𝓤 H (𝓣 .C) (𝓣 .Λ) #this (exportFn {public}) '
         + ''.join(f'→ γ #{n} ≡ {n} ' for n in functions) + ''.join(f'→ Triple 𝓤 (𝓡 .run {n}) {c} ' for n, c in own_known(s))
