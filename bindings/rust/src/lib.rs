@@ -5,10 +5,10 @@
 //! argument makes it panic. Method names and arguments are those of the Rust that was carried over; random words come from the caller's
 //! [`Draws`]. Sockets, hashing and files are the caller's.
 //!
-//! ```no_run
+//! ```
 //! use piece_picker::{Bitfield, Draws, PiecePicker, PickerOptions, Refusal};
 //!
-//! fn first_blocks() -> Result<(), Refusal> {
+//! fn main() -> Result<(), Refusal> {
 //!     let mut picker = PiecePicker::new(370_000, 65_536)?;
 //!     let mut draws = Draws::seeded(1);
 //!     picker.inc_refcount_all()?; // a seed, which is peer 7

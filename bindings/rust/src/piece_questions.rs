@@ -51,7 +51,7 @@ impl PiecePicker {
         self.flag_of_piece(sys::pp_have_piece, index)
     }
 
-    /// Whether every block is on disk.
+    /// Whether every block has come: each is Writing or Finished.
     pub fn is_piece_finished(&self, index: PieceIndex) -> Result<bool, Refusal> {
         self.flag_of_piece(sys::pp_is_piece_finished, index)
     }
