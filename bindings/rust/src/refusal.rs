@@ -26,9 +26,9 @@ pub enum Refusal {
     NotWriting,
     /// 10: a 513th partial would be opened.
     TooManyPartials,
-    /// 11: an argument of a pick is out of range or contradicts another.
+    /// 11: an argument of a pick is out of range or contradicts another; the text lists the cases.
     PickArguments,
-    /// 12: fewer free output places than the blocks wanted, the run and 255.
+    /// 12: fewer than N + P + 255 free output places, for N blocks wanted and a run P.
     ShortOutput,
     /// 13: bytes aren't a well-formed image; the place of the first record at fault, counted in bytes from 0.
     IllFormedImage {
@@ -72,11 +72,11 @@ impl Refusal {
             Self::NotWriting => "a Requested block is finished without Writing",
             Self::TooManyPartials => "a 513th partial would be opened",
             Self::PickArguments => {
-                "pick: blocks wanted outside 1 to 2,048, run outside 0 to 2,048, peers outside 0 to 1,000, over 256 suggestions, \
+                "pick: blocks wanted N outside 1 to 2,048, run P outside 0 to 2,048, peers outside 0 to 1,000, over 256 suggestions, \
                  RAREST_FIRST with SEQUENTIAL, or a bitfield whose bits differ from the piece count or whose bytes differ from \
                  bits / 8 rounded up"
             }
-            Self::ShortOutput => "pick: fewer free output places than the blocks wanted, the run and 255",
+            Self::ShortOutput => "pick: fewer than N + P + 255 free output places, for N blocks wanted and a run P",
             Self::IllFormedImage { .. } => "bytes aren't a well-formed image; the record at fault starts at byte",
         }
     }
