@@ -5,6 +5,9 @@ const LEAST: usize = 4352;
 /// As many words are made at a time from a seed.
 const MADE: usize = 4 * LEAST;
 
+/// From one word of a seed to the next.
+const STEP: u64 = 0x9E37_79B9_7F4A_7C15;
+
 /// Words in order, of which each call takes those it needs. A listed one ends: with fewer than 4,352 words left a call is refused with 4.
 #[derive(Clone, Debug, PartialEq, Eq)]
 pub struct Draws {
@@ -21,7 +24,7 @@ struct Seed(u64);
 
 impl Seed {
     fn word(&mut self) -> u32 {
-        self.0 = self.0.wrapping_add(0x9E37_79B9_7F4A_7C15);
+        self.0 = self.0.wrapping_add(STEP);
         let mut z = self.0;
         z = (z ^ (z >> 30)).wrapping_mul(0xBF58_476D_1CE4_E5B9);
         z = (z ^ (z >> 27)).wrapping_mul(0x94D0_49BB_1331_11EB);
@@ -33,7 +36,13 @@ impl Draws {
     /// Words without end, made from a seed as `docs/CALLS.md` makes those of a script. For tests and where chance need not be secret.
     #[must_use]
     pub fn seeded(seed: u64) -> Self {
-        Self { words: Vec::new(), next: 0, used: 0, seed: Some(Seed(seed)) }
+        Self::seeded_after(seed, 0)
+    }
+
+    /// The same from behind the first `used` words on: what a station goes on with that saved seed and [`Draws::used`] beside an image.
+    #[must_use]
+    pub fn seeded_after(seed: u64, used: u64) -> Self {
+        Self { words: Vec::new(), next: 0, used, seed: Some(Seed(seed.wrapping_add(used.wrapping_mul(STEP)))) }
     }
 
     /// The words used by all calls so far.

@@ -267,6 +267,9 @@ fn draws_are_taken_in_order() -> Result<(), Refusal> {
     assert_eq!(seeded, listed);
     assert!(seeded.1 >= 50 && seeded.2 >= seeded.1);
     assert!(random_picks(&mut Draws::seeded(8))? != seeded);
+    let (mut whole, mut later) = (Draws::seeded(7), Draws::seeded_after(7, seeded.2));
+    random_picks(&mut whole)?;
+    assert_eq!(random_picks(&mut whole)?, random_picks(&mut later)?);
     Ok(())
 }
 

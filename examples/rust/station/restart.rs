@@ -31,7 +31,7 @@ pub struct End {
 /// What outlasts a loss of power.
 struct Saved {
     image: Vec<u8>,
-    draws: Draws,
+    draws_used: u64,
     own: Own,
 }
 
@@ -43,7 +43,7 @@ impl Station {
     }
 
     fn save(&mut self) -> Result<Saved, Fault> {
-        Ok(Saved { image: self.part.ask(PiecePicker::image)?, draws: self.part.draws.clone(), own: self.own.clone() })
+        Ok(Saved { image: self.part.ask(PiecePicker::image)?, draws_used: self.part.draws.used(), own: self.own.clone() })
     }
 
     fn set_back(&mut self, saved: &Saved) -> Result<(), Fault> {
@@ -53,7 +53,7 @@ impl Station {
             self.part.picker = PiecePicker::from_image(&image)?;
         }
         let again = self.part.ask(PiecePicker::image)?;
-        self.part.draws = saved.draws.clone();
+        self.part.draws = Draws::seeded_after(self.seed, saved.draws_used);
         self.own = saved.own.clone();
         self.audit()?;
         // a list that was lost shows in what is picked, and not here

@@ -35,7 +35,7 @@ pub struct Station {
     pub part: Part,
     pub own: Own,
     pub blocks_per_piece: i32,
-    seed: u64,
+    pub seed: u64,
     spoil: Spoil,
 }
 
