@@ -221,6 +221,20 @@ fn changes_of_blocks() -> Result<(), Refusal> {
     Ok(())
 }
 
+#[test]
+fn finished_is_not_yet_seeding() -> Result<(), Refusal> {
+    let (mut p, mut draws) = (PiecePicker::new(2, 1)?, Draws::seeded(1));
+    let mut told = Vec::new();
+    for piece in 0..2 {
+        p.set_piece_priority(PieceIndex(1), DownloadPriority(piece as u8), &mut draws)?;
+        p.mark_as_finished(block(piece, 0), None, &mut draws)?;
+        p.piece_passed(PieceIndex(piece))?;
+        told.push((p.is_finished()?, p.is_seeding()?));
+    }
+    assert_eq!(told, [(true, false), (true, true)]);
+    Ok(())
+}
+
 /// The example of the pick program.
 fn example() -> Result<PiecePicker, Refusal> {
     PiecePicker::from_image(&bytes(
