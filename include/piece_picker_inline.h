@@ -274,8 +274,8 @@ static inline const char *pp_refusal_text(uint32_t refusal) {
         "a had piece is marked downloading",
         "a Requested block is finished without Writing",
         "a 513th partial would be opened",
-        "blocks wanted outside 1 to 2,048, run outside 0 to 2,048, peers outside 0 to 1,000, over 256 suggestions, RAREST_FIRST with "
-        "SEQUENTIAL, or a bitfield whose bits differ from the piece count or whose bytes differ from bits / 8 rounded up",
+        ("blocks wanted outside 1 to 2,048, run outside 0 to 2,048, peers outside 0 to 1,000, over 256 suggestions, RAREST_FIRST with "
+         "SEQUENTIAL, or a bitfield whose bits differ from the piece count or whose bytes differ from bits / 8 rounded up"),
         "fewer than blocks wanted plus run plus 255 free output places",
         "bytes aren't a well-formed image",
     };
