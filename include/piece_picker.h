@@ -236,8 +236,8 @@ typedef struct {
     uint32_t refusal;
     uint64_t place;
     uint64_t num_pieces;
-    uint64_t pad_bytes;
-    bool last_piece;
+    uint64_t pad_bytes; /* of these pieces */
+    bool last_piece;    /* whether the torrent's last one is among them */
 } pp_count;
 
 typedef struct {
@@ -322,7 +322,7 @@ pp_change pp_mark_as_finished(PP_BUFFERS, PP_DRAWS, pp_named_block block);
 pp_change pp_mark_as_canceled(PP_BUFFERS, PP_DRAWS, pp_named_block block);
 /* The peer will not bring the block: it is free again with the last one who was asked. 5. */
 pp_change pp_abort_download(PP_BUFFERS, PP_DRAWS, pp_named_block block);
-/* The piece's hash was wrong or cannot be had now: nothing of its partial is given out, and it is not passed. 5. */
+/* Hashing or writing the piece failed: until its partial is closed none of its blocks is picked, and it is not passed. 5. */
 pp_change pp_lock_piece(PP_BUFFERS, int32_t piece);
 /* The piece's hash was right; with all its blocks Finished the piece is had. 5. */
 pp_change pp_piece_passed(PP_BUFFERS, int32_t piece);
@@ -351,18 +351,18 @@ pp_answer pp_dirty(PP_CONST_BUFFERS);          /* whether the list is stale */
 pp_answer pp_get_download_queue_size(PP_CONST_BUFFERS);
 pp_answer pp_num_pad_bytes(PP_CONST_BUFFERS);
 pp_answer pp_num_have(PP_CONST_BUFFERS); /* had or passed */
-pp_answer pp_num_filtered(PP_CONST_BUFFERS);
-pp_answer pp_num_have_filtered(PP_CONST_BUFFERS);
+pp_answer pp_num_filtered(PP_CONST_BUFFERS);      /* of priority 0, not had */
+pp_answer pp_num_have_filtered(PP_CONST_BUFFERS); /* of priority 0, had */
 pp_answer pp_is_finished(PP_CONST_BUFFERS); /* nothing that is wanted is left */
 pp_answer pp_is_seeding(PP_CONST_BUFFERS);  /* no piece is left */
 pp_answer pp_num_want_left(PP_CONST_BUFFERS);
 
-pp_copies pp_distributed_copies(PP_CONST_BUFFERS);
-pp_count pp_want(PP_CONST_BUFFERS);
-pp_count pp_have_want(PP_CONST_BUFFERS);
+pp_copies pp_distributed_copies(PP_CONST_BUFFERS); /* copies of the rarest piece, and how many pieces have more */
+pp_count pp_want(PP_CONST_BUFFERS);                /* pieces of priority above 0 */
+pp_count pp_have_want(PP_CONST_BUFFERS);           /* those that are had */
 pp_count pp_have(PP_CONST_BUFFERS);
 pp_count pp_all_pieces(PP_CONST_BUFFERS);
-pp_sizes pp_get_download_queue_sizes(PP_CONST_BUFFERS);
+pp_sizes pp_get_download_queue_sizes(PP_CONST_BUFFERS); /* partials by queue, plain and reverse together */
 
 /* What stands at a place; PP_KIND_NOTHING past the last. Refusal 5 of list_place alone, past its last place. */
 pp_answer pp_partial_at(PP_CONST_BUFFERS, int32_t place);    /* partials by rising piece: the piece */
