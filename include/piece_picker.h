@@ -26,7 +26,8 @@
  * have equal images exactly when they answer alike in every later list of calls. pp_image_needed gives a length that is enough for any
  * image of a geometry; the answer says how many bytes there are. Any bytes may be read: those that are no image are refused with 13.
  *
- * Stack. Marks, lists and heaps of a call stand on the stack; PP_STACK_BYTES is enough for any call and what it calls.
+ * Stack. What a call works on besides stands on the stack: PP_STACK_BYTES is enough for any call and all that it calls. The pick takes the
+ * most, some 97 KiB; any other call takes less than 32 KiB. examples/stack.py reads that from the archive's machine code.
  *
  * x86-64 with the System V calling convention. */
 #ifndef PIECE_PICKER_H
@@ -56,7 +57,8 @@ enum {
     PP_MAX_PREFER_CONTIGUOUS_BLOCKS = 2048,
     PP_MAX_SUGGESTIONS = 256,
     PP_OUTPUT_BESIDE = 255, /* a pick needs num_blocks + prefer_contiguous_blocks + this many free places */
-    PP_MAX_OUTPUT = 4351    /* free places that are enough for any pick */
+    PP_MAX_OUTPUT = 4351,   /* free places that are enough for any pick */
+    PP_STACK_BYTES = 131072
 };
 
 /* ---- the thirteen refusals, 0 being none */
@@ -412,9 +414,9 @@ pp_answer pp_get_availability_vec(PP_CONST_BUFFERS, uint16_t *out, size_t out_le
 pp_answer pp_piece_priorities(PP_CONST_BUFFERS, uint16_t *out, size_t out_len);
 /* Seven a partial, by queue and then by rising piece: index, finished, passed, writing, locked, requested, hashing; 7 * m. */
 pp_answer pp_get_download_queue(PP_CONST_BUFFERS, uint64_t *out, size_t out_len);
-/* Two a block: has-peer, peer; 2 * b. Refusal 5. */
+/* Two a block: has-peer, peer, which means nothing beside a has-peer of 0; 2 * b. Refusal 5. */
 pp_answer pp_get_downloaders(PP_CONST_BUFFERS, uint64_t *out, size_t out_len, int32_t piece);
-/* Four a block: state, num_peers, has-peer, peer; 4 * b. PP_KIND_NOTHING without a partial. Refusal 5. */
+/* Four a block: state, num_peers, has-peer, peer as above; 4 * b. PP_KIND_NOTHING without a partial. Refusal 5. */
 pp_answer pp_blocks_for_piece(PP_CONST_BUFFERS, uint64_t *out, size_t out_len, int32_t piece);
 
 enum {

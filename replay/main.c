@@ -3,6 +3,7 @@
  * be standard input, `-`. */
 #include <stdio.h>
 
+#include "answers.h"
 #include "calls.h"
 #include "compare.h"
 #include "lent.h"
@@ -56,6 +57,12 @@ static void demand_calls(struct script *script) {
     rewind_script(script);
 }
 
+static void say(const struct counts *counts) {
+    printf("%zu scripts, %zu calls, %zu picks answered as recorded, every image too\n", counts->scripts, counts->calls, counts->picks);
+    printf("%zu calls had a number beyond the exports' types and were given the nearest one; none was passed over\n", counts->moved);
+    printf("%zu blocks without a peer had a number beside that, which means nothing\n", numbers_beside_none());
+}
+
 int main(int argc, char **argv) {
     if (argc != 3)
         bad_input("two files are needed: the calls and their outcomes");
@@ -66,7 +73,6 @@ int main(int argc, char **argv) {
     struct counts counts = {0};
     if (!replay_calls(&script, &outcomes, &line, &counts) || !replay_end(&outcomes, &line, counts.calls))
         return 1;
-    printf("%zu scripts, %zu calls, %zu picks answered as recorded, every image too\n", counts.scripts, counts.calls, counts.picks);
-    printf("%zu calls had a number beyond the exports' types and were given the nearest one; none was passed over\n", counts.moved);
+    say(&counts);
     return 0;
 }
