@@ -33,6 +33,7 @@ WORDS, CELLS, RECORDS = range(3)
 MAKERS = ("new", "read")
 CHANGES = {*DRAWING, *STILL, "pick_pieces"}
 LONGEST_READ = 3000
+MOST_LENGTHS = 150
 WEIGHTS = [8 if name == "pick_pieces" else 3 if name in CHANGES.union(MAKERS) else 1 for name in CALLS]
 # calls on a whole memory, on an edited one and on a cut one
 WHOLE, EDITED, CUT = 40, 8, 6
@@ -198,6 +199,14 @@ def round_of_anything(lines):
         lines.memory(lines.some(CUT), edits, some_lengths(rng, shape))
 
 
+def short_geometry(rng):
+    """One that needs few numbers, as every length of its buffers is tried."""
+    while True:
+        total, size = small_geometry(rng)
+        if sum(Shape(total, size).needs) <= MOST_LENGTHS:
+            return total, size
+
+
 def every_call_at_every_length(lines, total, size):
     shape = lines.picker(a_picker(lines.rng, total, size))
     for lent in every_length(shape.needs):
@@ -234,8 +243,8 @@ def show_all(lines, many):
             full_of_partials(lines)
         if k % 300 == 5:
             largest(lines)
-        if k % 200 == 199:
-            every_call_at_every_length(lines, *small_geometry(rng))
+        if k % 100 == 99:
+            every_call_at_every_length(lines, *short_geometry(rng))
         k += 1
 
 

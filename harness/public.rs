@@ -32,27 +32,27 @@ const WHILE: u64 = 3000;
 
 /// The least number of each, by the names of `note`; each of the 75 exports has to be called `EACH` times.
 const LEAST: [(&str, u64); 18] = [
-    ("call", 20_000),
-    ("accepted", 4_000),
-    ("refused 1", 40),
-    ("refused 2", 2_000),
-    ("refused 3", 3_000),
-    ("refused 4", 100),
-    ("refused 5", 500),
-    ("refused 6", 15),
-    ("refused 7", 15),
-    ("refused 8", 10),
-    ("refused 9", 10),
+    ("call", 40_000),
+    ("accepted", 8_000),
+    ("refused 1", 300),
+    ("refused 2", 8_000),
+    ("refused 3", 8_000),
+    ("refused 4", 80),
+    ("refused 5", 1_000),
+    ("refused 6", 80),
+    ("refused 7", 80),
+    ("refused 8", 20),
+    ("refused 9", 30),
     ("refused 10", 5),
-    ("refused 11", 80),
-    ("refused 12", 20),
-    ("refused 13", 80),
-    ("changed", 800),
-    ("with cut buffers", 2_000),
-    ("needs", 100),
+    ("refused 11", 150),
+    ("refused 12", 50),
+    ("refused 13", 300),
+    ("changed", 3_500),
+    ("with cut buffers", 8_000),
+    ("needs", 200),
 ];
 const EXPORTS: usize = 73;
-const EACH: u64 = 40;
+const EACH: u64 = 150;
 
 type Seen = BTreeMap<String, u64>;
 
