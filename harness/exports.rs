@@ -334,7 +334,7 @@ macro_rules! questions {
     (@declared list $name:ident $answer:ty) => { calls! { $name(out: *mut u64, len: usize) -> $answer; } };
     (@declared list_of $name:ident $answer:ty) => { calls! { $name(out: *mut u64, len: usize, piece: i32) -> $answer; } };
     (@asked picker $lent:ident.$name:ident $at:ident $room:ident) => {{
-        let [_, _]: [i32; 2] = $at;
+        let _ = $at;
         $lent.$name().told($room)
     }};
     (@asked number $lent:ident.$name:ident $at:ident $room:ident) => { $lent.$name($at[0]).told($room) };
@@ -342,11 +342,11 @@ macro_rules! questions {
         $lent.$name(PieceBlock { piece: $at[0], block: $at[1] }).told($room)
     };
     (@asked column $lent:ident.$name:ident $at:ident $room:ident) => {{
-        let [_, _]: [i32; 2] = $at;
+        let _ = $at;
         $lent.$name($room.column.as_mut_ptr(), $room.column.len()).told($room)
     }};
     (@asked list $lent:ident.$name:ident $at:ident $room:ident) => {{
-        let [_, _]: [i32; 2] = $at;
+        let _ = $at;
         $lent.$name($room.out.as_mut_ptr(), $room.out.len()).told($room)
     }};
     (@asked list_of $lent:ident.$name:ident $at:ident $room:ident) => {
