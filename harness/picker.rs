@@ -17,6 +17,7 @@ impl Shape {
         Shape { n, b: words[1].div_ceil(words[1].min(BLOCK)) as usize, m: n.min(512) }
     }
     /// Words, cells and records that there have to be.
+    #[allow(dead_code)]
     pub fn needs(&self) -> [usize; 3] {
         [HEAD + 2 * self.n + self.m * self.b, 4 * self.n + 3 * self.m * self.b, self.m]
     }
