@@ -51,13 +51,13 @@ class Export:
 
     # ---- the source
     def contract(self):
-        """The public call's contract, of the numbers that are given and of what the struct says."""
-        text = re.sub(token('r'), f'({self.answer.reads} r)', self.call.contract)
-        if not self.makes or not self.argument.conv:
-            return text
-        name, conv = self.plain[0][0], self.argument.conv
-        text = re.sub(token(name) + r'(?= \.)', f'{conv} {name}', text)
-        return re.sub(token(name) + r'(?! \.)(?<!' + re.escape(f'{conv} {name}') + ')', f'({conv} {name})', text)
+        """The public call's contract, of the numbers that are given, and of the answer that the struct says."""
+        text = re.sub(token('r'), 'o', self.call.contract)
+        if self.makes and self.argument.conv:
+            name, conv = self.plain[0][0], self.argument.conv
+            text = re.sub(token(name) + r'(?= \.)', f'{conv} {name}', text)
+            text = re.sub(token(name) + r'(?! \.)(?<!' + re.escape(f'{conv} {name}') + ')', f'({conv} {name})', text)
+        return f'Says {self.answer.coded} {self.answer.reads} (λ o. {text}) r'
 
     def source(self):
         """The function."""
@@ -195,7 +195,7 @@ class Export:
         return f'    (record {{\n{made}      ghosts = λ κs b. tt;\n      asks = λ κs b. id⊢ 𝓤 _;\n      tells = λ κs b r ws. id⊢ 𝓤 _;\n' \
             '      code-ghosts = λ x. tt;\n      code-asks = λ x. id⊢ 𝓤 _;\n      code-tells = λ x r ws. id⊢ 𝓤 _;\n' \
             + wrapped(f'ends = λ κs a g o r{last} er h. factI 𝓤 _ _ '
-                      f'(carried {a.reads} {a.coded} {a.back} (λ (x : {self.call.answer}). Told {self.at()} x{last}) o r er h);', 6) \
+                      f'(carried {a.coded} {a.reads} {a.back} (λ (x : {self.call.answer}). Told {self.at()} x{last}) o r er h);', 6) \
             + '\n    })\n'
 
     def proof(self):
@@ -222,7 +222,7 @@ class Export:
 def source_file(remark, exports):
     """A source with its exports."""
     named = {'memory_records::DownloadingPiece'}
-    ghosts, reads, convs = {}, [], []
+    ghosts, reads, coded, convs = {}, [], {}, []
     for e in exports:
         named |= {f'export_answers::{e.answer.struct}', f'export_answers::{e.answer.function}', f'{e.call.crate}::{e.call.name}'}
         if e.makes and e.argument.type != 'i32':
@@ -230,11 +230,14 @@ def source_file(remark, exports):
         for module, names in e.ghost_names().items():
             ghosts.setdefault(module, []).extend(n for n in names if n not in ghosts.get(module, []))
         reads.append(e.answer.reads)
+        coded.setdefault(e.answer.home, []).append(e.answer.coded)
         if e.makes and e.argument.conv:
             convs.append(e.argument.conv)
     if convs:
         ghosts['Rattle.export_arguments.specs.Arguments'] = sorted(set(convs))
+    ghosts |= {f'Rattle.export_answers.specs.{home}': sorted(set(names)) for home, names in sorted(coded.items())}
     ghosts['Rattle.export_answers.specs.Back'] = sorted(set(reads))
+    ghosts['Rattle.export_walks.specs.Saying'] = ['Says']
     lines = ''.join(f'use {n};\n' for n in sorted(named))
     return f'// {remark}\n// {WRITTEN}\n{lines}{uses(ghosts, "ghost use ", ";")}\n' + '\n'.join(e.source() for e in exports)
 

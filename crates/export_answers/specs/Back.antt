@@ -119,29 +119,63 @@ copiesIn r =
 -- a count of pieces
 unfoldable pub countIn : (r : Counted) → CountAnswer
 countIn r =
-    unlessRefusal CountRefused (CountReplied (record { «num_pieces» = r .«num_pieces»; «pad_bytes» = r .«pad_bytes»; «last_piece» = r .«last_piece» }))
+    unlessRefusal CountRefused (CountReplied (record {
+      «num_pieces» = r .«num_pieces»;
+      «pad_bytes» = r .«pad_bytes»;
+      «last_piece» = r .«last_piece»;
+    }))
     (refusalOf (r .refusal) (r .place))
 
 -- the sizes of the queues
 unfoldable pub sizesIn : (r : Sized) → SizesAnswer
 sizesIn r =
-    unlessRefusal SizesRefused (SizesReplied (record { downloading = r .downloading; full = r .full; finished = r .finished; «zero_prio» = r .«zero_prio» }))
+    unlessRefusal SizesRefused (SizesReplied (record {
+      downloading = r .downloading;
+      full = r .full;
+      finished = r .finished;
+      «zero_prio» = r .«zero_prio»;
+    }))
     (refusalOf (r .refusal) (r .place))
 
 -- of a piece
 unfoldable pub statsIn : (r : Stats) → StatsAnswer
 statsIn r =
-    unlessRefusal StatsRefused (StatsReplied (record { «peer_count» = r .«peer_count»; listed = r .listed; priority = r .priority; flushed = r .flushed; downloading = r .downloading }))
+    unlessRefusal StatsRefused (StatsReplied (record {
+      «peer_count» = r .«peer_count»;
+      listed = r .listed;
+      priority = r .priority;
+      flushed = r .flushed;
+      downloading = r .downloading;
+    }))
     (refusalOf (r .refusal) (r .place))
 
 -- of a partial
 unfoldable pub infoIn : (r : Info) → InfoAnswer
 infoIn r =
-    unlessRefusal InfoRefused (InfoReplied (record { index = r .index; finished = r .finished; «passed_hash_check» = r .«passed_hash_check»; writing = r .writing; locked = r .locked; requested = r .requested; hashing = r .hashing }))
+    unlessRefusal InfoRefused (InfoReplied (record {
+      index = r .index;
+      finished = r .finished;
+      «passed_hash_check» = r .«passed_hash_check»;
+      writing = r .writing;
+      locked = r .locked;
+      requested = r .requested;
+      hashing = r .hashing;
+    }))
     (refusalOf (r .refusal) (r .place))
 
 -- a pick
 unfoldable pub pickIn : (r : PickAnswered) → PickOutcome
 pickIn r =
-    unlessRefusal NotPicked (PickDone (record { end = r .end; flags = r .flags; used = r .draws; «partial_loops» = r .«partial_loops»; «suggest_loops» = r .«suggest_loops»; «reverse_rare_loops» = r .«reverse_rare_loops»; «rare_loops» = r .«rare_loops»; «rand_start_loops» = r .«rand_start_loops»; «rand_loops» = r .«rand_loops»; «busy_loops» = r .«busy_loops» }))
+    unlessRefusal NotPicked (PickDone (record {
+      end = r .end;
+      flags = r .flags;
+      used = r .draws;
+      «partial_loops» = r .«partial_loops»;
+      «suggest_loops» = r .«suggest_loops»;
+      «reverse_rare_loops» = r .«reverse_rare_loops»;
+      «rare_loops» = r .«rare_loops»;
+      «rand_start_loops» = r .«rand_start_loops»;
+      «rand_loops» = r .«rand_loops»;
+      «busy_loops» = r .«busy_loops»;
+    }))
     (refusalOf (r .refusal) (r .place))

@@ -33,7 +33,14 @@ countRefused number place = record { refusal = number; place = place; «num_piec
 
 abbrev pub ofCount : (o : CountAnswer) → Counted
 ofCount (CountAnswerRefused why) = countRefused (refusalNumber why) (refusalPlace why)
-ofCount (CountAnswerReplied x) = record { refusal = 0; place = 0; «num_pieces» = x .«num_pieces»; «pad_bytes» = x .«pad_bytes»; «last_piece» = x .«last_piece» }
+ofCount (CountAnswerReplied x) =
+    record {
+      refusal = 0;
+      place = 0;
+      «num_pieces» = x .«num_pieces»;
+      «pad_bytes» = x .«pad_bytes»;
+      «last_piece» = x .«last_piece»;
+    }
 
 -- how many partials each queue has
 abbrev pub sizesRefused : (number place : ℕ) → Sized
@@ -41,20 +48,68 @@ sizesRefused number place = record { refusal = number; place = place; downloadin
 
 abbrev pub ofSizes : (o : SizesAnswer) → Sized
 ofSizes (SizesAnswerRefused why) = sizesRefused (refusalNumber why) (refusalPlace why)
-ofSizes (SizesAnswerReplied x) = record { refusal = 0; place = 0; downloading = x .downloading; full = x .full; finished = x .finished; «zero_prio» = x .«zero_prio» }
+ofSizes (SizesAnswerReplied x) =
+    record {
+      refusal = 0;
+      place = 0;
+      downloading = x .downloading;
+      full = x .full;
+      finished = x .finished;
+      «zero_prio» = x .«zero_prio»;
+    }
 
 -- how many have a piece, its priority where it is listed, and its state
 abbrev pub statsRefused : (number place : ℕ) → Stats
-statsRefused number place = record { refusal = number; place = place; «peer_count» = 0; listed = false; priority = 0; flushed = false; downloading = false }
+statsRefused number place =
+    record {
+      refusal = number;
+      place = place;
+      «peer_count» = 0;
+      listed = false;
+      priority = 0;
+      flushed = false;
+      downloading = false;
+    }
 
 abbrev pub ofStats : (o : StatsAnswer) → Stats
 ofStats (StatsAnswerRefused why) = statsRefused (refusalNumber why) (refusalPlace why)
-ofStats (StatsAnswerReplied x) = record { refusal = 0; place = 0; «peer_count» = x .«peer_count»; listed = x .listed; priority = x .priority; flushed = x .flushed; downloading = x .downloading }
+ofStats (StatsAnswerReplied x) =
+    record {
+      refusal = 0;
+      place = 0;
+      «peer_count» = x .«peer_count»;
+      listed = x .listed;
+      priority = x .priority;
+      flushed = x .flushed;
+      downloading = x .downloading;
+    }
 
 -- a partial: how many of its blocks are in each state, and its flags
 abbrev pub infoRefused : (number place : ℕ) → Info
-infoRefused number place = record { refusal = number; place = place; index = 0; finished = 0; «passed_hash_check» = false; writing = 0; locked = false; requested = 0; hashing = false }
+infoRefused number place =
+    record {
+      refusal = number;
+      place = place;
+      index = 0;
+      finished = 0;
+      «passed_hash_check» = false;
+      writing = 0;
+      locked = false;
+      requested = 0;
+      hashing = false;
+    }
 
 abbrev pub ofInfo : (o : InfoAnswer) → Info
 ofInfo (InfoAnswerRefused why) = infoRefused (refusalNumber why) (refusalPlace why)
-ofInfo (InfoAnswerReplied x) = record { refusal = 0; place = 0; index = x .index; finished = x .finished; «passed_hash_check» = x .«passed_hash_check»; writing = x .writing; locked = x .locked; requested = x .requested; hashing = x .hashing }
+ofInfo (InfoAnswerReplied x) =
+    record {
+      refusal = 0;
+      place = 0;
+      index = x .index;
+      finished = x .finished;
+      «passed_hash_check» = x .«passed_hash_check»;
+      writing = x .writing;
+      locked = x .locked;
+      requested = x .requested;
+      hashing = x .hashing;
+    }

@@ -19,7 +19,8 @@ use picker_lists::ListAnswer;
 use picker_partial_questions::PartialFlagAnswer;
 use picker_questions::PlaceAnswer;
 ghost use mathlib.Core.Path.{_≡_};
-ghost use Rattle.export_answers.specs.Replies.{ofNumber, ofFlag, ofPlace, ofPartialFlag, ofBlockNumber, ofPeer, ofList, ofMaking, ofImage};
+ghost use Rattle.export_answers.specs.Replies.{ofNumber, ofFlag, ofPlace, ofPartialFlag, ofBlockNumber, ofPeer, ofList};
+ghost use Rattle.export_answers.specs.Replies.{ofMaking, ofImage};
 
 // A number.
 pub fn of_number(o: NumberAnswer) -> Answered

@@ -12,7 +12,9 @@ ghost use Rattle.picker_calls.specs.Cores.{lending};
 ghost use lib.ListN.{length};
 ghost use Rattle.types.specs.Piece.{numberOf};
 ghost use Rattle.export_arguments.specs.Arguments.{pieceOf};
+ghost use Rattle.export_answers.specs.Replies.{ofList};
 ghost use Rattle.export_answers.specs.Back.{listIn};
+ghost use Rattle.export_walks.specs.Saying.{Says};
 
 // Two words a record: whether there is a peer, and the peer.
 #[no_mangle]
@@ -23,9 +25,9 @@ pub extern "C" fn pp_get_downloaders(
     out: &mut [u64],
     piece: i32,
 ) -> Answered
-    ensures { λ r. ⌜ Listed 2 tellPeers (lending (now (words .entry)) (now (cells .entry)) (now (partials .entry)))
-        (listOfPiece get-downloaders (numberOf (pieceOf piece .0)) (length (now (out .entry)) / 2)) (now (out .entry)) (now (out .exit))
-        (listIn r) ⌝ }
+    ensures { λ r. ⌜ Says ofList listIn (λ o. Listed 2 tellPeers (lending (now (words .entry)) (now (cells .entry)) (now (partials .entry)))
+        (listOfPiece get-downloaders (numberOf (pieceOf piece .0)) (length (now (out .entry)) / 2)) (now (out .entry)) (now (out .exit)) o)
+        r ⌝ }
 {
     of_list(get_downloaders(words, cells, partials, out, export_arguments::piece(piece)))
 }
@@ -39,9 +41,9 @@ pub extern "C" fn pp_blocks_for_piece(
     out: &mut [u64],
     piece: i32,
 ) -> Answered
-    ensures { λ r. ⌜ Listed 4 tellBlocks (lending (now (words .entry)) (now (cells .entry)) (now (partials .entry)))
-        (listOfPiece blocks-for-piece (numberOf (pieceOf piece .0)) (length (now (out .entry)) / 4)) (now (out .entry)) (now (out .exit))
-        (listIn r) ⌝ }
+    ensures { λ r. ⌜ Says ofList listIn (λ o. Listed 4 tellBlocks (lending (now (words .entry)) (now (cells .entry))
+        (now (partials .entry))) (listOfPiece blocks-for-piece (numberOf (pieceOf piece .0)) (length (now (out .entry)) / 4))
+        (now (out .entry)) (now (out .exit)) o) r ⌝ }
 {
     of_list(blocks_for_piece(words, cells, partials, out, export_arguments::piece(piece)))
 }

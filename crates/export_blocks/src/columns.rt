@@ -9,7 +9,9 @@ ghost use Rattle.picker_lists.specs.Listing.{Listed, tellNumbers};
 ghost use Rattle.model.specs.ask.Questions.{get-availability-vec, listOfPicker, piece-priorities};
 ghost use Rattle.picker_calls.specs.Cores.{lending};
 ghost use lib.ListN.{length};
+ghost use Rattle.export_answers.specs.Replies.{ofList};
 ghost use Rattle.export_answers.specs.Back.{listIn};
+ghost use Rattle.export_walks.specs.Saying.{Says};
 
 // The peers of each piece with the seeds.
 #[no_mangle]
@@ -19,8 +21,8 @@ pub extern "C" fn pp_get_availability_vec(
     partials: &[DownloadingPiece],
     out: &mut [u16],
 ) -> Answered
-    ensures { λ r. ⌜ Listed 1 tellNumbers (lending (now (words .entry)) (now (cells .entry)) (now (partials .entry)))
-        (listOfPicker get-availability-vec (length (now (out .entry)))) (now (out .entry)) (now (out .exit)) (listIn r) ⌝ }
+    ensures { λ r. ⌜ Says ofList listIn (λ o. Listed 1 tellNumbers (lending (now (words .entry)) (now (cells .entry))
+        (now (partials .entry))) (listOfPicker get-availability-vec (length (now (out .entry)))) (now (out .entry)) (now (out .exit)) o) r ⌝ }
 {
     of_list(get_availability_vec(words, cells, partials, out))
 }
@@ -32,8 +34,8 @@ pub extern "C" fn pp_piece_priorities(
     partials: &[DownloadingPiece],
     out: &mut [u16],
 ) -> Answered
-    ensures { λ r. ⌜ Listed 1 tellNumbers (lending (now (words .entry)) (now (cells .entry)) (now (partials .entry)))
-        (listOfPicker piece-priorities (length (now (out .entry)))) (now (out .entry)) (now (out .exit)) (listIn r) ⌝ }
+    ensures { λ r. ⌜ Says ofList listIn (λ o. Listed 1 tellNumbers (lending (now (words .entry)) (now (cells .entry))
+        (now (partials .entry))) (listOfPicker piece-priorities (length (now (out .entry)))) (now (out .entry)) (now (out .exit)) o) r ⌝ }
 {
     of_list(piece_priorities(words, cells, partials, out))
 }

@@ -14,7 +14,9 @@ ghost use Rattle.picker_block_questions.specs.Answers.{peerAnswer};
 ghost use Rattle.model.specs.Calls.{question};
 ghost use mathlib.Core.Path.{_≡_};
 ghost use Rattle.export_arguments.specs.Arguments.{blockOf};
+ghost use Rattle.export_answers.specs.Replies.{ofPeer};
 ghost use Rattle.export_answers.specs.Back.{peerIn};
+ghost use Rattle.export_walks.specs.Saying.{Says};
 
 // The peer of a block that is not free.
 #[no_mangle]
@@ -24,8 +26,9 @@ pub extern "C" fn pp_get_downloader(
     partials: &[DownloadingPiece],
     block: BlockPlace,
 ) -> Answered
-    ensures { λ r. ⌜ peerAnswer (peerIn r) ≡ answerOn (lending (now (words .entry)) (now (cells .entry)) (now (partials .entry)))
-        (question (ofBlock get-downloader (numberOf (blockOf block .«piece_index» .0)) (numberOf (blockOf block .«block_index»)))) ⌝ }
+    ensures { λ r. ⌜ Says ofPeer peerIn (λ o. peerAnswer o ≡ answerOn (lending (now (words .entry)) (now (cells .entry))
+        (now (partials .entry))) (question (ofBlock get-downloader (numberOf (blockOf block .«piece_index» .0))
+        (numberOf (blockOf block .«block_index»))))) r ⌝ }
 {
     of_peer(get_downloader(words, cells, partials, export_arguments::block_of(block)))
 }
@@ -37,8 +40,9 @@ pub extern "C" fn pp_block_peer(
     partials: &[DownloadingPiece],
     block: BlockPlace,
 ) -> Answered
-    ensures { λ r. ⌜ peerAnswer (peerIn r) ≡ answerOn (lending (now (words .entry)) (now (cells .entry)) (now (partials .entry)))
-        (question (ofBlock block-peer (numberOf (blockOf block .«piece_index» .0)) (numberOf (blockOf block .«block_index»)))) ⌝ }
+    ensures { λ r. ⌜ Says ofPeer peerIn (λ o. peerAnswer o ≡ answerOn (lending (now (words .entry)) (now (cells .entry))
+        (now (partials .entry))) (question (ofBlock block-peer (numberOf (blockOf block .«piece_index» .0))
+        (numberOf (blockOf block .«block_index»))))) r ⌝ }
 {
     of_peer(block_peer(words, cells, partials, export_arguments::block_of(block)))
 }

@@ -22,7 +22,9 @@ ghost use Rattle.model.specs.Calls.{question};
 ghost use mathlib.Core.Path.{_≡_};
 ghost use Rattle.picker_block_questions.specs.Answers.{blockNumberAnswer};
 ghost use Rattle.export_arguments.specs.Arguments.{blockOf};
+ghost use Rattle.export_answers.specs.Replies.{ofBlockNumber, ofFlag, ofNumber};
 ghost use Rattle.export_answers.specs.Back.{blockNumberIn, flagIn, numberIn};
+ghost use Rattle.export_walks.specs.Saying.{Says};
 
 // How many asked for the block: none where no partial stands.
 #[no_mangle]
@@ -32,8 +34,9 @@ pub extern "C" fn pp_num_peers_block(
     partials: &[DownloadingPiece],
     block: BlockPlace,
 ) -> Answered
-    ensures { λ r. ⌜ numberAnswer (numberIn r) ≡ answerOn (lending (now (words .entry)) (now (cells .entry)) (now (partials .entry)))
-        (question (ofBlock num-peers-block (numberOf (blockOf block .«piece_index» .0)) (numberOf (blockOf block .«block_index»)))) ⌝ }
+    ensures { λ r. ⌜ Says ofNumber numberIn (λ o. numberAnswer o ≡ answerOn
+        (lending (now (words .entry)) (now (cells .entry)) (now (partials .entry)))
+        (question (ofBlock num-peers-block (numberOf (blockOf block .«piece_index» .0)) (numberOf (blockOf block .«block_index»))))) r ⌝ }
 {
     of_number(num_peers_block(words, cells, partials, export_arguments::block_of(block)))
 }
@@ -45,8 +48,9 @@ pub extern "C" fn pp_is_requested(
     partials: &[DownloadingPiece],
     block: BlockPlace,
 ) -> Answered
-    ensures { λ r. ⌜ flagAnswer (flagIn r) ≡ answerOn (lending (now (words .entry)) (now (cells .entry)) (now (partials .entry)))
-        (question (ofBlock is-requested (numberOf (blockOf block .«piece_index» .0)) (numberOf (blockOf block .«block_index»)))) ⌝ }
+    ensures { λ r. ⌜ Says ofFlag flagIn (λ o. flagAnswer o ≡ answerOn (lending (now (words .entry)) (now (cells .entry))
+        (now (partials .entry))) (question (ofBlock is-requested (numberOf (blockOf block .«piece_index» .0))
+        (numberOf (blockOf block .«block_index»))))) r ⌝ }
 {
     of_flag(is_requested(words, cells, partials, export_arguments::block_of(block)))
 }
@@ -59,8 +63,9 @@ pub extern "C" fn pp_is_downloaded(
     partials: &[DownloadingPiece],
     block: BlockPlace,
 ) -> Answered
-    ensures { λ r. ⌜ flagAnswer (flagIn r) ≡ answerOn (lending (now (words .entry)) (now (cells .entry)) (now (partials .entry)))
-        (question (ofBlock is-downloaded (numberOf (blockOf block .«piece_index» .0)) (numberOf (blockOf block .«block_index»)))) ⌝ }
+    ensures { λ r. ⌜ Says ofFlag flagIn (λ o. flagAnswer o ≡ answerOn (lending (now (words .entry)) (now (cells .entry))
+        (now (partials .entry))) (question (ofBlock is-downloaded (numberOf (blockOf block .«piece_index» .0))
+        (numberOf (blockOf block .«block_index»))))) r ⌝ }
 {
     of_flag(is_downloaded(words, cells, partials, export_arguments::block_of(block)))
 }
@@ -73,8 +78,9 @@ pub extern "C" fn pp_is_finished_block(
     partials: &[DownloadingPiece],
     block: BlockPlace,
 ) -> Answered
-    ensures { λ r. ⌜ flagAnswer (flagIn r) ≡ answerOn (lending (now (words .entry)) (now (cells .entry)) (now (partials .entry)))
-        (question (ofBlock is-finished-block (numberOf (blockOf block .«piece_index» .0)) (numberOf (blockOf block .«block_index»)))) ⌝ }
+    ensures { λ r. ⌜ Says ofFlag flagIn (λ o. flagAnswer o ≡ answerOn (lending (now (words .entry)) (now (cells .entry))
+        (now (partials .entry))) (question (ofBlock is-finished-block (numberOf (blockOf block .«piece_index» .0))
+        (numberOf (blockOf block .«block_index»))))) r ⌝ }
 {
     of_flag(is_finished_block(words, cells, partials, export_arguments::block_of(block)))
 }
@@ -87,9 +93,9 @@ pub extern "C" fn pp_block_state(
     partials: &[DownloadingPiece],
     block: BlockPlace,
 ) -> Answered
-    ensures { λ r. ⌜ blockNumberAnswer (blockNumberIn r) ≡ answerOn (lending (now (words .entry)) (now (cells .entry))
-        (now (partials .entry))) (question (ofBlock block-state (numberOf (blockOf block .«piece_index» .0))
-        (numberOf (blockOf block .«block_index»)))) ⌝ }
+    ensures { λ r. ⌜ Says ofBlockNumber blockNumberIn (λ o. blockNumberAnswer o
+        ≡ answerOn (lending (now (words .entry)) (now (cells .entry)) (now (partials .entry)))
+        (question (ofBlock block-state (numberOf (blockOf block .«piece_index» .0)) (numberOf (blockOf block .«block_index»))))) r ⌝ }
 {
     of_block_number(block_state(words, cells, partials, export_arguments::block_of(block)))
 }
@@ -101,9 +107,9 @@ pub extern "C" fn pp_block_num_peers(
     partials: &[DownloadingPiece],
     block: BlockPlace,
 ) -> Answered
-    ensures { λ r. ⌜ blockNumberAnswer (blockNumberIn r) ≡ answerOn (lending (now (words .entry)) (now (cells .entry))
-        (now (partials .entry))) (question (ofBlock block-num-peers (numberOf (blockOf block .«piece_index» .0))
-        (numberOf (blockOf block .«block_index»)))) ⌝ }
+    ensures { λ r. ⌜ Says ofBlockNumber blockNumberIn (λ o. blockNumberAnswer o
+        ≡ answerOn (lending (now (words .entry)) (now (cells .entry)) (now (partials .entry)))
+        (question (ofBlock block-num-peers (numberOf (blockOf block .«piece_index» .0)) (numberOf (blockOf block .«block_index»))))) r ⌝ }
 {
     of_block_number(block_num_peers(words, cells, partials, export_arguments::block_of(block)))
 }

@@ -11,7 +11,9 @@ ghost use Rattle.picker_calls.specs.Cores.{lending};
 ghost use Rattle.types.specs.Piece.{numberOf};
 ghost use Rattle.picker_calls.specs.Outcomes.{outcome};
 ghost use Rattle.export_arguments.specs.Arguments.{pieceOf};
+ghost use Rattle.export_answers.specs.Changes.{ofOutcome};
 ghost use Rattle.export_answers.specs.Back.{outcomeIn};
+ghost use Rattle.export_walks.specs.Saying.{Says};
 
 // A peer has the piece. Answers the draws used.
 #[no_mangle]
@@ -22,9 +24,9 @@ pub extern "C" fn pp_inc_refcount(
     draws: &[u32],
     piece: i32,
 ) -> Changed
-    ensures { λ r. ⌜ Called (lending (now (words .entry)) (now (cells .entry)) (now (partials .entry)))
+    ensures { λ r. ⌜ Says ofOutcome outcomeIn (λ o. Called (lending (now (words .entry)) (now (cells .entry)) (now (partials .entry)))
         (inc-refcount (numberOf (pieceOf piece .0)) (now (draws .entry)))
-        (lending (now (words .exit)) (now (cells .exit)) (now (partials .exit))) (outcome (outcomeIn r)) ⌝ }
+        (lending (now (words .exit)) (now (cells .exit)) (now (partials .exit))) (outcome o)) r ⌝ }
 {
     of_outcome(inc_refcount(
         words,
@@ -44,9 +46,9 @@ pub extern "C" fn pp_dec_refcount(
     draws: &[u32],
     piece: i32,
 ) -> Changed
-    ensures { λ r. ⌜ Called (lending (now (words .entry)) (now (cells .entry)) (now (partials .entry)))
+    ensures { λ r. ⌜ Says ofOutcome outcomeIn (λ o. Called (lending (now (words .entry)) (now (cells .entry)) (now (partials .entry)))
         (dec-refcount (numberOf (pieceOf piece .0)) (now (draws .entry)))
-        (lending (now (words .exit)) (now (cells .exit)) (now (partials .exit))) (outcome (outcomeIn r)) ⌝ }
+        (lending (now (words .exit)) (now (cells .exit)) (now (partials .exit))) (outcome o)) r ⌝ }
 {
     of_outcome(dec_refcount(
         words,

@@ -11,7 +11,9 @@ ghost use Rattle.model.specs.Calls.{lock-piece, piece-passed};
 ghost use Rattle.types.specs.Piece.{numberOf};
 ghost use Rattle.picker_calls.specs.Outcomes.{outcome};
 ghost use Rattle.export_arguments.specs.Arguments.{pieceOf};
+ghost use Rattle.export_answers.specs.Changes.{ofOutcome};
 ghost use Rattle.export_answers.specs.Back.{outcomeIn};
+ghost use Rattle.export_walks.specs.Saying.{Says};
 
 // No block of the piece is picked, and its hash check counts no more. Nothing where it has no partial.
 #[no_mangle]
@@ -21,9 +23,8 @@ pub extern "C" fn pp_lock_piece(
     partials: &mut [DownloadingPiece],
     piece: i32,
 ) -> Changed
-    ensures { λ r. ⌜ Called (lending (now (words .entry)) (now (cells .entry)) (now (partials .entry)))
-        (lock-piece (numberOf (pieceOf piece .0))) (lending (now (words .exit)) (now (cells .exit)) (now (partials .exit)))
-        (outcome (outcomeIn r)) ⌝ }
+    ensures { λ r. ⌜ Says ofOutcome outcomeIn (λ o. Called (lending (now (words .entry)) (now (cells .entry)) (now (partials .entry)))
+        (lock-piece (numberOf (pieceOf piece .0))) (lending (now (words .exit)) (now (cells .exit)) (now (partials .exit))) (outcome o)) r ⌝ }
 {
     of_outcome(lock_piece(words, cells, partials, export_arguments::piece(piece)))
 }
@@ -36,9 +37,9 @@ pub extern "C" fn pp_piece_passed(
     partials: &mut [DownloadingPiece],
     piece: i32,
 ) -> Changed
-    ensures { λ r. ⌜ Called (lending (now (words .entry)) (now (cells .entry)) (now (partials .entry)))
-        (piece-passed (numberOf (pieceOf piece .0))) (lending (now (words .exit)) (now (cells .exit)) (now (partials .exit)))
-        (outcome (outcomeIn r)) ⌝ }
+    ensures { λ r. ⌜ Says ofOutcome outcomeIn (λ o. Called (lending (now (words .entry)) (now (cells .entry)) (now (partials .entry)))
+        (piece-passed (numberOf (pieceOf piece .0))) (lending (now (words .exit)) (now (cells .exit)) (now (partials .exit))) (outcome o)) r
+        ⌝ }
 {
     of_outcome(piece_passed(words, cells, partials, export_arguments::piece(piece)))
 }

@@ -10,7 +10,9 @@ ghost use Rattle.picker_blocks.specs.Arguments.{downloading};
 ghost use Rattle.picker_calls.specs.Cores.{lending};
 ghost use Rattle.picker_calls.specs.Outcomes.{outcome};
 ghost use Rattle.export_arguments.specs.Arguments.{requestedBlock};
+ghost use Rattle.export_answers.specs.Changes.{ofOutcome};
 ghost use Rattle.export_answers.specs.Back.{outcomeIn};
+ghost use Rattle.export_walks.specs.Saying.{Says};
 
 // The peer is asked for the block. Answers whether it was marked, and the draws used.
 #[no_mangle]
@@ -21,9 +23,9 @@ pub extern "C" fn pp_mark_as_downloading(
     draws: &[u32],
     request: RequestedBlock,
 ) -> Changed
-    ensures { λ r. ⌜ Called (lending (now (words .entry)) (now (cells .entry)) (now (partials .entry)))
+    ensures { λ r. ⌜ Says ofOutcome outcomeIn (λ o. Called (lending (now (words .entry)) (now (cells .entry)) (now (partials .entry)))
         (downloading (requestedBlock request) (now (draws .entry))) (lending (now (words .exit)) (now (cells .exit)) (now (partials .exit)))
-        (outcome (outcomeIn r)) ⌝ }
+        (outcome o)) r ⌝ }
 {
     of_outcome(mark_as_downloading(
         words,

@@ -12,7 +12,9 @@ ghost use Rattle.picker_calls.specs.Cores.{lending};
 ghost use Rattle.picker_blocks.specs.Arguments.{onBlock};
 ghost use Rattle.picker_calls.specs.Outcomes.{outcome};
 ghost use Rattle.export_arguments.specs.Arguments.{namedBlock};
+ghost use Rattle.export_answers.specs.Changes.{ofOutcome};
 ghost use Rattle.export_answers.specs.Back.{outcomeIn};
+ghost use Rattle.export_walks.specs.Saying.{Says};
 
 // The peer no longer asks for the block. Answers the draws used.
 #[no_mangle]
@@ -23,9 +25,9 @@ pub extern "C" fn pp_abort_download(
     draws: &[u32],
     named: NamedBlock,
 ) -> Changed
-    ensures { λ r. ⌜ Called (lending (now (words .entry)) (now (cells .entry)) (now (partials .entry)))
+    ensures { λ r. ⌜ Says ofOutcome outcomeIn (λ o. Called (lending (now (words .entry)) (now (cells .entry)) (now (partials .entry)))
         (onBlock abort-download (namedBlock named) (now (draws .entry)))
-        (lending (now (words .exit)) (now (cells .exit)) (now (partials .exit))) (outcome (outcomeIn r)) ⌝ }
+        (lending (now (words .exit)) (now (cells .exit)) (now (partials .exit))) (outcome o)) r ⌝ }
 {
     of_outcome(abort_download(
         words,
@@ -45,9 +47,9 @@ pub extern "C" fn pp_mark_as_canceled(
     draws: &[u32],
     named: NamedBlock,
 ) -> Changed
-    ensures { λ r. ⌜ Called (lending (now (words .entry)) (now (cells .entry)) (now (partials .entry)))
+    ensures { λ r. ⌜ Says ofOutcome outcomeIn (λ o. Called (lending (now (words .entry)) (now (cells .entry)) (now (partials .entry)))
         (onBlock mark-as-canceled (namedBlock named) (now (draws .entry)))
-        (lending (now (words .exit)) (now (cells .exit)) (now (partials .exit))) (outcome (outcomeIn r)) ⌝ }
+        (lending (now (words .exit)) (now (cells .exit)) (now (partials .exit))) (outcome o)) r ⌝ }
 {
     of_outcome(mark_as_canceled(
         words,

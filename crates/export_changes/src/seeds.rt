@@ -9,7 +9,9 @@ ghost use Rattle.picker_calls.specs.Calling.{Called};
 ghost use Rattle.model.specs.Calls.{inc-refcount-all, dec-refcount-all};
 ghost use Rattle.picker_calls.specs.Cores.{lending};
 ghost use Rattle.picker_calls.specs.Outcomes.{outcome};
+ghost use Rattle.export_answers.specs.Changes.{ofOutcome};
 ghost use Rattle.export_answers.specs.Back.{outcomeIn};
+ghost use Rattle.export_walks.specs.Saying.{Says};
 
 // A seed comes: a peer that has every piece.
 #[no_mangle]
@@ -18,8 +20,8 @@ pub extern "C" fn pp_inc_refcount_all(
     cells: &mut [u16],
     partials: &mut [DownloadingPiece],
 ) -> Changed
-    ensures { λ r. ⌜ Called (lending (now (words .entry)) (now (cells .entry)) (now (partials .entry))) inc-refcount-all
-        (lending (now (words .exit)) (now (cells .exit)) (now (partials .exit))) (outcome (outcomeIn r)) ⌝ }
+    ensures { λ r. ⌜ Says ofOutcome outcomeIn (λ o. Called (lending (now (words .entry)) (now (cells .entry)) (now (partials .entry)))
+        inc-refcount-all (lending (now (words .exit)) (now (cells .exit)) (now (partials .exit))) (outcome o)) r ⌝ }
 {
     of_outcome(inc_refcount_all(words, cells, partials))
 }
@@ -31,8 +33,8 @@ pub extern "C" fn pp_dec_refcount_all(
     cells: &mut [u16],
     partials: &mut [DownloadingPiece],
 ) -> Changed
-    ensures { λ r. ⌜ Called (lending (now (words .entry)) (now (cells .entry)) (now (partials .entry))) dec-refcount-all
-        (lending (now (words .exit)) (now (cells .exit)) (now (partials .exit))) (outcome (outcomeIn r)) ⌝ }
+    ensures { λ r. ⌜ Says ofOutcome outcomeIn (λ o. Called (lending (now (words .entry)) (now (cells .entry)) (now (partials .entry)))
+        dec-refcount-all (lending (now (words .exit)) (now (cells .exit)) (now (partials .exit))) (outcome o)) r ⌝ }
 {
     of_outcome(dec_refcount_all(words, cells, partials))
 }

@@ -12,7 +12,9 @@ ghost use Rattle.types.specs.Piece.{numberOf};
 ghost use Rattle.picker_pick.specs.Answers.{pickOutcome};
 ghost use Rattle.pick_judge.specs.Asking.{requestAsked};
 ghost use Rattle.export_arguments.specs.Arguments.{pickAsked};
+ghost use Rattle.export_answers.specs.Picks.{ofPick};
 ghost use Rattle.export_answers.specs.Back.{pickIn};
+ghost use Rattle.export_walks.specs.Saying.{Says};
 
 // The blocks picked are appended to the output; a piece suggested that is none is passed over.
 #[no_mangle]
@@ -26,10 +28,9 @@ pub extern "C" fn pp_pick_pieces(
     draws: &[u32],
     a: PickAsked,
 ) -> PickAnswered
-    ensures { λ r. ⌜ PickCalled (lending (now (words .entry)) (now (cells .entry)) (now (partials .entry)))
+    ensures { λ r. ⌜ Says ofPick pickIn (λ o. PickCalled (lending (now (words .entry)) (now (cells .entry)) (now (partials .entry)))
         (requestAsked (pickAsked a) (now (bytes .entry)) (each numberOf (now (suggestions .entry)))) (now (draws .entry)) (pickAsked a .end)
-        (now (out .entry)) (lending (now (words .exit)) (now (cells .exit)) (now (partials .entry))) (now (out .exit))
-        (pickOutcome (pickIn r)) ⌝ }
+        (now (out .entry)) (lending (now (words .exit)) (now (cells .exit)) (now (partials .entry))) (now (out .exit)) (pickOutcome o)) r ⌝ }
 {
     of_pick(pick_pieces(
         words,

@@ -19,7 +19,9 @@ ghost use Rattle.model.specs.ask.Questions.{is-downloading};
 ghost use Rattle.model.specs.Calls.{question};
 ghost use mathlib.Core.Path.{_≡_};
 ghost use Rattle.export_arguments.specs.Arguments.{pieceOf};
+ghost use Rattle.export_answers.specs.Replies.{ofFlag, ofNumber};
 ghost use Rattle.export_answers.specs.Back.{flagIn, numberIn};
+ghost use Rattle.export_walks.specs.Saying.{Says};
 
 #[no_mangle]
 pub extern "C" fn pp_pad_bytes_in_piece(
@@ -28,8 +30,9 @@ pub extern "C" fn pp_pad_bytes_in_piece(
     partials: &[DownloadingPiece],
     piece: i32,
 ) -> Answered
-    ensures { λ r. ⌜ numberAnswer (numberIn r) ≡ answerOn (lending (now (words .entry)) (now (cells .entry)) (now (partials .entry)))
-        (question (ofPiece pad-bytes-in-piece (numberOf (pieceOf piece .0)))) ⌝ }
+    ensures { λ r. ⌜ Says ofNumber numberIn (λ o. numberAnswer o ≡ answerOn
+        (lending (now (words .entry)) (now (cells .entry)) (now (partials .entry)))
+        (question (ofPiece pad-bytes-in-piece (numberOf (pieceOf piece .0))))) r ⌝ }
 {
     of_number(pad_bytes_in_piece(words, cells, partials, export_arguments::piece(piece)))
 }
@@ -42,8 +45,9 @@ pub extern "C" fn pp_peer_count(
     partials: &[DownloadingPiece],
     piece: i32,
 ) -> Answered
-    ensures { λ r. ⌜ numberAnswer (numberIn r) ≡ answerOn (lending (now (words .entry)) (now (cells .entry)) (now (partials .entry)))
-        (question (ofPiece peer-count (numberOf (pieceOf piece .0)))) ⌝ }
+    ensures { λ r. ⌜ Says ofNumber numberIn (λ o. numberAnswer o ≡ answerOn
+        (lending (now (words .entry)) (now (cells .entry)) (now (partials .entry)))
+        (question (ofPiece peer-count (numberOf (pieceOf piece .0))))) r ⌝ }
 {
     of_number(peer_count(words, cells, partials, export_arguments::piece(piece)))
 }
@@ -55,8 +59,9 @@ pub extern "C" fn pp_piece_priority(
     partials: &[DownloadingPiece],
     piece: i32,
 ) -> Answered
-    ensures { λ r. ⌜ numberAnswer (numberIn r) ≡ answerOn (lending (now (words .entry)) (now (cells .entry)) (now (partials .entry)))
-        (question (ofPiece piece-priority (numberOf (pieceOf piece .0)))) ⌝ }
+    ensures { λ r. ⌜ Says ofNumber numberIn (λ o. numberAnswer o ≡ answerOn
+        (lending (now (words .entry)) (now (cells .entry)) (now (partials .entry)))
+        (question (ofPiece piece-priority (numberOf (pieceOf piece .0))))) r ⌝ }
 {
     of_number(piece_priority(words, cells, partials, export_arguments::piece(piece)))
 }
@@ -69,8 +74,9 @@ pub extern "C" fn pp_download_state(
     partials: &[DownloadingPiece],
     piece: i32,
 ) -> Answered
-    ensures { λ r. ⌜ numberAnswer (numberIn r) ≡ answerOn (lending (now (words .entry)) (now (cells .entry)) (now (partials .entry)))
-        (question (ofPiece download-state (numberOf (pieceOf piece .0)))) ⌝ }
+    ensures { λ r. ⌜ Says ofNumber numberIn (λ o. numberAnswer o ≡ answerOn
+        (lending (now (words .entry)) (now (cells .entry)) (now (partials .entry)))
+        (question (ofPiece download-state (numberOf (pieceOf piece .0))))) r ⌝ }
 {
     of_number(download_state(words, cells, partials, export_arguments::piece(piece)))
 }
@@ -82,8 +88,8 @@ pub extern "C" fn pp_is_piece_flushed(
     partials: &[DownloadingPiece],
     piece: i32,
 ) -> Answered
-    ensures { λ r. ⌜ flagAnswer (flagIn r) ≡ answerOn (lending (now (words .entry)) (now (cells .entry)) (now (partials .entry)))
-        (question (ofPiece is-piece-flushed (numberOf (pieceOf piece .0)))) ⌝ }
+    ensures { λ r. ⌜ Says ofFlag flagIn (λ o. flagAnswer o ≡ answerOn (lending (now (words .entry)) (now (cells .entry))
+        (now (partials .entry))) (question (ofPiece is-piece-flushed (numberOf (pieceOf piece .0))))) r ⌝ }
 {
     of_flag(is_piece_flushed(words, cells, partials, export_arguments::piece(piece)))
 }
@@ -96,8 +102,8 @@ pub extern "C" fn pp_is_downloading(
     partials: &[DownloadingPiece],
     piece: i32,
 ) -> Answered
-    ensures { λ r. ⌜ flagAnswer (flagIn r) ≡ answerOn (lending (now (words .entry)) (now (cells .entry)) (now (partials .entry)))
-        (question (ofPiece is-downloading (numberOf (pieceOf piece .0)))) ⌝ }
+    ensures { λ r. ⌜ Says ofFlag flagIn (λ o. flagAnswer o ≡ answerOn (lending (now (words .entry)) (now (cells .entry))
+        (now (partials .entry))) (question (ofPiece is-downloading (numberOf (pieceOf piece .0))))) r ⌝ }
 {
     of_flag(is_downloading(words, cells, partials, export_arguments::piece(piece)))
 }

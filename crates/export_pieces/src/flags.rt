@@ -18,7 +18,9 @@ ghost use Rattle.model.specs.Calls.{question};
 ghost use mathlib.Core.Path.{_≡_};
 ghost use Rattle.picker_answers.specs.Answers.{flagAnswer};
 ghost use Rattle.export_arguments.specs.Arguments.{pieceOf};
+ghost use Rattle.export_answers.specs.Replies.{ofFlag, ofPartialFlag};
 ghost use Rattle.export_answers.specs.Back.{flagIn, partialFlagIn};
+ghost use Rattle.export_walks.specs.Saying.{Says};
 
 #[no_mangle]
 pub extern "C" fn pp_passed_hash_check(
@@ -27,8 +29,9 @@ pub extern "C" fn pp_passed_hash_check(
     partials: &[DownloadingPiece],
     piece: i32,
 ) -> Answered
-    ensures { λ r. ⌜ partialFlagAnswer (partialFlagIn r) ≡ answerOn (lending (now (words .entry)) (now (cells .entry))
-        (now (partials .entry))) (question (ofPiece passed-hash-check (numberOf (pieceOf piece .0)))) ⌝ }
+    ensures { λ r. ⌜ Says ofPartialFlag partialFlagIn (λ o. partialFlagAnswer o
+        ≡ answerOn (lending (now (words .entry)) (now (cells .entry)) (now (partials .entry)))
+        (question (ofPiece passed-hash-check (numberOf (pieceOf piece .0))))) r ⌝ }
 {
     of_partial_flag(passed_hash_check(words, cells, partials, export_arguments::piece(piece)))
 }
@@ -40,8 +43,9 @@ pub extern "C" fn pp_locked(
     partials: &[DownloadingPiece],
     piece: i32,
 ) -> Answered
-    ensures { λ r. ⌜ partialFlagAnswer (partialFlagIn r) ≡ answerOn (lending (now (words .entry)) (now (cells .entry))
-        (now (partials .entry))) (question (ofPiece locked? (numberOf (pieceOf piece .0)))) ⌝ }
+    ensures { λ r. ⌜ Says ofPartialFlag partialFlagIn (λ o. partialFlagAnswer o
+        ≡ answerOn (lending (now (words .entry)) (now (cells .entry)) (now (partials .entry)))
+        (question (ofPiece locked? (numberOf (pieceOf piece .0))))) r ⌝ }
 {
     of_partial_flag(locked(words, cells, partials, export_arguments::piece(piece)))
 }
@@ -53,8 +57,9 @@ pub extern "C" fn pp_hashing(
     partials: &[DownloadingPiece],
     piece: i32,
 ) -> Answered
-    ensures { λ r. ⌜ partialFlagAnswer (partialFlagIn r) ≡ answerOn (lending (now (words .entry)) (now (cells .entry))
-        (now (partials .entry))) (question (ofPiece hashing? (numberOf (pieceOf piece .0)))) ⌝ }
+    ensures { λ r. ⌜ Says ofPartialFlag partialFlagIn (λ o. partialFlagAnswer o
+        ≡ answerOn (lending (now (words .entry)) (now (cells .entry)) (now (partials .entry)))
+        (question (ofPiece hashing? (numberOf (pieceOf piece .0))))) r ⌝ }
 {
     of_partial_flag(hashing(words, cells, partials, export_arguments::piece(piece)))
 }
@@ -67,8 +72,8 @@ pub extern "C" fn pp_is_hashing(
     partials: &[DownloadingPiece],
     piece: i32,
 ) -> Answered
-    ensures { λ r. ⌜ flagAnswer (flagIn r) ≡ answerOn (lending (now (words .entry)) (now (cells .entry)) (now (partials .entry)))
-        (question (ofPiece is-hashing (numberOf (pieceOf piece .0)))) ⌝ }
+    ensures { λ r. ⌜ Says ofFlag flagIn (λ o. flagAnswer o ≡ answerOn (lending (now (words .entry)) (now (cells .entry))
+        (now (partials .entry))) (question (ofPiece is-hashing (numberOf (pieceOf piece .0))))) r ⌝ }
 {
     of_flag(is_hashing(words, cells, partials, export_arguments::piece(piece)))
 }
@@ -81,8 +86,8 @@ pub extern "C" fn pp_have_piece(
     partials: &[DownloadingPiece],
     piece: i32,
 ) -> Answered
-    ensures { λ r. ⌜ flagAnswer (flagIn r) ≡ answerOn (lending (now (words .entry)) (now (cells .entry)) (now (partials .entry)))
-        (question (ofPiece have-piece (numberOf (pieceOf piece .0)))) ⌝ }
+    ensures { λ r. ⌜ Says ofFlag flagIn (λ o. flagAnswer o ≡ answerOn (lending (now (words .entry)) (now (cells .entry))
+        (now (partials .entry))) (question (ofPiece have-piece (numberOf (pieceOf piece .0))))) r ⌝ }
 {
     of_flag(have_piece(words, cells, partials, export_arguments::piece(piece)))
 }

@@ -16,7 +16,10 @@ ghost use Rattle.model.specs.Calls.{question};
 ghost use mathlib.Core.Path.{_≡_};
 ghost use Rattle.picker_answers.specs.Answers.{flagAnswer};
 ghost use Rattle.export_arguments.specs.Arguments.{pieceOf};
+ghost use Rattle.export_answers.specs.Records.{ofInfo};
+ghost use Rattle.export_answers.specs.Replies.{ofFlag};
 ghost use Rattle.export_answers.specs.Back.{flagIn, infoIn};
+ghost use Rattle.export_walks.specs.Saying.{Says};
 
 #[no_mangle]
 pub extern "C" fn pp_piece_info(
@@ -25,8 +28,8 @@ pub extern "C" fn pp_piece_info(
     partials: &[DownloadingPiece],
     piece: i32,
 ) -> Info
-    ensures { λ r. ⌜ infoAnswer (infoIn r) ≡ answerOn (lending (now (words .entry)) (now (cells .entry)) (now (partials .entry)))
-        (question (ofPiece piece-info (numberOf (pieceOf piece .0)))) ⌝ }
+    ensures { λ r. ⌜ Says ofInfo infoIn (λ o. infoAnswer o ≡ answerOn (lending (now (words .entry)) (now (cells .entry))
+        (now (partials .entry))) (question (ofPiece piece-info (numberOf (pieceOf piece .0))))) r ⌝ }
 {
     of_info(piece_info(words, cells, partials, export_arguments::piece(piece)))
 }
@@ -39,8 +42,8 @@ pub extern "C" fn pp_is_piece_finished(
     partials: &[DownloadingPiece],
     piece: i32,
 ) -> Answered
-    ensures { λ r. ⌜ flagAnswer (flagIn r) ≡ answerOn (lending (now (words .entry)) (now (cells .entry)) (now (partials .entry)))
-        (question (ofPiece is-piece-finished (numberOf (pieceOf piece .0)))) ⌝ }
+    ensures { λ r. ⌜ Says ofFlag flagIn (λ o. flagAnswer o ≡ answerOn (lending (now (words .entry)) (now (cells .entry))
+        (now (partials .entry))) (question (ofPiece is-piece-finished (numberOf (pieceOf piece .0))))) r ⌝ }
 {
     of_flag(is_piece_finished(words, cells, partials, export_arguments::piece(piece)))
 }

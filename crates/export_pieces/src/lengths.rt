@@ -14,7 +14,9 @@ ghost use Rattle.model.specs.ask.Questions.{ofPiece, piece-size, blocks-in-piec
 ghost use Rattle.model.specs.Calls.{question};
 ghost use mathlib.Core.Path.{_≡_};
 ghost use Rattle.export_arguments.specs.Arguments.{pieceOf};
+ghost use Rattle.export_answers.specs.Replies.{ofNumber};
 ghost use Rattle.export_answers.specs.Back.{numberIn};
+ghost use Rattle.export_walks.specs.Saying.{Says};
 
 #[no_mangle]
 pub extern "C" fn pp_piece_size(
@@ -23,8 +25,9 @@ pub extern "C" fn pp_piece_size(
     partials: &[DownloadingPiece],
     piece: i32,
 ) -> Answered
-    ensures { λ r. ⌜ numberAnswer (numberIn r) ≡ answerOn (lending (now (words .entry)) (now (cells .entry)) (now (partials .entry)))
-        (question (ofPiece piece-size (numberOf (pieceOf piece .0)))) ⌝ }
+    ensures { λ r. ⌜ Says ofNumber numberIn (λ o. numberAnswer o ≡ answerOn
+        (lending (now (words .entry)) (now (cells .entry)) (now (partials .entry)))
+        (question (ofPiece piece-size (numberOf (pieceOf piece .0))))) r ⌝ }
 {
     of_number(piece_size(words, cells, partials, export_arguments::piece(piece)))
 }
@@ -36,8 +39,9 @@ pub extern "C" fn pp_blocks_in_piece(
     partials: &[DownloadingPiece],
     piece: i32,
 ) -> Answered
-    ensures { λ r. ⌜ numberAnswer (numberIn r) ≡ answerOn (lending (now (words .entry)) (now (cells .entry)) (now (partials .entry)))
-        (question (ofPiece blocks-in-piece (numberOf (pieceOf piece .0)))) ⌝ }
+    ensures { λ r. ⌜ Says ofNumber numberIn (λ o. numberAnswer o ≡ answerOn
+        (lending (now (words .entry)) (now (cells .entry)) (now (partials .entry)))
+        (question (ofPiece blocks-in-piece (numberOf (pieceOf piece .0))))) r ⌝ }
 {
     of_number(blocks_in_piece(words, cells, partials, export_arguments::piece(piece)))
 }
@@ -50,8 +54,9 @@ pub extern "C" fn pp_payload_blocks_in_piece(
     partials: &[DownloadingPiece],
     piece: i32,
 ) -> Answered
-    ensures { λ r. ⌜ numberAnswer (numberIn r) ≡ answerOn (lending (now (words .entry)) (now (cells .entry)) (now (partials .entry)))
-        (question (ofPiece payload-blocks-in-piece (numberOf (pieceOf piece .0)))) ⌝ }
+    ensures { λ r. ⌜ Says ofNumber numberIn (λ o. numberAnswer o ≡ answerOn
+        (lending (now (words .entry)) (now (cells .entry)) (now (partials .entry)))
+        (question (ofPiece payload-blocks-in-piece (numberOf (pieceOf piece .0))))) r ⌝ }
 {
     of_number(payload_blocks_in_piece(words, cells, partials, export_arguments::piece(piece)))
 }

@@ -16,7 +16,10 @@ ghost use Rattle.model.specs.Calls.{question};
 ghost use mathlib.Core.Path.{_≡_};
 ghost use Rattle.picker_piece_questions.specs.Answers.{statsAnswer};
 ghost use Rattle.export_arguments.specs.Arguments.{pieceOf};
+ghost use Rattle.export_answers.specs.Records.{ofStats};
+ghost use Rattle.export_answers.specs.Replies.{ofNumber};
 ghost use Rattle.export_answers.specs.Back.{numberIn, statsIn};
+ghost use Rattle.export_walks.specs.Saying.{Says};
 
 // Peers that have the piece, with the seeds.
 #[no_mangle]
@@ -26,8 +29,9 @@ pub extern "C" fn pp_get_availability(
     partials: &[DownloadingPiece],
     piece: i32,
 ) -> Answered
-    ensures { λ r. ⌜ numberAnswer (numberIn r) ≡ answerOn (lending (now (words .entry)) (now (cells .entry)) (now (partials .entry)))
-        (question (ofPiece get-availability (numberOf (pieceOf piece .0)))) ⌝ }
+    ensures { λ r. ⌜ Says ofNumber numberIn (λ o. numberAnswer o ≡ answerOn
+        (lending (now (words .entry)) (now (cells .entry)) (now (partials .entry)))
+        (question (ofPiece get-availability (numberOf (pieceOf piece .0))))) r ⌝ }
 {
     of_number(get_availability(words, cells, partials, export_arguments::piece(piece)))
 }
@@ -39,8 +43,9 @@ pub extern "C" fn pp_piece_stats(
     partials: &[DownloadingPiece],
     piece: i32,
 ) -> Stats
-    ensures { λ r. ⌜ statsAnswer (statsIn r) ≡ answerOn (lending (now (words .entry)) (now (cells .entry)) (now (partials .entry)))
-        (question (ofPiece piece-stats (numberOf (pieceOf piece .0)))) ⌝ }
+    ensures { λ r. ⌜ Says ofStats statsIn (λ o. statsAnswer o ≡ answerOn
+        (lending (now (words .entry)) (now (cells .entry)) (now (partials .entry)))
+        (question (ofPiece piece-stats (numberOf (pieceOf piece .0))))) r ⌝ }
 {
     of_stats(piece_stats(words, cells, partials, export_arguments::piece(piece)))
 }

@@ -10,7 +10,9 @@ ghost use Rattle.model.specs.ask.Questions.{distributed-copies, ofPicker};
 ghost use Rattle.picker_calls.specs.Cores.{lending};
 ghost use Rattle.model.specs.Calls.{question};
 ghost use mathlib.Core.Path.{_≡_};
+ghost use Rattle.export_answers.specs.Records.{ofCopies};
 ghost use Rattle.export_answers.specs.Back.{copiesIn};
+ghost use Rattle.export_walks.specs.Saying.{Says};
 
 #[no_mangle]
 pub extern "C" fn pp_distributed_copies(
@@ -18,8 +20,8 @@ pub extern "C" fn pp_distributed_copies(
     cells: &[u16],
     partials: &[DownloadingPiece],
 ) -> Copied
-    ensures { λ r. ⌜ copiesAnswer (copiesIn r) ≡ answerOn (lending (now (words .entry)) (now (cells .entry)) (now (partials .entry)))
-        (question (ofPicker distributed-copies)) ⌝ }
+    ensures { λ r. ⌜ Says ofCopies copiesIn (λ o. copiesAnswer o ≡ answerOn
+        (lending (now (words .entry)) (now (cells .entry)) (now (partials .entry))) (question (ofPicker distributed-copies))) r ⌝ }
 {
     of_copies(distributed_copies(words, cells, partials))
 }

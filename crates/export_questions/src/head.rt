@@ -21,7 +21,9 @@ ghost use Rattle.model.specs.ask.Questions.{cursor?, reverse-cursor?, dirty?, g
 ghost use Rattle.picker_answers.specs.Answers.{numberAnswer, flagAnswer};
 ghost use Rattle.model.specs.Calls.{question};
 ghost use mathlib.Core.Path.{_≡_};
+ghost use Rattle.export_answers.specs.Replies.{ofFlag, ofNumber};
 ghost use Rattle.export_answers.specs.Back.{flagIn, numberIn};
+ghost use Rattle.export_walks.specs.Saying.{Says};
 
 #[no_mangle]
 pub extern "C" fn pp_num_pieces(
@@ -29,8 +31,8 @@ pub extern "C" fn pp_num_pieces(
     cells: &[u16],
     partials: &[DownloadingPiece],
 ) -> Answered
-    ensures { λ r. ⌜ numberAnswer (numberIn r) ≡ answerOn (lending (now (words .entry)) (now (cells .entry)) (now (partials .entry)))
-        (question (ofPicker num-pieces)) ⌝ }
+    ensures { λ r. ⌜ Says ofNumber numberIn (λ o. numberAnswer o ≡ answerOn
+        (lending (now (words .entry)) (now (cells .entry)) (now (partials .entry))) (question (ofPicker num-pieces))) r ⌝ }
 {
     of_number(num_pieces(words, cells, partials))
 }
@@ -41,8 +43,8 @@ pub extern "C" fn pp_blocks_per_piece(
     cells: &[u16],
     partials: &[DownloadingPiece],
 ) -> Answered
-    ensures { λ r. ⌜ numberAnswer (numberIn r) ≡ answerOn (lending (now (words .entry)) (now (cells .entry)) (now (partials .entry)))
-        (question (ofPicker blocks-per-piece)) ⌝ }
+    ensures { λ r. ⌜ Says ofNumber numberIn (λ o. numberAnswer o ≡ answerOn
+        (lending (now (words .entry)) (now (cells .entry)) (now (partials .entry))) (question (ofPicker blocks-per-piece))) r ⌝ }
 {
     of_number(blocks_per_piece(words, cells, partials))
 }
@@ -53,8 +55,8 @@ pub extern "C" fn pp_block_size(
     cells: &[u16],
     partials: &[DownloadingPiece],
 ) -> Answered
-    ensures { λ r. ⌜ numberAnswer (numberIn r) ≡ answerOn (lending (now (words .entry)) (now (cells .entry)) (now (partials .entry)))
-        (question (ofPicker block-size)) ⌝ }
+    ensures { λ r. ⌜ Says ofNumber numberIn (λ o. numberAnswer o ≡ answerOn
+        (lending (now (words .entry)) (now (cells .entry)) (now (partials .entry))) (question (ofPicker block-size))) r ⌝ }
 {
     of_number(block_size(words, cells, partials))
 }
@@ -65,8 +67,8 @@ pub extern "C" fn pp_total_size(
     cells: &[u16],
     partials: &[DownloadingPiece],
 ) -> Answered
-    ensures { λ r. ⌜ numberAnswer (numberIn r) ≡ answerOn (lending (now (words .entry)) (now (cells .entry)) (now (partials .entry)))
-        (question (ofPicker total-size)) ⌝ }
+    ensures { λ r. ⌜ Says ofNumber numberIn (λ o. numberAnswer o ≡ answerOn
+        (lending (now (words .entry)) (now (cells .entry)) (now (partials .entry))) (question (ofPicker total-size))) r ⌝ }
 {
     of_number(total_size(words, cells, partials))
 }
@@ -78,8 +80,8 @@ pub extern "C" fn pp_full_piece_size(
     cells: &[u16],
     partials: &[DownloadingPiece],
 ) -> Answered
-    ensures { λ r. ⌜ numberAnswer (numberIn r) ≡ answerOn (lending (now (words .entry)) (now (cells .entry)) (now (partials .entry)))
-        (question (ofPicker full-piece-size)) ⌝ }
+    ensures { λ r. ⌜ Says ofNumber numberIn (λ o. numberAnswer o ≡ answerOn
+        (lending (now (words .entry)) (now (cells .entry)) (now (partials .entry))) (question (ofPicker full-piece-size))) r ⌝ }
 {
     of_number(full_piece_size(words, cells, partials))
 }
@@ -90,16 +92,16 @@ pub extern "C" fn pp_num_seeds(
     cells: &[u16],
     partials: &[DownloadingPiece],
 ) -> Answered
-    ensures { λ r. ⌜ numberAnswer (numberIn r) ≡ answerOn (lending (now (words .entry)) (now (cells .entry)) (now (partials .entry)))
-        (question (ofPicker num-seeds)) ⌝ }
+    ensures { λ r. ⌜ Says ofNumber numberIn (λ o. numberAnswer o ≡ answerOn
+        (lending (now (words .entry)) (now (cells .entry)) (now (partials .entry))) (question (ofPicker num-seeds))) r ⌝ }
 {
     of_number(num_seeds(words, cells, partials))
 }
 
 #[no_mangle]
 pub extern "C" fn pp_cursor(words: &[u64], cells: &[u16], partials: &[DownloadingPiece]) -> Answered
-    ensures { λ r. ⌜ numberAnswer (numberIn r) ≡ answerOn (lending (now (words .entry)) (now (cells .entry)) (now (partials .entry)))
-        (question (ofPicker cursor?)) ⌝ }
+    ensures { λ r. ⌜ Says ofNumber numberIn (λ o. numberAnswer o ≡ answerOn
+        (lending (now (words .entry)) (now (cells .entry)) (now (partials .entry))) (question (ofPicker cursor?))) r ⌝ }
 {
     of_number(cursor(words, cells, partials))
 }
@@ -110,8 +112,8 @@ pub extern "C" fn pp_reverse_cursor(
     cells: &[u16],
     partials: &[DownloadingPiece],
 ) -> Answered
-    ensures { λ r. ⌜ numberAnswer (numberIn r) ≡ answerOn (lending (now (words .entry)) (now (cells .entry)) (now (partials .entry)))
-        (question (ofPicker reverse-cursor?)) ⌝ }
+    ensures { λ r. ⌜ Says ofNumber numberIn (λ o. numberAnswer o ≡ answerOn
+        (lending (now (words .entry)) (now (cells .entry)) (now (partials .entry))) (question (ofPicker reverse-cursor?))) r ⌝ }
 {
     of_number(reverse_cursor(words, cells, partials))
 }
@@ -119,8 +121,8 @@ pub extern "C" fn pp_reverse_cursor(
 // Whether the list has to be rebuilt.
 #[no_mangle]
 pub extern "C" fn pp_dirty(words: &[u64], cells: &[u16], partials: &[DownloadingPiece]) -> Answered
-    ensures { λ r. ⌜ flagAnswer (flagIn r) ≡ answerOn (lending (now (words .entry)) (now (cells .entry)) (now (partials .entry)))
-        (question (ofPicker dirty?)) ⌝ }
+    ensures { λ r. ⌜ Says ofFlag flagIn (λ o. flagAnswer o ≡ answerOn (lending (now (words .entry)) (now (cells .entry))
+        (now (partials .entry))) (question (ofPicker dirty?))) r ⌝ }
 {
     of_flag(dirty(words, cells, partials))
 }
@@ -132,8 +134,8 @@ pub extern "C" fn pp_get_download_queue_size(
     cells: &[u16],
     partials: &[DownloadingPiece],
 ) -> Answered
-    ensures { λ r. ⌜ numberAnswer (numberIn r) ≡ answerOn (lending (now (words .entry)) (now (cells .entry)) (now (partials .entry)))
-        (question (ofPicker get-download-queue-size)) ⌝ }
+    ensures { λ r. ⌜ Says ofNumber numberIn (λ o. numberAnswer o ≡ answerOn
+        (lending (now (words .entry)) (now (cells .entry)) (now (partials .entry))) (question (ofPicker get-download-queue-size))) r ⌝ }
 {
     of_number(get_download_queue_size(words, cells, partials))
 }

@@ -13,7 +13,9 @@ ghost use Rattle.model.specs.ask.Questions.{partial-at, recent-extent, list-pla
 ghost use Rattle.picker_questions.specs.Answers.{placeAnswer};
 ghost use Rattle.model.specs.Calls.{question};
 ghost use mathlib.Core.Path.{_≡_};
+ghost use Rattle.export_answers.specs.Replies.{ofPlace};
 ghost use Rattle.export_answers.specs.Back.{placeIn};
+ghost use Rattle.export_walks.specs.Saying.{Says};
 
 // The piece of the partial at a place, by rising piece.
 #[no_mangle]
@@ -23,8 +25,8 @@ pub extern "C" fn pp_partial_at(
     partials: &[DownloadingPiece],
     place: i32,
 ) -> Answered
-    ensures { λ r. ⌜ placeAnswer (placeIn r) ≡ answerOn (lending (now (words .entry)) (now (cells .entry)) (now (partials .entry)))
-        (question (partial-at (numberOf place))) ⌝ }
+    ensures { λ r. ⌜ Says ofPlace placeIn (λ o. placeAnswer o ≡ answerOn
+        (lending (now (words .entry)) (now (cells .entry)) (now (partials .entry))) (question (partial-at (numberOf place)))) r ⌝ }
 {
     of_place(partial_at(words, cells, partials, export_arguments::place(place)))
 }
@@ -37,8 +39,8 @@ pub extern "C" fn pp_recent_extent(
     partials: &[DownloadingPiece],
     place: i32,
 ) -> Answered
-    ensures { λ r. ⌜ placeAnswer (placeIn r) ≡ answerOn (lending (now (words .entry)) (now (cells .entry)) (now (partials .entry)))
-        (question (recent-extent (numberOf place))) ⌝ }
+    ensures { λ r. ⌜ Says ofPlace placeIn (λ o. placeAnswer o ≡ answerOn
+        (lending (now (words .entry)) (now (cells .entry)) (now (partials .entry))) (question (recent-extent (numberOf place)))) r ⌝ }
 {
     of_place(recent_extent(words, cells, partials, export_arguments::place(place)))
 }
@@ -51,8 +53,8 @@ pub extern "C" fn pp_list_place(
     partials: &[DownloadingPiece],
     place: i32,
 ) -> Answered
-    ensures { λ r. ⌜ placeAnswer (placeIn r) ≡ answerOn (lending (now (words .entry)) (now (cells .entry)) (now (partials .entry)))
-        (question (list-place (numberOf place))) ⌝ }
+    ensures { λ r. ⌜ Says ofPlace placeIn (λ o. placeAnswer o ≡ answerOn
+        (lending (now (words .entry)) (now (cells .entry)) (now (partials .entry))) (question (list-place (numberOf place)))) r ⌝ }
 {
     of_place(list_place(words, cells, partials, export_arguments::place(place)))
 }

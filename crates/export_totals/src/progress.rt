@@ -17,7 +17,10 @@ ghost use Rattle.picker_calls.specs.Cores.{lending};
 ghost use Rattle.model.specs.Calls.{question};
 ghost use mathlib.Core.Path.{_≡_};
 ghost use Rattle.picker_totals.specs.Answers.{sizesAnswer};
+ghost use Rattle.export_answers.specs.Records.{ofSizes};
+ghost use Rattle.export_answers.specs.Replies.{ofFlag, ofNumber};
 ghost use Rattle.export_answers.specs.Back.{flagIn, numberIn, sizesIn};
+ghost use Rattle.export_walks.specs.Saying.{Says};
 
 // Every piece is had or filtered.
 #[no_mangle]
@@ -26,8 +29,8 @@ pub extern "C" fn pp_is_finished(
     cells: &[u16],
     partials: &[DownloadingPiece],
 ) -> Answered
-    ensures { λ r. ⌜ flagAnswer (flagIn r) ≡ answerOn (lending (now (words .entry)) (now (cells .entry)) (now (partials .entry)))
-        (question (ofPicker is-finished)) ⌝ }
+    ensures { λ r. ⌜ Says ofFlag flagIn (λ o. flagAnswer o ≡ answerOn (lending (now (words .entry)) (now (cells .entry))
+        (now (partials .entry))) (question (ofPicker is-finished))) r ⌝ }
 {
     of_flag(is_finished(words, cells, partials))
 }
@@ -39,8 +42,8 @@ pub extern "C" fn pp_is_seeding(
     cells: &[u16],
     partials: &[DownloadingPiece],
 ) -> Answered
-    ensures { λ r. ⌜ flagAnswer (flagIn r) ≡ answerOn (lending (now (words .entry)) (now (cells .entry)) (now (partials .entry)))
-        (question (ofPicker is-seeding)) ⌝ }
+    ensures { λ r. ⌜ Says ofFlag flagIn (λ o. flagAnswer o ≡ answerOn (lending (now (words .entry)) (now (cells .entry))
+        (now (partials .entry))) (question (ofPicker is-seeding))) r ⌝ }
 {
     of_flag(is_seeding(words, cells, partials))
 }
@@ -52,8 +55,8 @@ pub extern "C" fn pp_num_want_left(
     cells: &[u16],
     partials: &[DownloadingPiece],
 ) -> Answered
-    ensures { λ r. ⌜ numberAnswer (numberIn r) ≡ answerOn (lending (now (words .entry)) (now (cells .entry)) (now (partials .entry)))
-        (question (ofPicker num-want-left)) ⌝ }
+    ensures { λ r. ⌜ Says ofNumber numberIn (λ o. numberAnswer o ≡ answerOn
+        (lending (now (words .entry)) (now (cells .entry)) (now (partials .entry))) (question (ofPicker num-want-left))) r ⌝ }
 {
     of_number(num_want_left(words, cells, partials))
 }
@@ -64,8 +67,8 @@ pub extern "C" fn pp_get_download_queue_sizes(
     cells: &[u16],
     partials: &[DownloadingPiece],
 ) -> Sized
-    ensures { λ r. ⌜ sizesAnswer (sizesIn r) ≡ answerOn (lending (now (words .entry)) (now (cells .entry)) (now (partials .entry)))
-        (question (ofPicker get-download-queue-sizes)) ⌝ }
+    ensures { λ r. ⌜ Says ofSizes sizesIn (λ o. sizesAnswer o ≡ answerOn
+        (lending (now (words .entry)) (now (cells .entry)) (now (partials .entry))) (question (ofPicker get-download-queue-sizes))) r ⌝ }
 {
     of_sizes(get_download_queue_sizes(words, cells, partials))
 }

@@ -21,7 +21,10 @@ ghost use Rattle.picker_answers.specs.Answers.{numberAnswer};
 ghost use Rattle.model.specs.Calls.{question};
 ghost use mathlib.Core.Path.{_≡_};
 ghost use Rattle.picker_totals.specs.Answers.{countAnswer};
+ghost use Rattle.export_answers.specs.Records.{ofCount};
+ghost use Rattle.export_answers.specs.Replies.{ofNumber};
 ghost use Rattle.export_answers.specs.Back.{countIn, numberIn};
+ghost use Rattle.export_walks.specs.Saying.{Says};
 
 // The pad bytes of all pieces.
 #[no_mangle]
@@ -30,8 +33,8 @@ pub extern "C" fn pp_num_pad_bytes(
     cells: &[u16],
     partials: &[DownloadingPiece],
 ) -> Answered
-    ensures { λ r. ⌜ numberAnswer (numberIn r) ≡ answerOn (lending (now (words .entry)) (now (cells .entry)) (now (partials .entry)))
-        (question (ofPicker num-pad-bytes)) ⌝ }
+    ensures { λ r. ⌜ Says ofNumber numberIn (λ o. numberAnswer o ≡ answerOn
+        (lending (now (words .entry)) (now (cells .entry)) (now (partials .entry))) (question (ofPicker num-pad-bytes))) r ⌝ }
 {
     of_number(num_pad_bytes(words, cells, partials))
 }
@@ -43,8 +46,8 @@ pub extern "C" fn pp_num_have(
     cells: &[u16],
     partials: &[DownloadingPiece],
 ) -> Answered
-    ensures { λ r. ⌜ numberAnswer (numberIn r) ≡ answerOn (lending (now (words .entry)) (now (cells .entry)) (now (partials .entry)))
-        (question (ofPicker num-have)) ⌝ }
+    ensures { λ r. ⌜ Says ofNumber numberIn (λ o. numberAnswer o ≡ answerOn
+        (lending (now (words .entry)) (now (cells .entry)) (now (partials .entry))) (question (ofPicker num-have))) r ⌝ }
 {
     of_number(num_have(words, cells, partials))
 }
@@ -56,8 +59,8 @@ pub extern "C" fn pp_num_filtered(
     cells: &[u16],
     partials: &[DownloadingPiece],
 ) -> Answered
-    ensures { λ r. ⌜ numberAnswer (numberIn r) ≡ answerOn (lending (now (words .entry)) (now (cells .entry)) (now (partials .entry)))
-        (question (ofPicker num-filtered)) ⌝ }
+    ensures { λ r. ⌜ Says ofNumber numberIn (λ o. numberAnswer o ≡ answerOn
+        (lending (now (words .entry)) (now (cells .entry)) (now (partials .entry))) (question (ofPicker num-filtered))) r ⌝ }
 {
     of_number(num_filtered(words, cells, partials))
 }
@@ -69,8 +72,8 @@ pub extern "C" fn pp_num_have_filtered(
     cells: &[u16],
     partials: &[DownloadingPiece],
 ) -> Answered
-    ensures { λ r. ⌜ numberAnswer (numberIn r) ≡ answerOn (lending (now (words .entry)) (now (cells .entry)) (now (partials .entry)))
-        (question (ofPicker num-have-filtered)) ⌝ }
+    ensures { λ r. ⌜ Says ofNumber numberIn (λ o. numberAnswer o ≡ answerOn
+        (lending (now (words .entry)) (now (cells .entry)) (now (partials .entry))) (question (ofPicker num-have-filtered))) r ⌝ }
 {
     of_number(num_have_filtered(words, cells, partials))
 }
@@ -78,8 +81,8 @@ pub extern "C" fn pp_num_have_filtered(
 // Pieces that are not filtered.
 #[no_mangle]
 pub extern "C" fn pp_want(words: &[u64], cells: &[u16], partials: &[DownloadingPiece]) -> Counted
-    ensures { λ r. ⌜ countAnswer (countIn r) ≡ answerOn (lending (now (words .entry)) (now (cells .entry)) (now (partials .entry)))
-        (question (ofPicker want)) ⌝ }
+    ensures { λ r. ⌜ Says ofCount countIn (λ o. countAnswer o ≡ answerOn
+        (lending (now (words .entry)) (now (cells .entry)) (now (partials .entry))) (question (ofPicker want))) r ⌝ }
 {
     of_count(want(words, cells, partials))
 }
@@ -91,8 +94,8 @@ pub extern "C" fn pp_have_want(
     cells: &[u16],
     partials: &[DownloadingPiece],
 ) -> Counted
-    ensures { λ r. ⌜ countAnswer (countIn r) ≡ answerOn (lending (now (words .entry)) (now (cells .entry)) (now (partials .entry)))
-        (question (ofPicker have-want)) ⌝ }
+    ensures { λ r. ⌜ Says ofCount countIn (λ o. countAnswer o ≡ answerOn
+        (lending (now (words .entry)) (now (cells .entry)) (now (partials .entry))) (question (ofPicker have-want))) r ⌝ }
 {
     of_count(have_want(words, cells, partials))
 }
@@ -100,8 +103,8 @@ pub extern "C" fn pp_have_want(
 // Pieces that are had.
 #[no_mangle]
 pub extern "C" fn pp_have(words: &[u64], cells: &[u16], partials: &[DownloadingPiece]) -> Counted
-    ensures { λ r. ⌜ countAnswer (countIn r) ≡ answerOn (lending (now (words .entry)) (now (cells .entry)) (now (partials .entry)))
-        (question (ofPicker have)) ⌝ }
+    ensures { λ r. ⌜ Says ofCount countIn (λ o. countAnswer o ≡ answerOn
+        (lending (now (words .entry)) (now (cells .entry)) (now (partials .entry))) (question (ofPicker have))) r ⌝ }
 {
     of_count(have(words, cells, partials))
 }
@@ -112,8 +115,8 @@ pub extern "C" fn pp_all_pieces(
     cells: &[u16],
     partials: &[DownloadingPiece],
 ) -> Counted
-    ensures { λ r. ⌜ countAnswer (countIn r) ≡ answerOn (lending (now (words .entry)) (now (cells .entry)) (now (partials .entry)))
-        (question (ofPicker all-pieces)) ⌝ }
+    ensures { λ r. ⌜ Says ofCount countIn (λ o. countAnswer o ≡ answerOn
+        (lending (now (words .entry)) (now (cells .entry)) (now (partials .entry))) (question (ofPicker all-pieces))) r ⌝ }
 {
     of_count(all_pieces(words, cells, partials))
 }

@@ -62,7 +62,7 @@ pp-pick-pieces-spec 𝓤 H 𝓜 𝓖 𝓡 =
       code-ghosts = λ x. tt;
       code-asks = λ x. id⊢ 𝓤 _;
       code-tells = λ x r ws. id⊢ 𝓤 _;
-      ends = λ κs a g o r words′ cells′ out′ er h. factI 𝓤 _ _ (carried pickIn ofPick pick-back
+      ends = λ κs a g o r words′ cells′ out′ er h. factI 𝓤 _ _ (carried ofPick pickIn pick-back
           (λ (x : PickOutcome). Told (a .0 .now) (a .1 .0 .now) (a .1 .1 .0 .now) (a .1 .1 .1 .0 .now) (a .1 .1 .1 .1 .0 .now)
           (a .1 .1 .1 .1 .1 .0 .now) (a .1 .1 .1 .1 .1 .1 .0 .now) (pickAsked (a .1 .1 .1 .1 .1 .1 .1 .0)) x words′ cells′ out′) o r er h);
     })

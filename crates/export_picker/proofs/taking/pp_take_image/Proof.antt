@@ -46,7 +46,7 @@ pp-take-image-spec 𝓤 H 𝓜 𝓖 𝓡 =
       code-ghosts = λ x. tt;
       code-asks = λ x. id⊢ 𝓤 _;
       code-tells = λ x r ws. id⊢ 𝓤 _;
-      ends = λ κs a g o r bytes′ er h. factI 𝓤 _ _ (carried imageIn ofImage image-back
+      ends = λ κs a g o r bytes′ er h. factI 𝓤 _ _ (carried ofImage imageIn image-back
           (λ (x : ImageTaken). Told (a .0 .now) (a .1 .0 .now) (a .1 .1 .0 .now) (a .1 .1 .1 .0 .now) x bytes′) o r er h);
     })
     (code.unfolded 𝓤 H 𝓜 𝓡) code.calls-picker-images·take-image code.calls-export-answers·of-image (call-thm.met 𝓤 H 𝓜 𝓖 𝓡)
