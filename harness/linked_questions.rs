@@ -114,12 +114,6 @@ fn words(out: &[u64]) -> Reply {
     Reply::Numbers(out.iter().map(|number| i128::from(*number)).collect())
 }
 
-/// The same of records that end with a peer, which means nothing where there is none.
-fn words_with_peers(out: &[u64], width: usize) -> Reply {
-    let number = |(at, word): (usize, &u64)| if at % width == width - 1 && out[at - 1] == 0 { 0 } else { i128::from(*word) };
-    Reply::Numbers(out.iter().enumerate().map(number).collect())
-}
-
 macro_rules! one_number {
     ($($number:ty),*) => { $(
         impl Answer for $number {
@@ -205,7 +199,7 @@ impl Answer for Infos {
 
 impl Answer for Peers {
     fn reply(self, query: &Query) -> Reply {
-        words_with_peers(&query.out[..2 * self.0], 2)
+        words(&query.out[..2 * self.0])
     }
     fn written(&self, _: &Query) -> usize {
         2 * self.0
@@ -215,7 +209,7 @@ impl Answer for Peers {
 impl Answer for BlocksTold {
     fn reply(self, query: &Query) -> Reply {
         match self.0.kind {
-            NUMBER => words_with_peers(&query.out[..4 * self.0.number as usize], 4),
+            NUMBER => words(&query.out[..4 * self.0.number as usize]),
             _ => Reply::Nothing,
         }
     }

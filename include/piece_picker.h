@@ -414,7 +414,7 @@ pp_answer pp_get_availability_vec(PP_CONST_BUFFERS, uint16_t *out, size_t out_le
 pp_answer pp_piece_priorities(PP_CONST_BUFFERS, uint16_t *out, size_t out_len);
 /* Seven a partial, by queue and then by rising piece: index, finished, passed, writing, locked, requested, hashing; 7 * m. */
 pp_answer pp_get_download_queue(PP_CONST_BUFFERS, uint64_t *out, size_t out_len);
-/* Two a block: has-peer, peer, which means nothing beside a has-peer of 0; 2 * b. Refusal 5. */
+/* Two a block: has-peer, peer: 1 and the peer, or 0 and 0 for none; 2 * b. Refusal 5. */
 pp_answer pp_get_downloaders(PP_CONST_BUFFERS, uint64_t *out, size_t out_len, int32_t piece);
 /* Four a block: state, num_peers, has-peer, peer as above; 4 * b. PP_KIND_NOTHING without a partial. Refusal 5. */
 pp_answer pp_blocks_for_piece(PP_CONST_BUFFERS, uint64_t *out, size_t out_len, int32_t piece);

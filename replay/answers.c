@@ -138,32 +138,6 @@ void put_records(struct line *answer, pp_answer r, const uint64_t *words, size_t
         put_numbers(answer, words, r.value * width);
 }
 
-static size_t beside_none;
-
-size_t numbers_beside_none(void) {
-    return beside_none;
-}
-
-static void put_peer_record(struct line *answer, const uint64_t *record, size_t width) {
-    bool none = record[width - 2] == 0;
-    for (size_t f = 0; f + 1 < width; f++)
-        put_more(answer, record[f]);
-    put_more(answer, none ? 0 : record[width - 1]);
-    beside_none += none && record[width - 1] != 0;
-}
-
-void put_peer_records(struct line *answer, pp_answer r, const uint64_t *words, size_t len, size_t width) {
-    if (r.refusal != PP_DONE || r.kind != PP_KIND_NUMBER) {
-        put_answer(answer, r);
-        return;
-    }
-    if (put_beyond(answer, 0, r.value, len / width))
-        return;
-    put(answer, "answer");
-    for (size_t k = 0; k < r.value; k++)
-        put_peer_record(answer, words + width * k, width);
-}
-
 static void put_loops(struct line *answer, pp_picked r) {
     uint64_t loops[] = {
         r.partial_loops, r.suggest_loops, r.reverse_rare_loops, r.rare_loops, r.rand_start_loops, r.rand_loops, r.busy_loops};

@@ -26,12 +26,6 @@ void put_info(struct line *answer, pp_info r);
 void put_cells(struct line *answer, pp_answer r, const uint16_t *cells, size_t len);
 void put_records(struct line *answer, pp_answer r, const uint64_t *words, size_t len, size_t width);
 
-/* The same of records that end with has-peer and peer. What stands beside a has-peer of 0 means nothing, and is put as 0. */
-void put_peer_records(struct line *answer, pp_answer r, const uint64_t *words, size_t len, size_t width);
-
-/* How many records so far had another number than 0 there. */
-size_t numbers_beside_none(void);
-
 /* A pick; the blocks stand in `out` from `from` to where it says that they end. */
 void put_picked(struct line *answer, pp_picked r, const uint64_t *out, size_t len, size_t from);
 

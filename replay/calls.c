@@ -230,7 +230,7 @@ static void lead_get_download_queue(pp_picker *p, const struct call *c, struct l
 #define LIST_OF_PIECE(name, width) \
     static void lead_##name(pp_picker *p, const struct call *c, struct line *answer) { \
         size_t len = record_words(c, width); \
-        put_peer_records(answer, pp_picker_##name(p, as_i32(c->numbers[0]), records, len), records, len, width); \
+        put_records(answer, pp_picker_##name(p, as_i32(c->numbers[0]), records, len), records, len, width); \
     }
 LIST_OF_PIECE(get_downloaders, PP_DOWNLOADERS_NUMBERS)
 LIST_OF_PIECE(blocks_for_piece, PP_BLOCKS_FOR_PIECE_NUMBERS)

@@ -60,7 +60,6 @@ static void demand_calls(struct script *script) {
 static void say(const struct counts *counts) {
     printf("%zu scripts, %zu calls, %zu picks answered as recorded, every image too\n", counts->scripts, counts->calls, counts->picks);
     printf("%zu calls had a number beyond the exports' types and were given the nearest one; none was passed over\n", counts->moved);
-    printf("%zu blocks without a peer had a number beside that, which means nothing\n", numbers_beside_none());
 }
 
 int main(int argc, char **argv) {

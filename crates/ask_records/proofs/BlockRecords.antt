@@ -2,7 +2,7 @@
 use mathlib.Core.Path.{_≡_, refl, sym, ap, ap₂, _∙_}
 use mathlib.Core.Bool.{Bool, true, false, cond}
 use mathlib.Core.List.{List, [], _∷_}
-use mathlib.Core.Option.{Option, none, some}
+use mathlib.Core.Option.{none, some}
 use Prim.Native.Nat.{ℕ, _≤_}
 use native.Mathlib.Omega.{arith}
 use lib.ListN.{replicate}
@@ -29,36 +29,40 @@ use Rattle.ask_picker.specs.Asked.{Asked}
 use Rattle.ask_picker.proofs.AskedLaws.{asked-rows}
 use Rattle.ask_piece.proofs.ReplyLaws.{one-is}
 use Rattle.ask_records.specs.declared.blocks.RecordsOf.the-variants.{Records, Nothing as NoRecords}
-use Rattle.ask_records.specs.Records.{told, peerRead, blockRead, Lists, Written}
+use Rattle.ask_records.specs.Records.{tells?, toldReply, peerPair, peerRead, blockRead, Lists, Written}
 use Rattle.ask_records.specs.Answers.{blocksReply}
-use Rattle.ask_records.proofs.RecordLaws.{told-parts, concat-each, concat-none}
+use Rattle.ask_records.proofs.RecordLaws.{told-parts, told-reply, concat-each, concat-none}
 
 -- ---- one record
-peer-bit : (t : Bool) (p : ℕ) → peerFrom (bit t) p ≡ cond t (some p) none
-unfolding peerFrom yes?
-peer-bit true p = refl
-peer-bit false p = refl
+peer-read : (t : Bool) (p : ℕ) → peerRead (bit t ∷ cond t p 0 ∷ []) ≡ cond t (some p) none ∷ []
+unfolding peerRead peerPair nth peerFrom yes?
+peer-read true p = refl
+peer-read false p = refl
 
-module _ (x : BlockInfo) (y : Block) (b : BlockIs x y) (has : ℕ) (e : has ≡ bit (x .«has_peer»)) where
-  peer-is : peerFrom has (x .peer) ≡ y .peer
+block-read : (state numPeers : ℕ) (t : Bool) (p : ℕ)
+    → blockRead (state ∷ numPeers ∷ bit t ∷ cond t p 0 ∷ []) ≡ some state ∷ some numPeers ∷ cond t (some p) none ∷ []
+unfolding blockRead peerPair nth peerFrom yes?
+block-read state numPeers true p = refl
+block-read state numPeers false p = refl
+
+module _ (x : BlockInfo) (y : Block) (b : BlockIs x y) (has peer : ℕ) (e : has ≡ bit (x .«has_peer»))
+    (ep : peer ≡ cond (x .«has_peer») (x .peer) 0) where
+  pub peer-row : peerRead (has ∷ peer ∷ []) ≡ y .peer ∷ []
   unfolding blockOf
-  peer-is =
-      ap (λ (h : ℕ). peerFrom h (x .peer)) e ∙ peer-bit (x .«has_peer») (x .peer) ∙ ap (λ (z : Block). z .peer) (b .is)
-
-  pub peer-row : peerRead (has ∷ x .peer ∷ []) ≡ y .peer ∷ []
-  unfolding peerRead nth
-  peer-row = ap (λ (p : Option ℕ). p ∷ []) peer-is
+  peer-row =
+      ap₂ (λ (h p : ℕ). peerRead (h ∷ p ∷ [])) e ep ∙ peer-read (x .«has_peer») (x .peer) ∙ ap (λ (z : Block). z .peer ∷ []) (b .is)
 
   pub block-row : (state numPeers : ℕ) → state ≡ x .state → numPeers ≡ x .«num_peers»
-      → blockRead (state ∷ numPeers ∷ has ∷ x .peer ∷ []) ≡ blockInfo y
-  unfolding blockRead nth blockInfo blockOf
+      → blockRead (state ∷ numPeers ∷ has ∷ peer ∷ []) ≡ blockInfo y
+  unfolding blockInfo blockOf
   block-row state numPeers es en =
       let n : numPeers ≡ y .numPeers = en ∙ ap (λ (z : Block). z .numPeers) (b .is) in
-      λ k. some ((es ∙ b .state) k) ∷ some (n k) ∷ peer-is k ∷ []
+      ap₂ (λ (h p : ℕ). blockRead (state ∷ numPeers ∷ h ∷ p ∷ [])) e ep
+      ∙ block-read state numPeers (x .«has_peer») (x .peer)
+      ∙ (λ k. some ((es ∙ b .state) k) ∷ some (n k) ∷ b .is k .peer ∷ [])
 
 pub no-peer-row : peerRead (0 ∷ 0 ∷ []) ≡ none ∷ []
-unfolding peerRead nth peerFrom yes?
-no-peer-row = refl
+no-peer-row = peer-read false 0
 
 -- ---- the answers
 -- blocks of a piece in another width
@@ -86,10 +90,11 @@ module _ (s : Shape) (live : ℕ) (rows words cells : List ℕ) (g : Asked s liv
 
     -- no partial stands
     pub downloaders-none : FoundIn live rows i Nothing → (before after : List ℕ) → Lists 2 peerRead (λ j. none ∷ []) many before after
-        → numbers (told 2 peerRead many after) ≡ listPiece here i get-downloaders
-    unfolding listPiece peersIn
+        → toldReply 2 peerRead many after ≡ listPiece here i get-downloaders
+    unfolding listPiece peersIn tells?
     downloaders-none f before after l =
-        ap numbers (told-parts 2 peerRead (λ (x : ℕ). none ∷ []) (λ j. j) many before after l ∙ concat-none many (λ j. j)
+        told-reply 2 peerRead (λ j. none ∷ []) many before after l (λ j. refl)
+        ∙ ap numbers (told-parts 2 peerRead (λ (x : ℕ). none ∷ []) (λ j. j) many before after l ∙ concat-none many (λ j. j)
         ∙ ap (λ (n : ℕ). replicate n none) (many-blocks ∙ blocks-of-is (recordsIn live rows) words cells i)
         ∙ ap (peersIn here i) (sym (f .is s words cells (asked-rows s live rows words cells g))))
 
@@ -108,10 +113,11 @@ module _ (s : Shape) (live : ℕ) (rows words cells : List ℕ) (g : Asked s liv
 
       pub downloaders-some : (before after : List ℕ)
           → Lists 2 peerRead (λ j. blockHeld words cells (s .pieces) (s .blocks) p j .peer ∷ []) many before after
-          → numbers (told 2 peerRead many after) ≡ listPiece here i get-downloaders
-      unfolding listPiece peersIn
+          → toldReply 2 peerRead many after ≡ listPiece here i get-downloaders
+      unfolding listPiece peersIn tells?
       downloaders-some before after l =
-          ap numbers (told-parts 2 peerRead (λ (x : Block). x .peer ∷ []) (blockHeld words cells (s .pieces) (s .blocks) p) many before
+          told-reply 2 peerRead (λ j. blockHeld words cells (s .pieces) (s .blocks) p j .peer ∷ []) many before after l (λ j. refl)
+          ∙ ap numbers (told-parts 2 peerRead (λ (x : Block). x .peer ∷ []) (blockHeld words cells (s .pieces) (s .blocks) p) many before
           after l
           ∙ concat-each (λ (x : Block). x .peer) (tabulate many (blockHeld words cells (s .pieces) (s .blocks) p))
           ∙ ap (each (λ (x : Block). x .peer)) (sym blocks-there)
@@ -120,9 +126,10 @@ module _ (s : Shape) (live : ℕ) (rows words cells : List ℕ) (g : Asked s liv
       pub blocks-some : (before after : List ℕ)
           → Lists 4 blockRead (λ j. blockInfo (blockHeld words cells (s .pieces) (s .blocks) p j)) many before after
           → blocksReply after (Records many) ≡ listPiece here i blocks-for-piece
-      unfolding listPiece blocksReply ofPartial
+      unfolding listPiece blocksReply ofPartial blockInfo tells?
       blocks-some before after l =
-          ap numbers (told-parts 4 blockRead blockInfo (blockHeld words cells (s .pieces) (s .blocks) p) many before after l
+          told-reply 4 blockRead (λ j. blockInfo (blockHeld words cells (s .pieces) (s .blocks) p j)) many before after l (λ j. refl)
+          ∙ ap numbers (told-parts 4 blockRead blockInfo (blockHeld words cells (s .pieces) (s .blocks) p) many before after l
           ∙ ap (concatMap blockInfo) (sym blocks-there))
           ∙ ap (ofPartial (λ d. numbers (concatMap blockInfo (d .blocks))))
           (sym (f .is s words cells (asked-rows s live rows words cells g) .1))

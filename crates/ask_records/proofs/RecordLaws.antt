@@ -1,5 +1,6 @@
 -- Records written one after another: a row of words put in, the records so far, and what they tell. Assumes nothing.
 use mathlib.Core.Path.{_≡_, refl, ap, _∙_}
+use mathlib.Core.Bool.{Bool, true, cond}
 use mathlib.Core.List.{List, [], _∷_, _++_}
 use mathlib.Core.Option.{Option, none}
 use Prim.Native.Nat.{ℕ, zero, suc, _+_, _*_, _<_}
@@ -7,12 +8,13 @@ use native.Mathlib.Decide.{ℕ-discrete}
 use native.Mathlib.Omega.{arith}
 use lib.ListN.{length, getD, set, replicate, length-set}
 use lib.Seq.{getD-set-same, getD-set-other}
-use Rattle.model.specs.Lists.{each, concatMap}
+use Rattle.model.specs.Lists.{every, each, concatMap}
+use Rattle.model.specs.ask.Questions.{numbers, staleList}
 use Rattle.memory_layout.specs.Offsets.{cell}
 use Rattle.memory_layout.specs.Tables.{tabulate}
 use Rattle.memory_layout.proofs.TableLaws.{tabulate-ext}
 use Rattle.memory_layout.proofs.OffsetLaws.{cell-below}
-use Rattle.ask_records.specs.Records.{wordsAt, told, WordsPut, Lists}
+use Rattle.ask_records.specs.Records.{wordsAt, told, tells?, toldReply, WordsPut, Lists}
 
 -- ---- a row of words
 pub put-start : (at : ℕ) (row out : List ℕ) → WordsPut at 0 row out out
@@ -82,6 +84,13 @@ module _ {B : Type 0} (w : ℕ) (read : List ℕ → List B) (parts : ℕ → Li
   lists-end j n before after g e = rw e at g
 
 -- ---- what they tell
+every-tabulate : {A : Type 0} (test : A → Bool) (n : ℕ) (f : ℕ → A) → ((j : ℕ) → j < n → test (f j) ≡ true)
+    → every test (tabulate n f) ≡ true
+unfolding tabulate every
+every-tabulate test zero f h = refl
+every-tabulate test (suc n) f h =
+    rw (h zero (omega arith), every-tabulate test n (λ j. f (suc j)) (λ j l. h (suc j) (omega arith))) refl
+
 module _ {A B C : Type 0} (read : A → List B) (parts : C → List B) where
   pub concat-ext : (n : ℕ) (f : ℕ → A) (g : ℕ → C) → ((j : ℕ) → j < n → read (f j) ≡ parts (g j))
       → concatMap read (tabulate n f) ≡ concatMap parts (tabulate n g)
@@ -94,6 +103,15 @@ pub told-parts : {B C : Type 0} (w : ℕ) (read : List ℕ → List B) (parts : 
     → Lists w read (λ j. parts (g j)) n before after → told w read n after ≡ concatMap parts (tabulate n g)
 unfolding told
 told-parts w read parts g n before after l = concat-ext read parts n (wordsAt w after) g (l .tells)
+
+-- every part tells something, and so does every record
+module _ (w : ℕ) (read : List ℕ → List (Option ℕ)) (parts : ℕ → List (Option ℕ)) (n : ℕ) (before after : List ℕ)
+    (l : Lists w read parts n before after) (full : (j : ℕ) → tells? (parts j) ≡ true) where
+  pub told-reply : toldReply w read n after ≡ numbers (told w read n after)
+  unfolding toldReply
+  told-reply =
+      ap (λ (t : Bool). cond t (numbers (told w read n after)) staleList)
+      (every-tabulate (λ r. tells? (read r)) n (wordsAt w after) (λ j h. ap tells? (l .tells j h) ∙ full j))
 
 -- one number a record
 pub concat-each : {A B : Type 0} (f : A → B) (xs : List A) → concatMap (λ x. f x ∷ []) xs ≡ each f xs

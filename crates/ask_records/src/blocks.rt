@@ -1,5 +1,6 @@
-// State, peers and a peer or none for each block: four words a record, the peer with whether there is one before it.
+// State, peers and a peer or none for each block: four words a record, the last two being 1 and the peer, or 0 and 0 for none.
 use crate::words::bit_of;
+use crate::words::peer_or_zero;
 use crate::words::put_words;
 use ask_piece::blocks_in_piece;
 use memory_blocks::get_block;
@@ -42,7 +43,7 @@ fn blocks_at(words: &[u64], cells: &[u16], s: Shape, p: usize, many: usize, out:
             u16_to_u64(x.state),
             u16_to_u64(x.num_peers),
             bit_of(x.has_peer),
-            x.peer,
+            peer_or_zero(x.has_peer, x.peer),
         ];
         put_words(out, 4 * j, &block);
         j += 1;

@@ -1,5 +1,6 @@
-// A peer or none for each block: two words a record, whether there is a peer, and the peer.
+// A peer or none for each block: two words a record, 1 and the peer, or 0 and 0 for none.
 use crate::words::bit_of;
+use crate::words::peer_or_zero;
 use crate::words::put_words;
 use ask_piece::blocks_in_piece;
 use memory_blocks::get_block;
@@ -14,12 +15,12 @@ ghost use mathlib.Core.List.{[], _∷_};
 ghost use mathlib.Core.Option.{none};
 ghost use Prim.Native.Nat.{_*_, _≤_, _<_};
 ghost use lib.ListN.{length};
-ghost use Rattle.model.specs.ask.Questions.{listPiece, numbers, get-downloaders};
+ghost use Rattle.model.specs.ask.Questions.{listPiece, get-downloaders};
 ghost use Rattle.memory_layout.specs.Decode.{blockHeld};
 ghost use Rattle.memory_layout.specs.Bounds.{Spans};
 ghost use Rattle.memory_rows.specs.Lookup.{pickerIn};
 ghost use Rattle.ask_picker.specs.Asked.{Asked};
-ghost use Rattle.ask_records.specs.Records.{peerRead, told, Lists, Written};
+ghost use Rattle.ask_records.specs.Records.{peerRead, toldReply, Lists, Written};
 
 // Those of the first blocks of place p.
 fn peers_at(words: &[u64], cells: &[u16], s: Shape, p: usize, many: usize, out: &mut [u64])
@@ -33,7 +34,7 @@ fn peers_at(words: &[u64], cells: &[u16], s: Shape, p: usize, many: usize, out: 
     let mut j = 0;
     while j < many {
         let x = get_block(words, cells, s, p, j);
-        let pair = [bit_of(x.has_peer), x.peer];
+        let pair = [bit_of(x.has_peer), peer_or_zero(x.has_peer, x.peer)];
         put_words(out, 2 * j, &pair);
         j += 1;
     }
@@ -65,7 +66,7 @@ pub fn get_downloaders(
     requires { ⌜ Asked s live (now rows) (now words) (now cells) ⌝ }
     requires { ⌜ i < s .pieces ⌝ }
     requires { ⌜ 2 * s .blocks ≤ length (now out) ⌝ }
-    ensures { λ r. ⌜ numbers (told 2 peerRead r (now (out .exit)))
+    ensures { λ r. ⌜ toldReply 2 peerRead r (now (out .exit))
         ≡ listPiece (pickerIn live (now (rows .entry)) (now (words .entry)) (now (cells .entry))) i get-downloaders ⌝ }
     ensures { λ r. ⌜ Written 2 r (now (out .entry)) (now (out .exit)) ⌝ }
 {

@@ -5,10 +5,10 @@ use memory_layout::Shape;
 ghost use mathlib.Core.Path.{_≡_};
 ghost use Prim.Native.Nat.{_*_, _≤_, _<_};
 ghost use lib.ListN.{length};
-ghost use Rattle.model.specs.ask.Questions.{listPiece, numbers, get-downloaders};
+ghost use Rattle.model.specs.ask.Questions.{listPiece, get-downloaders};
 ghost use Rattle.memory_rows.specs.Lookup.{pickerIn};
 ghost use Rattle.ask_picker.specs.Asked.{Asked};
-ghost use Rattle.ask_records.specs.Records.{peerRead, told, Written};
+ghost use Rattle.ask_records.specs.Records.{peerRead, toldReply, Written};
 ghost use Rattle.link_piece_questions.specs.Lending.{shaped};
 
 #[no_mangle]
@@ -24,7 +24,7 @@ pub extern "C" fn aq_get_downloaders(
     requires { ⌜ Asked (shaped g) live (now rows) (now words) (now cells) ⌝ }
     requires { ⌜ i < g .pieces ⌝ }
     requires { ⌜ 2 * g .blocks ≤ length (now out) ⌝ }
-    ensures { λ r. ⌜ numbers (told 2 peerRead r (now (out .exit)))
+    ensures { λ r. ⌜ toldReply 2 peerRead r (now (out .exit))
         ≡ listPiece (pickerIn live (now (rows .entry)) (now (words .entry)) (now (cells .entry))) i get-downloaders ⌝ }
     ensures { λ r. ⌜ Written 2 r (now (out .entry)) (now (out .exit)) ⌝ }
 {

@@ -3,14 +3,14 @@ use mathlib.Core.Path.{_≡_}
 use mathlib.Core.List.{List}
 use Prim.Native.Nat.{ℕ}
 use lib.ListN.{length}
-use Rattle.model.specs.ask.Questions.{Question, Reply, plain, numbers, nothing}
+use Rattle.model.specs.ask.Questions.{Question, Reply, plain, nothing}
 use Rattle.model.specs.Calls.{Answer, refused, replied, question}
 use Rattle.memory_records.specs.declared.record.DownloadingPiece.{DownloadingPiece as Record}
 use Rattle.memory_records.specs.Rows.{rowsOf}
 use Rattle.memory_layout.specs.Tables.{front}
 use Rattle.ask_records.specs.declared.blocks.RecordsOf.{RecordsOf}
 use Rattle.ask_records.specs.declared.blocks.RecordsOf.the-variants.{Records as Written-records, Nothing as No-records}
-use Rattle.ask_records.specs.Records.{Written, told, peerRead, blockRead}
+use Rattle.ask_records.specs.Records.{Written, toldReply, peerRead, blockRead}
 use Rattle.ask_queue.specs.Infos.{infosTold}
 use Rattle.picker_calls.specs.Calling.{Lent, answerOn}
 use Rattle.picker_calls.specs.Cores.{lending}
@@ -40,11 +40,11 @@ tellInfos n out = plain (infosTold n out)
 
 -- a peer or none for each block, two words a record
 unfoldable pub tellPeers : (n : ℕ) (out : List ℕ) → Reply
-tellPeers n out = numbers (told 2 peerRead n out)
+tellPeers n out = toldReply 2 peerRead n out
 
 -- blocks, four words a record
 unfoldable pub tellBlocks : (n : ℕ) (out : List ℕ) → Reply
-tellBlocks n out = numbers (told 4 blockRead n out)
+tellBlocks n out = toldReply 4 blockRead n out
 
 -- records, or nothing where no partial stands
 abbrev pub ofRecords : (r : RecordsOf) → ListAnswer

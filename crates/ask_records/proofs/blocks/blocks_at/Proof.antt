@@ -35,19 +35,22 @@ u16-to-u64-requires-2 c κs = search needs
 bit-of-requires : tie.Need-bit-of-requires Inv-loop μ-loop
 bit-of-requires c κs = search needs
 
+peer-or-zero-requires : tie.Need-peer-or-zero-requires Inv-loop μ-loop
+peer-or-zero-requires c κs = search needs
+
 mul-put-words : tie.Need-mul-put-words Inv-loop μ-loop
 mul-put-words c =
-    let c10 = c .before .before .before .before .before .before .before .before .before .before in
-    omega (arith, c10 .pre .1 .1)
+    let c11 = c .before .before .before .before .before .before .before .before .before .before .before in
+    omega (arith, c11 .pre .1 .1)
 
 slice-aggregate-put-words : tie.Need-slice-aggregate-put-words Inv-loop μ-loop
 slice-aggregate-put-words c = search needs
 
 put-words-requires : tie.Need-put-words-requires Inv-loop μ-loop
 put-words-requires c κs =
-    let c7 = c .before .before .before .before .before .before .before in
-    let c11 = c7 .before .before .before .before in
-    omega (arith, c11 .pre .1 .1, c7 .loop .inv .1 .written .long)
+    let c8 = c .before .before .before .before .before .before .before .before in
+    let c12 = c8 .before .before .before .before in
+    omega (arith, c12 .pre .1 .1, c8 .loop .inv .1 .written .long)
 
 add-j : tie.Need-add-j Inv-loop μ-loop
 add-j c = search needs
@@ -62,11 +65,12 @@ loop-again c =
     let c6 = c5 .before in
     let c7 = c6 .before in
     let c8 = c7 .before in
-    let c10 = c8 .before .before in (
+    let c9 = c8 .before in
+    let c11 = c9 .before .before in (
       omega arith,
-      lists-next 4 blockRead _ _ _ _ _ _ (c10 .loop .inv .1) (c2 .put-words .ensures) refl (block-row _ _
-          (c8 .get-block .ensures .held) _ (c5 .bit-of .ensures)
-          _ _ (c7 .u16-to-u64 .ensures) (c6 .u16-to-u642 .ensures)),
+      lists-next 4 blockRead _ _ _ _ _ _ (c11 .loop .inv .1) (c2 .put-words .ensures) refl (block-row _ _
+          (c9 .get-block .ensures .held) _ _ (c6 .bit-of .ensures) (c5 .peer-or-zero .ensures)
+          _ _ (c8 .u16-to-u64 .ensures) (c7 .u16-to-u642 .ensures)),
     )
 
 same-length : tie.Need-same-length Inv-loop μ-loop
@@ -86,6 +90,7 @@ blocks-at-spec =
     u16-to-u64-requires
     u16-to-u64-requires-2
     bit-of-requires
+    peer-or-zero-requires
     mul-put-words
     slice-aggregate-put-words
     put-words-requires

@@ -29,17 +29,22 @@ get-block-requires c κs =
 bit-of-requires : tie.Need-bit-of-requires Inv-loop μ-loop
 bit-of-requires c κs = search needs
 
+peer-or-zero-requires : tie.Need-peer-or-zero-requires Inv-loop μ-loop
+peer-or-zero-requires c κs = search needs
+
 mul-put-words : tie.Need-mul-put-words Inv-loop μ-loop
-mul-put-words c = omega (arith, c .before .before .before .before .before .before .before .before .pre .1 .1)
+mul-put-words c =
+    let c9 = c .before .before .before .before .before .before .before .before .before in
+    omega (arith, c9 .pre .1 .1)
 
 slice-aggregate-put-words : tie.Need-slice-aggregate-put-words Inv-loop μ-loop
 slice-aggregate-put-words c = search needs
 
 put-words-requires : tie.Need-put-words-requires Inv-loop μ-loop
 put-words-requires c κs =
-    let c5 = c .before .before .before .before .before in
-    let c9 = c5 .before .before .before .before in
-    omega (arith, c9 .pre .1 .1, c5 .loop .inv .1 .written .long)
+    let c6 = c .before .before .before .before .before .before in
+    let c10 = c6 .before .before .before .before in
+    omega (arith, c10 .pre .1 .1, c6 .loop .inv .1 .written .long)
 
 add-j : tie.Need-add-j Inv-loop μ-loop
 add-j c = search needs
@@ -52,10 +57,11 @@ loop-again c =
     let c2 = c .before .before in
     let c5 = c2 .before .before .before in
     let c6 = c5 .before in
-    let c8 = c6 .before .before in (
+    let c7 = c6 .before in
+    let c9 = c7 .before .before in (
       omega arith,
-      lists-next 2 peerRead _ _ _ _ _ _ (c8 .loop .inv .1) (c2 .put-words .ensures) refl (peer-row _ _ (c6 .get-block .ensures .held) _
-          (c5 .bit-of .ensures)),
+      lists-next 2 peerRead _ _ _ _ _ _ (c9 .loop .inv .1) (c2 .put-words .ensures) refl (peer-row _ _ (c7 .get-block .ensures .held) _ _
+          (c6 .bit-of .ensures) (c5 .peer-or-zero .ensures)),
     )
 
 same-length : tie.Need-same-length Inv-loop μ-loop
@@ -73,6 +79,7 @@ peers-at-spec =
     loop-holds
     get-block-requires
     bit-of-requires
+    peer-or-zero-requires
     mul-put-words
     slice-aggregate-put-words
     put-words-requires
