@@ -21,6 +21,17 @@ def line(x1, y1, x2, y2, stroke):
     return f'<line x1="{number(x1)}" y1="{number(y1)}" x2="{number(x2)}" y2="{number(y2)}" stroke="{stroke}"/>'
 
 
+def polyline(points, stroke, **more):
+    """A line through points."""
+    through = " ".join(f"{number(x)},{number(y)}" for x, y in points)
+    return f'<polyline points="{through}" fill="none" stroke="{stroke}"{attributes(more)}/>'
+
+
+def circle(x, y, radius, fill, title):
+    """A dot; `title` is shown where the pointer rests on it."""
+    return f'<circle cx="{number(x)}" cy="{number(y)}" r="{number(radius)}" fill="{fill}"><title>{escape(title)}</title></circle>'
+
+
 def text(x, y, words, size=11, **more):
     return f'<text x="{number(x)}" y="{number(y)}" font-size="{size}"{attributes(more)}>{escape(words)}</text>'
 
