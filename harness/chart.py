@@ -22,7 +22,8 @@ DRAWN = (
 )
 PARTIALS = 8  # of the chart: so few stand at every number of pieces, with Open pieces between them
 INK, PALE, GRID = "#1f2937", "#6b7280", "#e5e7eb"
-SIDES = (("whole call", "#1d4ed8"), ("memory test alone", "#9ca3af"), ("the Rust", "#b45309"))
+SIDES = (("whole call", "#1d4ed8", 2), ("memory test alone", "#cbd5e1", 6), ("the Rust", "#b45309", 2))  # with the width of a line
+IN_FRONT = (1, 2, 0)  # the order in which they are drawn
 DASHES = {16: "none", 256: "5 3"}
 LOW, HIGH = 0.001, 1000.0  # microseconds
 
@@ -95,25 +96,28 @@ def frame(call, corner):
         yield text(at, y + PANEL_HIGH + 14, f"{pieces:,}", 10, fill=PALE, text_anchor="middle")
 
 
+def curve(by_size, corner, k, blocks):
+    name, stroke, wide = SIDES[k]
+    sizes = sorted(size for size in by_size if size[1:] == (blocks, PARTIALS))
+    points = [place(size[0], by_size[size][k], corner) for size in sizes]
+    yield polyline(points, stroke, stroke_width=wide, stroke_dasharray=DASHES[blocks])
+    for size, (x, y) in zip(sizes, points):
+        yield circle(x, y, 1 + wide / 2, stroke, f"{name}, {size[0]:,} pieces of {blocks} blocks: {shortly(by_size[size][k])} µs")
+
+
 def curves(by_size, corner):
-    for (k, (name, stroke)), blocks in ((side, blocks) for side in enumerate(SIDES) for blocks in DASHES):
-        sizes = sorted(size for size in by_size if size[1:] == (blocks, PARTIALS))
-        points = [place(size[0], by_size[size][k], corner) for size in sizes]
-        yield polyline(points, stroke, stroke_width=2, stroke_dasharray=DASHES[blocks])
-        for size, (x, y) in zip(sizes, points):
-            yield circle(x, y, 2.5, stroke, f"{name}, {size[0]:,} pieces of {blocks} blocks: {shortly(by_size[size][k])} µs")
+    for k, blocks in ((k, blocks) for k in IN_FRONT for blocks in DASHES):
+        yield from curve(by_size, corner, k, blocks)
 
 
 def legend():
     x = LEFT
-    for name, stroke in SIDES:
-        yield polyline([(x, 26), (x + 24, 26)], stroke, stroke_width=2)
+    plain = [(name, stroke, wide, "none") for name, stroke, wide in SIDES]
+    dashed = [(f"{blocks} blocks a piece", PALE, 2, dash) for blocks, dash in DASHES.items()]
+    for name, stroke, wide, dash in plain + dashed:
+        yield polyline([(x, 26), (x + 24, 26)], stroke, stroke_width=wide, stroke_dasharray=dash)
         yield text(x + 30, 30, name, fill=INK)
         x += 60 + 6.5 * len(name)
-    for blocks, dash in DASHES.items():
-        yield polyline([(x, 26), (x + 24, 26)], INK, stroke_width=2, stroke_dasharray=dash)
-        yield text(x + 30, 30, f"{blocks} blocks a piece", fill=INK)
-        x += 150
 
 
 def chart(found):
