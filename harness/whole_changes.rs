@@ -2,12 +2,13 @@
 
 use crate::sizes::{At, Size};
 use crate::timing::{each, least};
-use crate::whole_picker::{NamedBlock, PiecePriority, Request, Whole};
+use crate::whole_picker::Whole;
 use crate::{Lines, Times};
 use bitdaemon_common::random::{self, Made, Words};
 use bitdaemon_common::{DownloadPriority, PieceBlock, PieceIndex};
 use oracle::image::{Block, Fields};
 use oracle::piece_picker::{PickerOptions, PiecePicker};
+use piece_picker::sys::{self, NamedBlock, Priority, Request};
 use std::hint::black_box;
 
 /// Rounds of a cycle, and of a course.
@@ -49,30 +50,30 @@ macro_rules! calls {
 
 // block 1 of a partial is free, and an Open piece is opened by its block 0
 calls! {
-    COUNTED: ("inc_refcount", |w, i| w.inc_refcount(i), |r, i| r.inc_refcount(i))
-        ("dec_refcount", |w, i| w.dec_refcount(i), |r, i| r.dec_refcount(i));
-    SEEDED: ("inc_refcount_all", |w, i| w.inc_refcount_all(), |r, i| r.inc_refcount_all())
-        ("dec_refcount_all", |w, i| w.dec_refcount_all(), |r, i| r.dec_refcount_all());
-    WISHED: ("set_piece_priority, to 0", |w, i| w.set_piece_priority(PiecePriority { piece: i, priority: 0 }),
+    COUNTED: ("inc_refcount", |w, i| w.draw(sys::pp_inc_refcount, i), |r, i| r.inc_refcount(i))
+        ("dec_refcount", |w, i| w.draw(sys::pp_dec_refcount, i), |r, i| r.dec_refcount(i));
+    SEEDED: ("inc_refcount_all", |w, i| w.alter_all(sys::pp_inc_refcount_all), |r, i| r.inc_refcount_all())
+        ("dec_refcount_all", |w, i| w.alter_all(sys::pp_dec_refcount_all), |r, i| r.dec_refcount_all());
+    WISHED: ("set_piece_priority, to 0", |w, i| w.draw(sys::pp_set_piece_priority, Priority { piece: i, priority: 0 }),
             |r, i| r.set_piece_priority(i, DownloadPriority::DONT_DOWNLOAD))
-        ("set_piece_priority, from 0", |w, i| w.set_piece_priority(PiecePriority { piece: i, priority: 4 }),
+        ("set_piece_priority, from 0", |w, i| w.draw(sys::pp_set_piece_priority, Priority { piece: i, priority: 4 }),
             |r, i| r.set_piece_priority(i, DownloadPriority::DEFAULT));
-    ASKED: ("mark_as_downloading, of a partial", |w, i| w.mark_as_downloading(asked(i, 1)),
+    ASKED: ("mark_as_downloading, of a partial", |w, i| w.draw(sys::pp_mark_as_downloading, asked(i, 1)),
             |r, i| r.mark_as_downloading(block(i, 1), PEER, PickerOptions::NONE))
-        ("abort_download, of a partial", |w, i| w.abort_download(of_block(i, 1)), |r, i| r.abort_download(block(i, 1), PEER));
-    OPENED: ("mark_as_downloading, opening", |w, i| w.mark_as_downloading(asked(i, 0)),
+        ("abort_download, of a partial", |w, i| w.draw(sys::pp_abort_download, of_block(i, 1)), |r, i| r.abort_download(block(i, 1), PEER));
+    OPENED: ("mark_as_downloading, opening", |w, i| w.draw(sys::pp_mark_as_downloading, asked(i, 0)),
             |r, i| r.mark_as_downloading(block(i, 0), PEER, PickerOptions::NONE))
-        ("abort_download, closing", |w, i| w.abort_download(of_block(i, 0)), |r, i| r.abort_download(block(i, 0), PEER));
-    WRITTEN: ("mark_as_downloading, of a partial", |w, i| w.mark_as_downloading(asked(i, 1)),
+        ("abort_download, closing", |w, i| w.draw(sys::pp_abort_download, of_block(i, 0)), |r, i| r.abort_download(block(i, 0), PEER));
+    WRITTEN: ("mark_as_downloading, of a partial", |w, i| w.draw(sys::pp_mark_as_downloading, asked(i, 1)),
             |r, i| r.mark_as_downloading(block(i, 1), PEER, PickerOptions::NONE))
-        ("mark_as_writing", |w, i| w.mark_as_writing(of_block(i, 1)), |r, i| r.mark_as_writing(block(i, 1), PEER))
-        ("mark_as_canceled", |w, i| w.mark_as_canceled(of_block(i, 1)), |r, i| r.mark_as_canceled(block(i, 1), PEER));
-    LOCKED: ("lock_piece", |w, i| w.lock_piece(i), |r, i| r.lock_piece(i));
-    BROUGHT: ("mark_as_writing", |w, i| w.mark_as_writing(of_block(i, 0)), |r, i| r.mark_as_writing(block(i, 0), PEER))
-        ("mark_as_finished", |w, i| w.mark_as_finished(of_block(i, 0)), |r, i| r.mark_as_finished(block(i, 0), PEER));
-    COMPLETED: ("mark_as_writing, the last block", |w, i| w.mark_as_writing(of_block(i, 0)), |r, i| r.mark_as_writing(block(i, 0), PEER))
-        ("mark_as_finished, the last block", |w, i| w.mark_as_finished(of_block(i, 0)), |r, i| r.mark_as_finished(block(i, 0), PEER))
-        ("piece_passed", |w, i| w.piece_passed(i), |r, i| r.piece_passed(i));
+        ("mark_as_writing", |w, i| w.draw(sys::pp_mark_as_writing, of_block(i, 1)), |r, i| r.mark_as_writing(block(i, 1), PEER))
+        ("mark_as_canceled", |w, i| w.draw(sys::pp_mark_as_canceled, of_block(i, 1)), |r, i| r.mark_as_canceled(block(i, 1), PEER));
+    LOCKED: ("lock_piece", |w, i| w.alter(sys::pp_lock_piece, i), |r, i| r.lock_piece(i));
+    BROUGHT: ("mark_as_writing", |w, i| w.draw(sys::pp_mark_as_writing, of_block(i, 0)), |r, i| r.mark_as_writing(block(i, 0), PEER))
+        ("mark_as_finished", |w, i| w.draw(sys::pp_mark_as_finished, of_block(i, 0)), |r, i| r.mark_as_finished(block(i, 0), PEER));
+    COMPLETED: ("mark_as_writing, the last block", |w, i| w.draw(sys::pp_mark_as_writing, of_block(i, 0)), |r, i| r.mark_as_writing(block(i, 0), PEER))
+        ("mark_as_finished, the last block", |w, i| w.draw(sys::pp_mark_as_finished, of_block(i, 0)), |r, i| r.mark_as_finished(block(i, 0), PEER))
+        ("piece_passed", |w, i| w.alter(sys::pp_piece_passed, i), |r, i| r.piece_passed(i));
 }
 
 /// The same picker on both sides.

@@ -4,13 +4,14 @@ use crate::rust_pick;
 use crate::sizes::Size;
 use crate::states::not_stale;
 use crate::turns::times;
-use crate::whole_picker::{PickRequest, Whole};
+use crate::whole_picker::Whole;
 use crate::{Lines, Times};
 use bitdaemon_common::random::{self, Made, Words, WORDS};
 use bitdaemon_common::{Bitfield, PieceIndex};
 use oracle::image::{self, Fields};
 use oracle::piece_picker::PiecePicker;
 use oracle::script::Pick;
+use piece_picker::sys::{self, PickRequest};
 use std::cell::RefCell;
 use std::hint::black_box;
 use std::rc::Rc;
@@ -103,9 +104,9 @@ fn picks(size: Size, lines: &Lines) {
 
 /// The first and the last questions answer the same on both sides.
 fn check_questions(sides: &Sides) {
-    let (mut whole, rust) = (sides.whole.borrow_mut(), &sides.rust);
-    assert!(whole.num_have().value == rust.num_have() as u64, "another num_have");
-    assert!(whole.get_download_queue(&mut vec![0; 7 * 512]) == rust.get_download_queue().len() as u64, "another queue");
+    let (whole, rust) = (sides.whole.borrow(), &sides.rust);
+    assert!(whole.ask(sys::pp_num_have).value == rust.num_have() as u64, "another num_have");
+    assert!(whole.list(sys::pp_get_download_queue, &mut vec![0; 7 * 512]) == rust.get_download_queue().len() as u64, "another queue");
 }
 
 fn questions(size: Size, lines: &Lines) {
@@ -114,21 +115,21 @@ fn questions(size: Size, lines: &Lines) {
     let (mut column, mut avail, mut records) = (vec![0; size.n], Vec::new(), vec![0; 7 * 512]);
     let pieces: Vec<i32> = (0..ASKED).map(|k| (k * size.n / ASKED) as i32).collect();
     let once = |whole: fn(&mut Whole), rust: fn(&PiecePicker)| sides.time(1, whole, rust);
-    lines.put("num_have", once(|w| { black_box(w.num_have()); }, |r| { black_box(r.num_have()); }));
+    lines.put("num_have", once(|w| { black_box(w.ask(sys::pp_num_have)); }, |r| { black_box(r.num_have()); }));
     lines.put("piece_priority", sides.time(
         ASKED,
-        |w| pieces.iter().for_each(|i| { black_box(w.piece_priority(*i)); }),
+        |w| pieces.iter().for_each(|i| { black_box(w.ask_of(sys::pp_piece_priority, *i)); }),
         |r| pieces.iter().for_each(|i| { black_box(r.piece_priority(PieceIndex(*i))); }),
     ));
-    lines.put("distributed_copies", once(|w| { black_box(w.distributed_copies()); }, |r| { black_box(r.distributed_copies()); }));
+    lines.put("distributed_copies", once(|w| { black_box(w.ask(sys::pp_distributed_copies)); }, |r| { black_box(r.distributed_copies()); }));
     lines.put("get_availability_vec", sides.time(
         1,
-        |w| { black_box(w.get_availability_vec(&mut column)); },
+        |w| { black_box(w.list(sys::pp_get_availability_vec, &mut column)); },
         |r| r.get_availability_vec(black_box(&mut avail)),
     ));
     lines.put("get_download_queue", sides.time(
         1,
-        |w| { black_box(w.get_download_queue(&mut records)); },
+        |w| { black_box(w.list(sys::pp_get_download_queue, &mut records)); },
         |r| { black_box(r.get_download_queue()); },
     ));
 }
@@ -138,11 +139,11 @@ fn images(size: Size, lines: &Lines) {
     let sides = Sides::new(&size.fields(&[]));
     let due = sides.rust.image();
     let mut bytes = vec![0; due.len()];
-    assert!(sides.whole.borrow_mut().take_image(&mut bytes) == due.len() && bytes == due, "another image");
+    assert!(sides.whole.borrow().take_image(&mut bytes) == due.len() && bytes == due, "another image");
     lines.put("take_image", sides.time(1, |w| { black_box(w.take_image(&mut bytes)); }, |r| { black_box(r.image()); }));
     lines.put("read_image", sides.time(
         1,
-        |w| { black_box(w.read_image(&due)); },
+        |w| w.read_image(black_box(&due)),
         |_| { black_box(PiecePicker::from_fields(&image::read(black_box(&due)).ok().expect("an image"))); },
     ));
 }
