@@ -1,6 +1,6 @@
-"""`python3 -m compare.makers`: docs/MAKERS.md tells what is there. It has every export of include/piece_picker.h and no other, each with the
-refusals that the recorded answers of the Rust show; its program in C and its program in Rust, compiled against build/lib as it says, print
-what it says. Status 1 and a line for each fault."""
+"""`python3 -m compare.makers`: docs/MAKERS.md tells what is there. It has every export of include/piece_picker.h and no other, each with
+the refusals that the recorded answers of the Rust show; its programs in C and in Rust, compiled against build/lib as it says, print what
+it says. Status 1 and a line for each fault."""
 import pathlib
 import re
 import subprocess

@@ -60,19 +60,27 @@ calls! {
             |r, i| r.set_piece_priority(i, DownloadPriority::DEFAULT));
     ASKED: ("mark_as_downloading, of a partial", |w, i| w.draw(sys::pp_mark_as_downloading, asked(i, 1)),
             |r, i| r.mark_as_downloading(block(i, 1), PEER, PickerOptions::NONE))
-        ("abort_download, of a partial", |w, i| w.draw(sys::pp_abort_download, of_block(i, 1)), |r, i| r.abort_download(block(i, 1), PEER));
+        ("abort_download, of a partial", |w, i| w.draw(sys::pp_abort_download, of_block(i, 1)),
+            |r, i| r.abort_download(block(i, 1), PEER));
     OPENED: ("mark_as_downloading, opening", |w, i| w.draw(sys::pp_mark_as_downloading, asked(i, 0)),
             |r, i| r.mark_as_downloading(block(i, 0), PEER, PickerOptions::NONE))
-        ("abort_download, closing", |w, i| w.draw(sys::pp_abort_download, of_block(i, 0)), |r, i| r.abort_download(block(i, 0), PEER));
+        ("abort_download, closing", |w, i| w.draw(sys::pp_abort_download, of_block(i, 0)),
+            |r, i| r.abort_download(block(i, 0), PEER));
     WRITTEN: ("mark_as_downloading, of a partial", |w, i| w.draw(sys::pp_mark_as_downloading, asked(i, 1)),
             |r, i| r.mark_as_downloading(block(i, 1), PEER, PickerOptions::NONE))
-        ("mark_as_writing", |w, i| w.draw(sys::pp_mark_as_writing, of_block(i, 1)), |r, i| r.mark_as_writing(block(i, 1), PEER))
-        ("mark_as_canceled", |w, i| w.draw(sys::pp_mark_as_canceled, of_block(i, 1)), |r, i| r.mark_as_canceled(block(i, 1), PEER));
+        ("mark_as_writing", |w, i| w.draw(sys::pp_mark_as_writing, of_block(i, 1)),
+            |r, i| r.mark_as_writing(block(i, 1), PEER))
+        ("mark_as_canceled", |w, i| w.draw(sys::pp_mark_as_canceled, of_block(i, 1)),
+            |r, i| r.mark_as_canceled(block(i, 1), PEER));
     LOCKED: ("lock_piece", |w, i| w.alter(sys::pp_lock_piece, i), |r, i| r.lock_piece(i));
-    BROUGHT: ("mark_as_writing", |w, i| w.draw(sys::pp_mark_as_writing, of_block(i, 0)), |r, i| r.mark_as_writing(block(i, 0), PEER))
-        ("mark_as_finished", |w, i| w.draw(sys::pp_mark_as_finished, of_block(i, 0)), |r, i| r.mark_as_finished(block(i, 0), PEER));
-    COMPLETED: ("mark_as_writing, the last block", |w, i| w.draw(sys::pp_mark_as_writing, of_block(i, 0)), |r, i| r.mark_as_writing(block(i, 0), PEER))
-        ("mark_as_finished, the last block", |w, i| w.draw(sys::pp_mark_as_finished, of_block(i, 0)), |r, i| r.mark_as_finished(block(i, 0), PEER))
+    BROUGHT: ("mark_as_writing", |w, i| w.draw(sys::pp_mark_as_writing, of_block(i, 0)),
+            |r, i| r.mark_as_writing(block(i, 0), PEER))
+        ("mark_as_finished", |w, i| w.draw(sys::pp_mark_as_finished, of_block(i, 0)),
+            |r, i| r.mark_as_finished(block(i, 0), PEER));
+    COMPLETED: ("mark_as_writing, the last block", |w, i| w.draw(sys::pp_mark_as_writing, of_block(i, 0)),
+            |r, i| r.mark_as_writing(block(i, 0), PEER))
+        ("mark_as_finished, the last block", |w, i| w.draw(sys::pp_mark_as_finished, of_block(i, 0)),
+            |r, i| r.mark_as_finished(block(i, 0), PEER))
         ("piece_passed", |w, i| w.alter(sys::pp_piece_passed, i), |r, i| r.piece_passed(i));
 }
 

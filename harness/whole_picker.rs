@@ -1,5 +1,5 @@
-//! A picker as a maker has it: three buffers of the needed lengths, set back from an image, and the exported calls of the archive on them, as
-//! `bindings/rust` declares them. Beside it the memory test alone, as every call makes it.
+//! A picker as a maker has it: three buffers of the needed lengths, set back from an image, and the exported calls of the archive on them,
+//! as `bindings/rust` declares them. Beside it the memory test alone, as every call makes it.
 
 use crate::records::{unpack, DownloadingPiece, ROWS};
 use bitdaemon_common::random::{COUNT, WORDS};

@@ -102,7 +102,7 @@ fn picks(size: Size, lines: &Lines) {
     }
 }
 
-/// The first and the last questions answer the same on both sides.
+/// The two questions that count answer the same on both sides.
 fn check_questions(sides: &Sides) {
     let (whole, rust) = (sides.whole.borrow(), &sides.rust);
     assert!(whole.ask(sys::pp_num_have).value == rust.num_have() as u64, "another num_have");
@@ -121,7 +121,10 @@ fn questions(size: Size, lines: &Lines) {
         |w| pieces.iter().for_each(|i| { black_box(w.ask_of(sys::pp_piece_priority, *i)); }),
         |r| pieces.iter().for_each(|i| { black_box(r.piece_priority(PieceIndex(*i))); }),
     ));
-    lines.put("distributed_copies", once(|w| { black_box(w.ask(sys::pp_distributed_copies)); }, |r| { black_box(r.distributed_copies()); }));
+    lines.put("distributed_copies", once(
+        |w| { black_box(w.ask(sys::pp_distributed_copies)); },
+        |r| { black_box(r.distributed_copies()); },
+    ));
     lines.put("get_availability_vec", sides.time(
         1,
         |w| { black_box(w.list(sys::pp_get_availability_vec, &mut column)); },
