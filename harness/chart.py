@@ -38,6 +38,9 @@ class Times(NamedTuple):
     def to_goal(self):
         return self.whole / (self.test + self.rust)
 
+    def over(self):
+        return self.whole - self.test - self.rust
+
 
 def figures():
     """Times by call, then by size."""
@@ -59,15 +62,17 @@ def cells_of(by_size):
     for size in SHOWN:
         times = by_size.get(size)
         yield from ("-",) * 3 if times is None else map(shortly, times)
+    over = [times.over() for times in by_size.values()]
     ratios = [times.to_goal() for times in by_size.values()]
     yield f"{min(ratios):.2f} to {max(ratios):.2f}"
+    yield f"{max(over):.2f}"
     yield f"{sum(ratio <= 1 for ratio in ratios)} of {len(ratios)}"
 
 
 def table(found):
     heads = [f"{n:,}, {b}, {p}: {first}" if k == 0 else first for n, b, p in SHOWN for k, first in enumerate(("µs", "test", "Rust"))]
-    yield "| " + " | ".join(["call", *heads, "to test and Rust", "met"]) + " |"
-    yield "|---" * (len(heads) + 3) + "|"
+    yield "| " + " | ".join(["call", *heads, "to the goal", "most over, µs", "met"]) + " |"
+    yield "|---" * (len(heads) + 4) + "|"
     for call, by_size in found.items():
         yield "| " + " | ".join([f"{call}", *cells_of(by_size)]) + " |"
 

@@ -21,30 +21,54 @@ mod whole_picker;
 mod whole_reads;
 
 use sizes::Size;
+use timing::least;
+
+/// Everything is timed so many times over, so that a busy machine leaves each call alone at least once.
+const PASSES: usize = 3;
 
 /// The times of a call: whole, the Rust's, the test alone.
 pub type Times = [f64; 3];
 
-/// Prints the lines of one size.
-pub struct Lines {
-    size: Size,
-}
+/// The least times so far, by size and call.
+struct Best(Vec<(String, Times)>);
 
-impl Lines {
-    pub fn put(&self, name: &str, [whole, rust, test]: Times) {
-        let Size { n, b, partials, .. } = self.size;
-        println!("{n}\t{b}\t{partials}\t{name}\t{whole:.4}\t{rust:.4}\t{test:.4}");
+impl Best {
+    fn note(&mut self, line: String, times: Times) {
+        match self.0.iter_mut().find(|(known, _)| *known == line) {
+            Some((_, best)) => *best = least(*best, times),
+            None => self.0.push((line, times)),
+        }
     }
 }
 
+/// Takes the times of one size.
+pub struct Lines<'a> {
+    size: Size,
+    best: &'a mut Best,
+}
+
+impl Lines<'_> {
+    pub fn put(&mut self, name: &str, times: Times) {
+        let Size { n, b, partials, .. } = self.size;
+        self.best.note(format!("{n}\t{b}\t{partials}\t{name}"), times);
+    }
+}
+
+fn sizes() -> Vec<Size> {
+    let shapes = [64, 1024, 4096].into_iter().flat_map(|n| [(n, 16), (n, 256)]);
+    let all = shapes.flat_map(|(n, b)| [8, 64, 400].map(|partials| Size { n, b, partials, most: 23, one_group: false }));
+    all.filter(|size| size.partials <= size.n).collect()
+}
+
 fn main() {
+    let mut best = Best(Vec::new());
+    for size in (0..PASSES).flat_map(|_| sizes()) {
+        let mut lines = Lines { size, best: &mut best };
+        whole_changes::all(size, &mut lines);
+        whole_reads::all(size, &mut lines);
+    }
     println!("pieces\tblocks\tpartials\tcall\twhole\trust\ttest");
-    for (n, b) in [64, 1024, 4096].into_iter().flat_map(|n| [(n, 16), (n, 256)]) {
-        for partials in [8, 64, 400].into_iter().filter(|partials| *partials <= n) {
-            let size = Size { n, b, partials, most: 23, one_group: false };
-            let lines = Lines { size };
-            whole_changes::all(size, &lines);
-            whole_reads::all(size, &lines);
-        }
+    for (line, [whole, rust, test]) in best.0 {
+        println!("{line}\t{whole:.4}\t{rust:.4}\t{test:.4}");
     }
 }

@@ -1,7 +1,7 @@
 //! The changes of `harness/whole_bench`: cycles of calls that end where they began, and courses that are set back after each round.
 
 use crate::sizes::{At, Size};
-use crate::timing::{each, least};
+use crate::timing::each;
 use crate::whole_picker::Whole;
 use crate::{Lines, Times};
 use bitdaemon_common::random::{self, Made, Words};
@@ -127,38 +127,26 @@ impl Sides {
     }
 }
 
-/// The least of all rounds, by call.
-struct Best(Vec<(&'static str, Times)>);
-
-impl Best {
-    fn note(&mut self, name: &'static str, times: Times) {
-        match self.0.iter_mut().find(|(known, _)| *known == name) {
-            Some((_, best)) => *best = least(*best, times),
-            None => self.0.push((name, times)),
-        }
-    }
-}
-
-fn round(sides: &mut Sides, calls: &[Call], pieces: &[usize], best: &mut Best) {
+fn round(sides: &mut Sides, calls: &[Call], pieces: &[usize], lines: &mut Lines) {
     for call in calls {
-        best.note(call.name, sides.turn(call, pieces));
+        lines.put(call.name, sides.turn(call, pieces));
     }
 }
 
-fn cycle(fields: &Fields, calls: &[Call], pieces: &[usize], best: &mut Best) {
+fn cycle(fields: &Fields, calls: &[Call], pieces: &[usize], lines: &mut Lines) {
     let mut sides = Sides::new(fields);
     for _ in 0..ROUNDS {
-        round(&mut sides, calls, pieces, best);
+        round(&mut sides, calls, pieces, lines);
     }
     sides.check();
 }
 
-fn course(fields: &Fields, calls: &[Call], pieces: &[usize], best: &mut Best) {
+fn course(fields: &Fields, calls: &[Call], pieces: &[usize], lines: &mut Lines) {
     let Sides { whole, rust } = Sides::new(fields);
     let mut sides = Sides { whole: whole.clone(), rust: rust.clone() };
     for _ in 0..COURSES {
         sides.set_back(&whole, &rust, pieces);
-        round(&mut sides, calls, pieces, best);
+        round(&mut sides, calls, pieces, lines);
     }
     sides.check();
 }
@@ -184,22 +172,19 @@ fn pieces_of(at: &[At]) -> Vec<usize> {
 }
 
 /// Every change. Where no piece is Open, counts and priorities are those of pieces with a partial, and none is opened.
-pub fn all(size: Size, lines: &Lines) {
-    let (fields, mut best) = (with_a_seed(size.fields(&[])), Best(Vec::new()));
+pub fn all(size: Size, lines: &mut Lines) {
+    let fields = with_a_seed(size.fields(&[]));
     let (open, begun) = (pieces_of(&size.open_pieces()), pieces_of(&size.begun_pieces()));
     let listed = if open.is_empty() { &begun } else { &open };
     for calls in [COUNTED, SEEDED, WISHED] {
-        cycle(&fields, calls, listed, &mut best);
+        cycle(&fields, calls, listed, lines);
     }
     if !open.is_empty() {
-        cycle(&fields, OPENED, &open, &mut best);
+        cycle(&fields, OPENED, &open, lines);
     }
     for calls in [ASKED, WRITTEN, LOCKED] {
-        cycle(&fields, calls, &begun, &mut best);
+        cycle(&fields, calls, &begun, lines);
     }
-    course(&fields, BROUGHT, &begun, &mut best);
-    course(&but_one_on_disk(size, &size.begun_pieces()), COMPLETED, &begun, &mut best);
-    for (name, times) in best.0 {
-        lines.put(name, times);
-    }
+    course(&fields, BROUGHT, &begun, lines);
+    course(&but_one_on_disk(size, &size.begun_pieces()), COMPLETED, &begun, lines);
 }

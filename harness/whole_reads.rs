@@ -92,7 +92,7 @@ fn pick(sides: &Sides, pick: &Pick) -> Times {
     )
 }
 
-fn picks(size: Size, lines: &Lines) {
+fn picks(size: Size, lines: &mut Lines) {
     let sides = Sides::new(&not_stale([size.n, size.b, size.partials]));
     for (name, options, wanted, run) in PICKS {
         let bytes = vec![255; size.n.div_ceil(8)];
@@ -109,12 +109,13 @@ fn check_questions(sides: &Sides) {
     assert!(whole.list(sys::pp_get_download_queue, &mut vec![0; 7 * 512]) == rust.get_download_queue().len() as u64, "another queue");
 }
 
-fn questions(size: Size, lines: &Lines) {
+fn questions(size: Size, lines: &mut Lines) {
     let sides = Sides::new(&not_stale([size.n, size.b, size.partials]));
     check_questions(&sides);
     let (mut column, mut avail, mut records) = (vec![0; size.n], Vec::new(), vec![0; 7 * 512]);
     let pieces: Vec<i32> = (0..ASKED).map(|k| (k * size.n / ASKED) as i32).collect();
     let once = |whole: fn(&mut Whole), rust: fn(&PiecePicker)| sides.time(1, whole, rust);
+    lines.put("num_pieces", once(|w| { black_box(w.ask(sys::pp_num_pieces)); }, |r| { black_box(r.num_pieces()); }));
     lines.put("num_have", once(|w| { black_box(w.ask(sys::pp_num_have)); }, |r| { black_box(r.num_have()); }));
     lines.put("piece_priority", sides.time(
         ASKED,
@@ -138,7 +139,7 @@ fn questions(size: Size, lines: &Lines) {
 }
 
 /// Images, beside the Rust that the oracle reads and writes them with.
-fn images(size: Size, lines: &Lines) {
+fn images(size: Size, lines: &mut Lines) {
     let sides = Sides::new(&size.fields(&[]));
     let due = sides.rust.image();
     let mut bytes = vec![0; due.len()];
@@ -151,7 +152,7 @@ fn images(size: Size, lines: &Lines) {
     ));
 }
 
-pub fn all(size: Size, lines: &Lines) {
+pub fn all(size: Size, lines: &mut Lines) {
     picks(size, lines);
     questions(size, lines);
     images(size, lines);
