@@ -29,11 +29,12 @@ LOW, HIGH = 0.001, 1000.0  # microseconds
 
 
 class Times(NamedTuple):
-    """Microseconds of a whole call, the memory test alone and the Rust's call."""
+    """Microseconds of a whole call, the memory test alone, the Rust's call, and the test as it is linked by itself."""
 
     whole: float
     test: float
     rust: float
+    linked: float
 
     def to_goal(self):
         return self.whole / (self.test + self.rust)
@@ -48,7 +49,7 @@ def figures():
     with FIGURES.open(encoding="utf-8", newline="") as lines:
         for row in csv.DictReader(lines, delimiter="\t"):
             size = tuple(int(row[name]) for name in ("pieces", "blocks", "partials"))
-            found.setdefault(row["call"], {})[size] = Times(*(float(row[name]) for name in ("whole", "test", "rust")))
+            found.setdefault(row["call"], {})[size] = Times(*(float(row[name]) for name in Times._fields))
     return found
 
 
@@ -61,7 +62,7 @@ def shortly(x):
 def cells_of(by_size):
     for size in SHOWN:
         times = by_size.get(size)
-        yield from ("-",) * 3 if times is None else map(shortly, times)
+        yield from ("-",) * 3 if times is None else map(shortly, times[:3])
     over = [times.over() for times in by_size.values()]
     ratios = [times.to_goal() for times in by_size.values()]
     yield f"{min(ratios):.2f} to {max(ratios):.2f}"

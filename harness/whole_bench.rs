@@ -1,7 +1,11 @@
 //! Times whole calls as a maker makes them: through the exports of the archive, memory test included, beside the Rust's own call and the
 //! memory test alone. `harness/whole_bench` builds and runs it. A line for each call and size, its numbers and name parted by tabs:
-//! pieces, blocks of a piece, partials, the call, and microseconds of the whole call, of the Rust's and of the test. Changes are made on
-//! both sides alike, and have to end with the same image; picks, images and questions have to answer the same.
+//! pieces, blocks of a piece, partials, the call, and microseconds of the whole call, of the Rust's, of the test alone and of the test as
+//! it is linked by itself. Changes are made on both sides alike, and have to end with the same image; picks, images and questions have to
+//! answer the same.
+//!
+//! Each member of the archive has the test once more, and where its loops lie moves its time by some hundredths. So the test alone is a
+//! call of the same member that is refused right behind its test; where nothing is refused, the test as it is linked by itself.
 
 mod records;
 #[allow(dead_code)]
@@ -26,8 +30,8 @@ use timing::least;
 /// Everything is timed so many times over, so that a busy machine leaves each call alone at least once.
 const PASSES: usize = 3;
 
-/// The times of a call: whole, the Rust's, the test alone.
-pub type Times = [f64; 3];
+/// The times of a call: whole, the Rust's, the test alone, and the test as it is linked by itself.
+pub type Times = [f64; 4];
 
 /// The least times so far, by size and call.
 struct Best(Vec<(String, Times)>);
@@ -67,8 +71,8 @@ fn main() {
         whole_changes::all(size, &mut lines);
         whole_reads::all(size, &mut lines);
     }
-    println!("pieces\tblocks\tpartials\tcall\twhole\trust\ttest");
-    for (line, [whole, rust, test]) in best.0 {
-        println!("{line}\t{whole:.4}\t{rust:.4}\t{test:.4}");
+    println!("pieces\tblocks\tpartials\tcall\twhole\trust\ttest\tlinked");
+    for (line, [whole, rust, test, linked]) in best.0 {
+        println!("{line}\t{whole:.4}\t{rust:.4}\t{test:.4}\t{linked:.4}");
     }
 }

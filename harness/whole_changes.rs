@@ -2,7 +2,7 @@
 
 use crate::sizes::{At, Size};
 use crate::timing::each;
-use crate::whole_picker::Whole;
+use crate::whole_picker::{done, Whole};
 use crate::{Lines, Times};
 use bitdaemon_common::random::{self, Made, Words};
 use bitdaemon_common::{DownloadPriority, PieceBlock, PieceIndex};
@@ -72,7 +72,7 @@ calls! {
             |r, i| r.mark_as_writing(block(i, 1), PEER))
         ("mark_as_canceled", |w, i| w.draw(sys::pp_mark_as_canceled, of_block(i, 1)),
             |r, i| r.mark_as_canceled(block(i, 1), PEER));
-    LOCKED: ("lock_piece", |w, i| w.alter(sys::pp_lock_piece, i), |r, i| r.lock_piece(i));
+    LOCKED: ("lock_piece", |w, i| done(w.alter(sys::pp_lock_piece, i)), |r, i| r.lock_piece(i));
     BROUGHT: ("mark_as_writing", |w, i| w.draw(sys::pp_mark_as_writing, of_block(i, 0)),
             |r, i| r.mark_as_writing(block(i, 0), PEER))
         ("mark_as_finished", |w, i| w.draw(sys::pp_mark_as_finished, of_block(i, 0)),
@@ -81,7 +81,7 @@ calls! {
             |r, i| r.mark_as_writing(block(i, 0), PEER))
         ("mark_as_finished, the last block", |w, i| w.draw(sys::pp_mark_as_finished, of_block(i, 0)),
             |r, i| r.mark_as_finished(block(i, 0), PEER))
-        ("piece_passed", |w, i| w.alter(sys::pp_piece_passed, i), |r, i| r.piece_passed(i));
+        ("piece_passed", |w, i| done(w.alter(sys::pp_piece_passed, i)), |r, i| r.piece_passed(i));
 }
 
 /// The same picker on both sides.
@@ -110,12 +110,21 @@ impl Sides {
         }
     }
 
-    /// A turn of each.
+    /// The test alone, and as it is linked by itself.
+    fn tests(&mut self, pieces: &[usize]) -> [f64; 2] {
+        let test = each(pieces, |_| { black_box(self.whole.alter(sys::pp_lock_piece, -1)); });
+        let linked = each(pieces, |_| { black_box(self.whole.test()); });
+        [test, linked]
+    }
+
+    /// A turn of each. Calls may open and close partials, so the test is that before them and that behind them, halved.
     fn turn(&mut self, call: &Call, pieces: &[usize]) -> Times {
+        let before = self.tests(pieces);
         let whole = each(pieces, |i| (call.whole)(&mut self.whole, i as i32));
         let rust = each(pieces, |i| (call.rust)(&mut self.rust, PieceIndex(i as i32)));
-        let test = each(pieces, |_| { black_box(self.whole.test()); });
-        [whole, rust, test]
+        let behind = self.tests(pieces);
+        let [test, linked] = [0, 1].map(|k| (before[k] + behind[k]) / 2.0);
+        [whole, rust, test, linked]
     }
 
     /// Both made the same.

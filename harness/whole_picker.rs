@@ -23,7 +23,7 @@ pub struct Whole {
 
 /// Stops where a call that is timed was refused.
 #[inline(always)]
-fn done(refusal: u32) {
+pub fn done(refusal: u32) {
     assert!(refusal == 0, "a timed call is refused with {refusal}");
 }
 
@@ -62,7 +62,7 @@ impl Whole {
 
     /// How many bytes were written.
     pub fn take_image(&self, bytes: &mut [u8]) -> usize {
-        self.list(sys::pp_take_image, bytes) as usize
+        self.list(sys::pp_take_image, bytes).expect("bytes enough") as usize
     }
 }
 
@@ -82,13 +82,14 @@ impl Whole {
         self.next = if next < COUNT { next } else { next - COUNT };
     }
 
+    /// The refusal.
     #[inline(always)]
-    pub fn alter(&mut self, call: Alter, piece: i32) {
+    pub fn alter(&mut self, call: Alter, piece: i32) -> u32 {
         let (words, cells, partials) = (&mut self.words, &mut self.cells, &mut self.partials);
         let made = unsafe {
             call(words.as_mut_ptr(), words.len(), cells.as_mut_ptr(), cells.len(), partials.as_mut_ptr(), partials.len(), piece)
         };
-        done(made.refusal);
+        made.refusal
     }
 
     #[inline(always)]
@@ -99,14 +100,13 @@ impl Whole {
     }
 
     /// A pick without suggestions, the table lent from its first word on.
+    #[inline(always)]
     pub fn pick_pieces(&mut self, bitfield: &[u8], out: &mut [u64], request: PickRequest) -> Picked {
         let (words, cells, partials, none) = (&mut self.words, &mut self.cells, &self.partials, [0; 0]);
-        let picked = unsafe {
+        unsafe {
             sys::pp_pick_pieces(words.as_mut_ptr(), words.len(), cells.as_mut_ptr(), cells.len(), partials.as_ptr(), partials.len(),
                 bitfield.as_ptr(), bitfield.len(), none.as_ptr(), 0, out.as_mut_ptr(), out.len(), WORDS.as_ptr(), COUNT, request)
-        };
-        done(picked.refusal);
-        picked
+        }
     }
 }
 
@@ -124,15 +124,14 @@ impl Whole {
         unsafe { call(words.as_ptr(), words.len(), cells.as_ptr(), cells.len(), partials.as_ptr(), partials.len(), piece) }
     }
 
-    /// How many were written.
+    /// How many were written, or the refusal.
     #[inline(always)]
-    pub fn list<T>(&self, call: AskList<T>, out: &mut [T]) -> u64 {
+    pub fn list<T>(&self, call: AskList<T>, out: &mut [T]) -> Result<u64, u32> {
         let (words, cells, partials) = (&self.words, &self.cells, &self.partials);
         let told = unsafe {
             call(words.as_ptr(), words.len(), cells.as_ptr(), cells.len(), partials.as_ptr(), partials.len(), out.as_mut_ptr(), out.len())
         };
-        done(told.refusal);
-        told.value
+        if told.refusal == 0 { Ok(told.value) } else { Err(told.refusal) }
     }
 
     /// The memory test alone, as a call makes it: rows and counts of its own, the live records unpacked.

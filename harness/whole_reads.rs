@@ -4,7 +4,7 @@ use crate::rust_pick;
 use crate::sizes::Size;
 use crate::states::not_stale;
 use crate::turns::times;
-use crate::whole_picker::Whole;
+use crate::whole_picker::{done, Whole};
 use crate::{Lines, Times};
 use bitdaemon_common::random::{self, Made, Words, WORDS};
 use bitdaemon_common::{Bitfield, PieceIndex};
@@ -44,15 +44,27 @@ impl Sides {
         Sides { whole: RefCell::new(whole), rust }
     }
 
-    /// Times a call of each side beside the test, each divided by how many calls it is.
-    fn time(&self, many: usize, mut whole: impl FnMut(&mut Whole), mut rust: impl FnMut(&PiecePicker)) -> Times {
-        let spent = times([
+    /// Times a call of each side, `alone` as the test alone, and the test as it is linked by itself; the calls are so many.
+    fn time(
+        &self,
+        many: usize,
+        mut whole: impl FnMut(&mut Whole),
+        mut rust: impl FnMut(&PiecePicker),
+        mut alone: impl FnMut(&mut Whole),
+    ) -> Times {
+        let [whole, rust, test, linked] = times([
             &mut || whole(black_box(&mut *self.whole.borrow_mut())),
             &mut || rust(black_box(&self.rust)),
-            &mut || { black_box(self.whole.borrow().test()); },
+            &mut || alone(black_box(&mut *self.whole.borrow_mut())),
+            &mut || by_itself(&mut self.whole.borrow_mut()),
         ]);
-        [spent[0] / many as f64, spent[1] / many as f64, spent[2]]
+        [whole / many as f64, rust / many as f64, test, linked]
     }
+}
+
+/// The test as it is linked by itself.
+fn by_itself(whole: &mut Whole) {
+    black_box(whole.test());
 }
 
 fn lend() {
@@ -82,13 +94,16 @@ fn pick(sides: &Sides, pick: &Pick) -> Times {
     let found = sides.whole.borrow_mut().pick_pieces(&pick.bytes, &mut out, request);
     let due = rust_pick::as_words(&blocks);
     assert!(out[..found.end as usize] == due[..] && found.flags == flags && found.draws == random::used(), "another pick");
+    let none_wanted = PickRequest { num_blocks: 0, ..request };
+    let mut unused = vec![0; 4600];
     sides.time(
         1,
-        |whole| { black_box(whole.pick_pieces(&pick.bytes, &mut out, request)); },
+        |whole| done(whole.pick_pieces(&pick.bytes, &mut out, request).refusal),
         |_| {
             lend();
             black_box(rust_pick::pick_pieces(&mut rust, &have, pick, &mut blocks));
         },
+        |whole| assert!(whole.pick_pieces(&pick.bytes, &mut unused, none_wanted).refusal == 11),
     )
 }
 
@@ -106,36 +121,55 @@ fn picks(size: Size, lines: &mut Lines) {
 fn check_questions(sides: &Sides) {
     let (whole, rust) = (sides.whole.borrow(), &sides.rust);
     assert!(whole.ask(sys::pp_num_have).value == rust.num_have() as u64, "another num_have");
-    assert!(whole.list(sys::pp_get_download_queue, &mut vec![0; 7 * 512]) == rust.get_download_queue().len() as u64, "another queue");
+    let records = whole.list(sys::pp_get_download_queue, &mut vec![0; 7 * 512]);
+    assert!(records == Ok(rust.get_download_queue().len() as u64), "another queue");
+}
+
+/// Of the picker. Those beside `num_pieces` in the archive have it as their test alone.
+fn of_picker(sides: &Sides, lines: &mut Lines) {
+    let num_pieces = |w: &mut Whole| { black_box(w.ask(sys::pp_num_pieces)); };
+    lines.put("num_pieces", sides.time(1, num_pieces, |r| { black_box(r.num_pieces()); }, by_itself));
+    lines.put("num_have", sides.time(1, |w| { black_box(w.ask(sys::pp_num_have)); }, |r| { black_box(r.num_have()); }, by_itself));
+    lines.put("distributed_copies", sides.time(
+        1,
+        |w| { black_box(w.ask(sys::pp_distributed_copies)); },
+        |r| { black_box(r.distributed_copies()); },
+        num_pieces,
+    ));
+}
+
+fn of_pieces(sides: &Sides, pieces: &[i32], lines: &mut Lines) {
+    lines.put("piece_priority", sides.time(
+        pieces.len(),
+        |w| pieces.iter().for_each(|i| { black_box(w.ask_of(sys::pp_piece_priority, *i)); }),
+        |r| pieces.iter().for_each(|i| { black_box(r.piece_priority(PieceIndex(*i))); }),
+        |w| assert!(w.ask_of(sys::pp_piece_priority, -1).refusal == 5),
+    ));
+}
+
+fn lists(sides: &Sides, n: usize, lines: &mut Lines) {
+    let (mut column, mut avail, mut records) = (vec![0; n], Vec::new(), vec![0; 7 * 512]);
+    lines.put("get_availability_vec", sides.time(
+        1,
+        |w| assert!(w.list(sys::pp_get_availability_vec, &mut column).is_ok()),
+        |r| r.get_availability_vec(black_box(&mut avail)),
+        |w| assert!(w.list(sys::pp_get_availability_vec, &mut []) == Err(2)),
+    ));
+    lines.put("get_download_queue", sides.time(
+        1,
+        |w| assert!(w.list(sys::pp_get_download_queue, &mut records).is_ok()),
+        |r| { black_box(r.get_download_queue()); },
+        |w| assert!(w.list(sys::pp_get_download_queue, &mut []) == Err(2)),
+    ));
 }
 
 fn questions(size: Size, lines: &mut Lines) {
     let sides = Sides::new(&not_stale([size.n, size.b, size.partials]));
     check_questions(&sides);
-    let (mut column, mut avail, mut records) = (vec![0; size.n], Vec::new(), vec![0; 7 * 512]);
+    of_picker(&sides, lines);
     let pieces: Vec<i32> = (0..ASKED).map(|k| (k * size.n / ASKED) as i32).collect();
-    let once = |whole: fn(&mut Whole), rust: fn(&PiecePicker)| sides.time(1, whole, rust);
-    lines.put("num_pieces", once(|w| { black_box(w.ask(sys::pp_num_pieces)); }, |r| { black_box(r.num_pieces()); }));
-    lines.put("num_have", once(|w| { black_box(w.ask(sys::pp_num_have)); }, |r| { black_box(r.num_have()); }));
-    lines.put("piece_priority", sides.time(
-        ASKED,
-        |w| pieces.iter().for_each(|i| { black_box(w.ask_of(sys::pp_piece_priority, *i)); }),
-        |r| pieces.iter().for_each(|i| { black_box(r.piece_priority(PieceIndex(*i))); }),
-    ));
-    lines.put("distributed_copies", once(
-        |w| { black_box(w.ask(sys::pp_distributed_copies)); },
-        |r| { black_box(r.distributed_copies()); },
-    ));
-    lines.put("get_availability_vec", sides.time(
-        1,
-        |w| { black_box(w.list(sys::pp_get_availability_vec, &mut column)); },
-        |r| r.get_availability_vec(black_box(&mut avail)),
-    ));
-    lines.put("get_download_queue", sides.time(
-        1,
-        |w| { black_box(w.list(sys::pp_get_download_queue, &mut records)); },
-        |r| { black_box(r.get_download_queue()); },
-    ));
+    of_pieces(&sides, &pieces, lines);
+    lists(&sides, size.n, lines);
 }
 
 /// Images, beside the Rust that the oracle reads and writes them with.
@@ -144,11 +178,17 @@ fn images(size: Size, lines: &mut Lines) {
     let due = sides.rust.image();
     let mut bytes = vec![0; due.len()];
     assert!(sides.whole.borrow().take_image(&mut bytes) == due.len() && bytes == due, "another image");
-    lines.put("take_image", sides.time(1, |w| { black_box(w.take_image(&mut bytes)); }, |r| { black_box(r.image()); }));
+    lines.put("take_image", sides.time(
+        1,
+        |w| { black_box(w.take_image(&mut bytes)); },
+        |r| { black_box(r.image()); },
+        |w| assert!(w.list(sys::pp_take_image, &mut []) == Err(2)),
+    ));
     lines.put("read_image", sides.time(
         1,
         |w| w.read_image(black_box(&due)),
         |_| { black_box(PiecePicker::from_fields(&image::read(black_box(&due)).ok().expect("an image"))); },
+        by_itself,
     ));
 }
 
