@@ -121,16 +121,22 @@ def counts_of(s):
     return [row.count(state) for row in states for state in (REQUESTED, WRITING, FINISHED)]
 
 
-def judged(words, cells, records):
-    """The refusal of docs/DECISIONS.md 4, or 0, and then the counts of each partial."""
+def standing(words, cells, records):
+    """The refusal of docs/DECISIONS.md 4, or 0; where the head says which, the shape of the picker; and the picker where one stands."""
     if len(words) < HEAD_WORDS:
-        return SHORT, []
+        return SHORT, None, None
     if not valid_geometry(words[0], words[1]):
-        return ILL_FORMED, []
+        return ILL_FORMED, None, None
     shape = Shape(words[0], words[1])
     if any(have < need for have, need in zip((len(words), len(cells), len(records) // 3), shape.needs)):
-        return SHORT, []
+        return SHORT, shape, None
     try:
-        return GOOD, counts_of(picker_in(words, cells, records, shape))
+        return GOOD, shape, picker_in(words, cells, records, shape)
     except (NoImage, OverflowError, Fault):
-        return ILL_FORMED, []
+        return ILL_FORMED, shape, None
+
+
+def judged(words, cells, records):
+    """The refusal, and then the counts of each partial."""
+    refusal, _, s = standing(words, cells, records)
+    return refusal, [] if s is None else counts_of(s)

@@ -1,6 +1,10 @@
 //! A picker in three lent buffers (docs/MEMORY.md): laid out from the fields of an image, written as an image, and tested by the proved
 //! memory test. The buffers are longer than they have to be, and what lies beyond is watched.
 
+#[path = "image_of.rs"]
+mod image_of;
+
+use self::image_of::image_of;
 use crate::linked_changes::Tested;
 use crate::list_operations::{geometry, Geometry};
 use crate::picker::Shape;
@@ -16,10 +20,8 @@ extern "C" {
 }
 
 /// Words of the head.
-const CURSOR: usize = 3;
 const DIRTY: usize = 5;
 const LIVE: usize = 7;
-const EXTENTS: usize = 8;
 const FIRST_EXTENT: usize = 9;
 
 pub struct Lent {
@@ -145,57 +147,8 @@ impl Lent {
 
     /// The image, of buffers that the memory test accepts.
     pub fn image(&self) -> Vec<u8> {
-        let (words, cells, s) = (&self.words, &self.cells, self.shape());
-        let listed = s.list(words);
-        let live = &self.partials[..self.live()];
-        let mut out = Vec::with_capacity(24 + 10 * s.n + live.len() * (6 + 13 * s.b) + 25 + 5 * listed.len());
-        out.push(1);
-        put(&mut out, words[0], 8);
-        put(&mut out, words[1], 4);
-        put(&mut out, words[2], 2);
-        put(&mut out, words[CURSOR], 4);
-        put(&mut out, words[CURSOR + 1], 4);
-        put(&mut out, words[DIRTY], 1);
-        let [counts, states, priorities, flushed] = [0, 1, 2, 3].map(|f| s.pieces(cells, f));
-        for (i, pad) in s.pads(words).iter().enumerate() {
-            out.push(2);
-            put(&mut out, counts[i].into(), 2);
-            out.extend([states[i] as u8, priorities[i] as u8, flushed[i] as u8]);
-            put(&mut out, *pad, 4);
-        }
-        for d in live {
-            self.put_image_of(&mut out, &s, d);
-        }
-        for extent in &words[FIRST_EXTENT..][..words[EXTENTS] as usize] {
-            out.push(5);
-            put(&mut out, *extent, 4);
-        }
-        for word in listed {
-            out.push(6);
-            put(&mut out, word & 65535, 4);
-        }
-        out
+        image_of(&self.words, &self.cells, &self.partials)
     }
-
-    fn put_image_of(&self, out: &mut Vec<u8>, s: &Shape, d: &DownloadingPiece) {
-        let (place, many) = (d.info_idx as usize, s.blocks_in_piece(&self.words, d.index as usize));
-        let [states, num_peers, has] = [0, 1, 2].map(|f| &self.cells[s.blocks(f, place)..][..many]);
-        let peers = &self.words[s.peers(place)..][..many];
-        out.push(3);
-        put(out, d.index.into(), 4);
-        out.push(d.flags as u8);
-        for j in 0..many {
-            out.extend([4, states[j] as u8]);
-            put(out, num_peers[j].into(), 2);
-            out.push(has[j] as u8);
-            put(out, if has[j] == 1 { peers[j] } else { 0 }, 8);
-        }
-    }
-}
-
-/// The low bytes of a number, high byte first.
-fn put(out: &mut Vec<u8>, number: u64, bytes: usize) {
-    out.extend_from_slice(&number.to_be_bytes()[8 - bytes..]);
 }
 
 /// A number that means nothing; small ones, which could pass for something, more often than others.

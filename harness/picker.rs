@@ -16,6 +16,11 @@ impl Shape {
         let n = words[0].div_ceil(words[1]) as usize;
         Shape { n, b: words[1].div_ceil(words[1].min(BLOCK)) as usize, m: n.min(512) }
     }
+    /// Words, cells and records that there have to be.
+    #[allow(dead_code)]
+    pub fn needs(&self) -> [usize; 3] {
+        [HEAD + 2 * self.n + self.m * self.b, 4 * self.n + 3 * self.m * self.b, self.m]
+    }
     pub fn pads<'a>(&self, words: &'a [u64]) -> &'a [u64] {
         &words[HEAD..HEAD + self.n]
     }

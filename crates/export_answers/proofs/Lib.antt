@@ -1,0 +1,3 @@
+pub mod BackLaws
+pub mod RefusalLaws
+pub mod Values

@@ -1,0 +1,12 @@
+pub mod Change
+pub mod ChangeAll
+pub mod ChangeDrawn
+pub mod Question
+pub mod QuestionAll
+pub mod Listing
+pub mod ListingAll
+pub mod ListingCells
+pub mod Pick
+pub mod ImageOut
+pub mod ImageIn
+pub mod New

@@ -1,0 +1,1 @@
+// What the exports' proofs share: each shape of export walked once. No code.

@@ -1,0 +1,1 @@
+"""What is written of the exports: answers in numbers, and the exported calls."""
