@@ -5,6 +5,7 @@
 
 #[allow(dead_code)]
 mod edits;
+#[allow(dead_code)]
 mod lent;
 mod linked_changes;
 #[allow(dead_code)]
@@ -13,6 +14,7 @@ mod list_operations;
 mod picker;
 mod records;
 mod rng;
+mod sizes;
 #[allow(dead_code)]
 mod states;
 #[allow(dead_code)]
@@ -23,16 +25,15 @@ use bitdaemon_common::{DownloadPriority, PieceBlock, PieceIndex};
 use lent::Lent;
 use linked_changes::Tested;
 use list_operations::Geometry;
-use oracle::image::{Block, Fields, Head, Partial, Piece};
+use oracle::image::Fields;
 use oracle::piece_picker::{PickerOptions, PiecePicker};
 use oracle::script::Change;
 use records::unpack;
 use rng::Rng;
-use states::rank_of;
-use std::collections::BTreeSet;
+use sizes::{At, Size};
 use std::hint::black_box;
 use std::time::Instant;
-use timing::{counts, least, since, spread};
+use timing::{least, since};
 
 const ROUNDS: usize = 2000;
 const PEER: Option<u64> = Some(2);
@@ -92,77 +93,6 @@ impl Clock {
 }
 
 // ---- what is timed
-/// A size: pieces, blocks of a piece, partials, the highest count of peers, and whether pieces with a partial have one peer each, so that
-/// they make one group of the list.
-#[derive(Clone, Copy)]
-struct Size {
-    n: usize,
-    b: usize,
-    partials: usize,
-    most: usize,
-    one_group: bool,
-}
-
-/// A piece, and the row of its partial if it has one.
-#[derive(Clone, Copy)]
-struct At {
-    piece: usize,
-    row: usize,
-}
-
-impl Size {
-    /// Every so many pieces one has a partial; those between are Open.
-    fn step(self) -> usize {
-        self.n / self.partials
-    }
-
-    /// Sixteen Open pieces, spread over all.
-    fn open_pieces(self) -> Vec<At> {
-        spread(self.n).into_iter().map(|i| At { piece: i + 1, row: 0 }).collect()
-    }
-
-    /// Sixteen pieces with a partial.
-    fn begun_pieces(self) -> Vec<At> {
-        spread(self.partials).into_iter().map(|row| At { piece: row * self.step(), row }).collect()
-    }
-
-    /// A picker whose partials have every second block requested; the sixteen of `finished` have all blocks on disk.
-    fn fields(self, finished: &[At]) -> Fields {
-        let size = self.b as i64 * 16384;
-        let geometry = oracle::geometry::Geometry::new(self.n as i64 * size, size).expect("a valid geometry");
-        let head = Head { geometry, seeds: 0, cursor: 0, reverse_cursor: self.n as u64, stale: false };
-        let mut fields = Fields { head, pieces: Vec::new(), partials: Vec::new(), extents: Vec::new(), list: Vec::new() };
-        for (piece, count) in counts(self.n, self.most).into_iter().enumerate() {
-            let begun = piece % self.step() == 0 && piece / self.step() < self.partials;
-            let done = finished.iter().any(|at| at.piece == piece);
-            let count = if begun && self.one_group { 1 } else { count };
-            let state = if done { 2 } else if begun { 0 } else { 4 };
-            fields.pieces.push(Piece { count: count.into(), state, wish: 4, had: false, pad: 0 });
-            if begun {
-                let blocks = (0..self.b).map(|j| a_block(done, j)).collect();
-                fields.partials.push(Partial { piece, passed: false, locked: false, hashing: false, blocks });
-            }
-        }
-        let mut list: Vec<usize> = (0..self.n).filter(|i| rank_of(&fields, *i) > 0).collect();
-        list.sort_by_key(|i| rank_of(&fields, *i));
-        fields.list = list;
-        fields
-    }
-
-    /// The groups of the list.
-    fn groups(self) -> usize {
-        let fields = self.fields(&[]);
-        let ranks: BTreeSet<u16> = fields.list.iter().map(|i| rank_of(&fields, *i)).collect();
-        ranks.len()
-    }
-}
-
-/// On disk; or requested, every second one.
-fn a_block(done: bool, j: usize) -> Block {
-    let requested = !done && j % 2 == 0;
-    Block { state: if done { 3 } else { requested.into() }, requesters: requested.into(), peer: Some(1) }
-}
-
 /// A timed change.
 trait Op {
     /// Rows move when a piece is opened or closed: then they are brought up to date between two calls, untimed.

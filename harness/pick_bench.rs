@@ -17,6 +17,7 @@ mod picker;
 mod records;
 #[allow(dead_code)]
 mod rng;
+mod rust_pick;
 #[allow(dead_code)]
 mod states;
 mod turns;
@@ -25,10 +26,10 @@ use bitdaemon_common::random::{self, Made, Words, WORDS};
 use bitdaemon_common::{Bitfield, PieceBlock};
 use lent::Lent;
 use oracle::image::Fields;
-use oracle::piece_picker::{PickerCounter, PickerOptions, PickerStats, PiecePicker};
+use oracle::piece_picker::PiecePicker;
 use oracle::script::Pick;
 use rng::Rng;
-use states::{a_picker, Kind};
+use states::not_stale;
 use std::hint::black_box;
 use std::rc::Rc;
 use turns::times;
@@ -48,35 +49,8 @@ const PICKS: [(&str, u16, i64, i64, bool, f64); 8] = [
 const PEERS: i64 = 1000;
 const PEER: u64 = 7;
 
-/// The seven counters of a pick.
-struct Counting([u64; 32]);
-
-impl PickerStats for Counting {
-    fn inc(&mut self, counter: PickerCounter) {
-        self.0[counter as usize] += 1;
-    }
-}
-
-/// A picker of this size whose list is not stale.
-fn fields(size: [usize; 3]) -> Fields {
-    let mut rng = Rng::new(5);
-    loop {
-        let fields = a_picker(&mut rng, Kind::Sized(size));
-        if !fields.head.stale {
-            return fields;
-        }
-    }
-}
-
 fn lend() {
     random::lend(&Words { count: WORDS.len() as u64, made: Made::Listed(Rc::new([])) });
-}
-
-fn theirs(rust: &mut PiecePicker, have: &Bitfield, pick: &Pick, out: &mut Vec<PieceBlock>) -> u32 {
-    out.clear();
-    let options = PickerOptions::from_bits(pick.options);
-    let (wanted, run) = (pick.wanted as i32, pick.run as i32);
-    rust.pick_pieces(have, out, wanted, run, pick.peer, options, &[], pick.peers as i32, &mut Counting([0; 32])).0
 }
 
 /// One pick on one picker: microseconds here and in the Rust.
@@ -97,10 +71,10 @@ fn timed(fields: &Fields, pick: &Pick, dirty: bool) -> [f64; 2] {
             rust.make_stale();
         }
         lend();
-        theirs(rust, &have, pick, blocks)
+        rust_pick::pick_pieces(rust, &have, pick, blocks)
     };
     let (found, flags) = (ours(&mut lent, &mut out), rusts(&mut rust, &mut blocks));
-    let due: Vec<u64> = blocks.iter().map(|at| (at.piece_index.0 as u64) << 16 | at.block_index as u64).collect();
+    let due = rust_pick::as_words(&blocks);
     assert!(out[..found.end] == due[..] && found.flags == flags && found.used as u64 == random::used(), "another pick");
     times([
         &mut || {
@@ -114,7 +88,7 @@ fn timed(fields: &Fields, pick: &Pick, dirty: bool) -> [f64; 2] {
 
 fn main() {
     for (n, b, partials) in [1024, 4096].into_iter().flat_map(|n| [16, 256].map(|b| [64, 400].map(|p| (n, b, p)))).flatten() {
-        let fields = fields([n, b, partials]);
+        let fields = not_stale([n, b, partials]);
         println!("{n} pieces, b {b}, {partials} partials: µs, the Rust's µs, ratio, goal");
         for (name, options, wanted, run, dirty, goal) in PICKS {
             let bytes = vec![255; n.div_ceil(8)];

@@ -27,7 +27,7 @@ use linked_questions::*;
 use oracle::image::Fields;
 use oracle::piece_picker::PiecePicker;
 use rng::Rng;
-use states::{a_picker, Kind};
+use states::not_stale;
 use std::hint::black_box;
 use turns::times;
 
@@ -63,17 +63,6 @@ macro_rules! lines {
     )* };
 }
 
-/// A picker of this size whose list is not stale.
-fn fields(size: [usize; 3]) -> Fields {
-    let mut rng = Rng::new(5);
-    loop {
-        let fields = a_picker(&mut rng, Kind::Sized(size));
-        if !fields.head.stale {
-            return fields;
-        }
-    }
-}
-
 /// Pieces with a block: every other one has a partial.
 fn spread(fields: &Fields) -> Vec<At> {
     let (n, live) = (fields.pieces.len(), fields.partials.len());
@@ -86,7 +75,7 @@ fn spread(fields: &Fields) -> Vec<At> {
 }
 
 fn all_of(size: [usize; 3]) {
-    let fields = fields(size);
+    let fields = not_stale(size);
     let rust = PiecePicker::from_fields(&fields);
     let mut lent = Lent::laid_out(&mut Rng::new(7), &fields);
     assert!(lent.test() == 0, "the memory test refuses the buffers");

@@ -86,6 +86,17 @@ pub fn a_picker(rng: &mut Rng, kind: Kind) -> Fields {
     fields
 }
 
+/// For timing: a picker of so many pieces, blocks of a piece and partials whose list is not stale.
+pub fn not_stale(size: [usize; 3]) -> Fields {
+    let mut rng = Rng::new(5);
+    loop {
+        let fields = a_picker(&mut rng, Kind::Sized(size));
+        if !fields.head.stale {
+            return fields;
+        }
+    }
+}
+
 fn add_piece(rng: &mut Rng, fields: &mut Fields, i: usize, opened: bool) {
     let geometry = fields.head.geometry;
     let wish = rng.of(&[0, 1, 4, 4, 4, 4, 6, 7, 7, 7]);
