@@ -66,9 +66,9 @@ pub struct Answer {
 #[repr(transparent)]
 pub struct PeerAnswer(Answer);
 
-/// Of one that fills a list with records of so many words, the last of them a peer behind its flag where there is one.
+/// Of one that fills a list with records of so many words.
 #[repr(transparent)]
-pub struct Listed<const WIDTH: usize, const PEERS: bool>(Answer);
+pub struct Listed<const WIDTH: usize>(Answer);
 
 /// Of one that fills a list with a number for each piece.
 #[repr(transparent)]
@@ -215,14 +215,10 @@ fn written(answer: &Answer, width: usize, lent: usize) -> usize {
     if told { (answer.value as usize).saturating_mul(width).min(lent) } else { 0 }
 }
 
-impl<const WIDTH: usize, const PEERS: bool> Tells for Listed<WIDTH, PEERS> {
+impl<const WIDTH: usize> Tells for Listed<WIDTH> {
     fn told(self, room: &Room) -> Told {
         let written = written(&self.0, WIDTH, room.out.len());
-        let out = &room.out[..written];
-        // what stands beside no peer means nothing
-        let no_peer = |at: usize| PEERS && at % WIDTH == WIDTH - 1 && out[at - 1] == 0;
-        let number = |(at, word): (usize, &u64)| if no_peer(at) { 0 } else { i128::from(*word) };
-        Told { written, ..by_kind(self.0, |_| out.iter().enumerate().map(number).collect()) }
+        Told { written, ..by_kind(self.0, |_| room.out[..written].iter().map(|word| i128::from(*word)).collect()) }
     }
 }
 
@@ -413,9 +409,9 @@ questions! {
 
     pp_get_availability_vec: column -> Column;
     pp_piece_priorities: column -> Column;
-    pp_get_download_queue: list -> Listed<7, false>;
-    pp_get_downloaders: list_of -> Listed<2, true>;
-    pp_blocks_for_piece: list_of -> Listed<4, true>;
+    pp_get_download_queue: list -> Listed<7>;
+    pp_get_downloaders: list_of -> Listed<2>;
+    pp_blocks_for_piece: list_of -> Listed<4>;
 }
 
 /// Words of a record of this list, 0 where the question fills none.
