@@ -15,7 +15,8 @@ use Rattle.memory_layout.specs.Decode.{yes?, peerFrom}
 use Rattle.ask_records.specs.Records.{wordsAt, told, peerPair, peerRead, blockRead, tells?, toldReply}
 
 -- ---- one pair
-pairs-same : (h p h′ p′ : ℕ) → peerPair h p ≡ true → peerPair h′ p′ ≡ true → peerFrom h p ≡ peerFrom h′ p′ → (h ≡ h′) × (p ≡ p′)
+pairs-same : (h p h′ p′ : ℕ) → peerPair h p ≡ true → peerPair h′ p′ ≡ true → peerFrom h p ≡ peerFrom h′ p′
+    → (h ≡ h′) × (p ≡ p′)
 unfolding peerPair peerFrom yes?
 pairs-same h p h′ p′ a b e = go (eqb h 1) (eqb h′ 1) refl refl a b e
   where
@@ -66,7 +67,7 @@ module _ (ok : List ℕ → Bool) (part : List ℕ → List (Option ℕ)) (Same 
       let ls = concatMap read (tabulate n (λ j. f (suc j))) in
       let ms = concatMap read (tabulate m (λ j. g (suc j))) in
       let s = exact (f zero) (g zero) ls ms p q
-          (sym (ap (λ (t : Bool). cond t (part (f zero)) [] ++ ls) p) ∙ e ∙ ap (λ (t : Bool). cond t (part (g zero)) [] ++ ms) q) in
+      (sym (ap (λ (t : Bool). cond t (part (f zero)) [] ++ ls) p) ∙ e ∙ ap (λ (t : Bool). cond t (part (g zero)) [] ++ ms) q) in
       let r = follow n m (λ j. f (suc j)) (λ j. g (suc j)) (x .1) (y .1) (s .1) in
       (ap suc (r .0), from-both (λ j. Same (f j) (g j)) n (s .0) (r .1))
 
@@ -83,9 +84,9 @@ module _ (n m : ℕ) (a b : List ℕ) (ns : List (Option ℕ)) where
       let x = reply-told _ _ _ e in
       let y = reply-told _ _ _ d in
       let r = follow (λ w. peerPair (nth 0 w 0) (nth 0 w 1)) (λ w. peerFrom (nth 0 w 0) (nth 0 w 1) ∷ [])
-          (λ w v. (nth 0 w 0 ≡ nth 0 v 0) × (nth 0 w 1 ≡ nth 0 v 1))
-          (λ w v ls ms p q h. (pairs-same _ _ _ _ p q cc, cc))
-          n m (wordsAt 2 a) (wordsAt 2 b) (x .0) (y .0) (x .1 ∙ sym (y .1)) in
+      (λ w v. (nth 0 w 0 ≡ nth 0 v 0) × (nth 0 w 1 ≡ nth 0 v 1))
+      (λ w v ls ms p q h. (pairs-same _ _ _ _ p q cc, cc))
+      n m (wordsAt 2 a) (wordsAt 2 b) (x .0) (y .0) (x .1 ∙ sym (y .1)) in
       (r .0, λ j h k. r .1 j h .0 k ∷ r .1 j h .1 k ∷ [])
 
   pub blocks-follow : toldReply 4 blockRead n a ≡ numbers ns → toldReply 4 blockRead m b ≡ numbers ns
@@ -95,8 +96,8 @@ module _ (n m : ℕ) (a b : List ℕ) (ns : List (Option ℕ)) where
       let x = reply-told _ _ _ e in
       let y = reply-told _ _ _ d in
       let r = follow (λ w. peerPair (nth 0 w 2) (nth 0 w 3))
-          (λ w. some (nth 0 w 0) ∷ some (nth 0 w 1) ∷ peerFrom (nth 0 w 2) (nth 0 w 3) ∷ [])
-          (λ w v. ((nth 0 w 0 ≡ nth 0 v 0) × (nth 0 w 1 ≡ nth 0 v 1)) × ((nth 0 w 2 ≡ nth 0 v 2) × (nth 0 w 3 ≡ nth 0 v 3)))
-          (λ w v ls ms p q h. (((cc, cc), pairs-same _ _ _ _ p q cc), cc))
-          n m (wordsAt 4 a) (wordsAt 4 b) (x .0) (y .0) (x .1 ∙ sym (y .1)) in
+      (λ w. some (nth 0 w 0) ∷ some (nth 0 w 1) ∷ peerFrom (nth 0 w 2) (nth 0 w 3) ∷ [])
+      (λ w v. ((nth 0 w 0 ≡ nth 0 v 0) × (nth 0 w 1 ≡ nth 0 v 1)) × ((nth 0 w 2 ≡ nth 0 v 2) × (nth 0 w 3 ≡ nth 0 v 3)))
+      (λ w v ls ms p q h. (((cc, cc), pairs-same _ _ _ _ p q cc), cc))
+      n m (wordsAt 4 a) (wordsAt 4 b) (x .0) (y .0) (x .1 ∙ sym (y .1)) in
       (r .0, λ j h k. r .1 j h .0 .0 k ∷ r .1 j h .0 .1 k ∷ r .1 j h .1 .0 k ∷ r .1 j h .1 .1 k ∷ [])

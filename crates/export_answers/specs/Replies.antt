@@ -8,9 +8,11 @@ use Rattle.picker_answers.specs.declared.answers.FlagAnswer.the-variants.{Refus
 use Rattle.picker_questions.specs.declared.answers.PlaceAnswer.{PlaceAnswer}
 use Rattle.picker_questions.specs.declared.answers.PlaceAnswer.the-variants.{Refused as PlaceAnswerRefused, Replied as PlaceAnswerReplied}
 use Rattle.picker_partial_questions.specs.declared.answers.PartialFlagAnswer.{PartialFlagAnswer}
-use Rattle.picker_partial_questions.specs.declared.answers.PartialFlagAnswer.the-variants.{Refused as PartialFlagAnswerRefused, Replied as PartialFlagAnswerReplied}
+use Rattle.picker_partial_questions.specs.declared.answers.PartialFlagAnswer.the-variants.{Refused as PartialFlagAnswerRefused}
+use Rattle.picker_partial_questions.specs.declared.answers.PartialFlagAnswer.the-variants.{Replied as PartialFlagAnswerReplied}
 use Rattle.picker_block_questions.specs.declared.answers.BlockNumberAnswer.{BlockNumberAnswer}
-use Rattle.picker_block_questions.specs.declared.answers.BlockNumberAnswer.the-variants.{Refused as BlockNumberAnswerRefused, Replied as BlockNumberAnswerReplied}
+use Rattle.picker_block_questions.specs.declared.answers.BlockNumberAnswer.the-variants.{Refused as BlockNumberAnswerRefused}
+use Rattle.picker_block_questions.specs.declared.answers.BlockNumberAnswer.the-variants.{Replied as BlockNumberAnswerReplied}
 use Rattle.picker_block_questions.specs.declared.answers.PeerAnswer.{PeerAnswer}
 use Rattle.picker_block_questions.specs.declared.answers.PeerAnswer.the-variants.{Refused as PeerAnswerRefused, Replied as PeerAnswerReplied}
 use Rattle.picker_lists.specs.declared.answers.ListAnswer.{ListAnswer}

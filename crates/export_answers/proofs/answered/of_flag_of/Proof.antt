@@ -12,4 +12,7 @@ returns-2 : tie.Need-returns-2
 returns-2 c = c .nothing .ensures ∙ ap ofFlagOf (sym (c .before .enum-told .given .1))
 
 pub of-flag-of-spec : {M : Type 1} → statement M
-of-flag-of-spec = tie.close (tie.spec (λ c. search needs) (λ c κs. search needs) (λ c. search needs) (λ c κs. search needs) returns returns-2)
+of-flag-of-spec =
+    tie.close
+    (tie.spec
+    (λ c. search needs) (λ c κs. search needs) (λ c. search needs) (λ c κs. search needs) returns returns-2)

@@ -13,4 +13,7 @@ returns-2 : tie.Need-returns-2
 returns-2 c = ap ofCopies (sym (c .before .o2 .given .1))
 
 pub of-copies-spec : {M : Type 1} → statement M
-of-copies-spec = tie.close (tie.spec (λ c. search needs) (λ c κs. search needs) (λ c κs. search needs) (λ c. search needs) returns returns-2)
+of-copies-spec =
+    tie.close
+    (tie.spec
+    (λ c. search needs) (λ c κs. search needs) (λ c κs. search needs) (λ c. search needs) returns returns-2)

@@ -15,4 +15,8 @@ returns-3 : tie.Need-returns-3
 returns-3 c = c .nothing .ensures ∙ ap ofList (sym (c .before .enum-told .given .1))
 
 pub of-list-spec : {M : Type 1} → statement M
-of-list-spec = tie.close (tie.spec (λ c. search needs) (λ c κs. search needs) (λ c. search needs) (λ c κs. search needs) (λ c. search needs) (λ c κs. search needs) returns returns-2 returns-3)
+of-list-spec =
+    tie.close
+    (tie.spec
+    (λ c. search needs) (λ c κs. search needs) (λ c. search needs) (λ c κs. search needs) (λ c. search needs)
+    (λ c κs. search needs) returns returns-2 returns-3)

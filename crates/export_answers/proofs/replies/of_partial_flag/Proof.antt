@@ -12,4 +12,7 @@ returns-2 : tie.Need-returns-2
 returns-2 c = c .of-flag-of .ensures ∙ ap ofPartialFlag (sym (c .before .before .o2 .given .1))
 
 pub of-partial-flag-spec : {M : Type 1} → statement M
-of-partial-flag-spec = tie.close (tie.spec (λ c. search needs) (λ c κs. search needs) (λ c. search needs) (λ c κs. search needs) returns returns-2)
+of-partial-flag-spec =
+    tie.close
+    (tie.spec
+    (λ c. search needs) (λ c κs. search needs) (λ c. search needs) (λ c κs. search needs) returns returns-2)
