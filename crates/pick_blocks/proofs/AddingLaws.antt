@@ -138,7 +138,7 @@ partial-room h l =
     let w = h .working in
     let z = working-small w in
     let m = working-room w l in
-    record { room = omega arith; given = z .2; left = z .0; backup = working-aside w; wide = working-marks w .2 }
+    record { room = omega arith; given = z .2; backup = working-aside w .0; wide = working-aside w .1 }
 
 -- ---- a piece
 module _ (a : PickRequest) (i : ℕ) (d : Picker) (t : PickNumbers) (out aside : List ℕ) (ignored : List Bool) (loops : List ℕ) where

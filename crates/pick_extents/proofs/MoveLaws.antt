@@ -99,6 +99,7 @@ underway-beside d′ u =
           counters = g .counters;
           room = g .room;
           roomAside = g .roomAside;
+          withinAside = g .withinAside;
         };
       };
     }

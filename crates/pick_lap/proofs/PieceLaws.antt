@@ -101,8 +101,7 @@ module _ (a : PickRequest) (first : ℕ) (s : Shape) (words cells : List ℕ) (d
   piece-walked loops w =
       let v = piece-working loops (w .start) (w .wanted) (w .run) (w .working) in
       let l = working-marks (w .working) in
-      let l′ = working-marks v in
-      let z = working-aside v in
+      let z = working-aside v .0 in
       let k = marks-kept loops (l .0) in
       let t = p loops .did in
       record {

@@ -14,6 +14,7 @@ use Rattle.model.specs.pick.Blocks.{PickState, Span, expandPiece, piecesOf, tak
 use Rattle.model.specs.pick.Pick.{onward, takeAll, arrive, randomSpan}
 use Rattle.model.specs.image.Sound.{Sound}
 use Rattle.model.proofs.base.Counts.{count-le}
+use Rattle.model.proofs.pick.AddLaws.{holding-kept}
 use Rattle.model.proofs.pick.OutputLaws.{bounded-kept}
 use Rattle.memory_layout.specs.declared.shape.Shape.{Shape}
 use Rattle.pick_state.specs.declared.numbers.PickNumbers.{PickNumbers}
@@ -21,7 +22,7 @@ use Rattle.pick_state.specs.declared.request.PickRequest.{PickRequest}
 use Rattle.pick_state.specs.Requests.{requestOf}
 use Rattle.pick_state.specs.PickStates.{stateOf}
 use Rattle.pick_state.specs.Room.{Working, Worked}
-use Rattle.pick_state.proofs.RoomLaws.{working-step, working-aside, working-marks, working-tight, working-unspent}
+use Rattle.pick_state.proofs.RoomLaws.{working-step, working-aside, working-tight, working-holding, working-unspent}
 use Rattle.pick_free.specs.declared.spans.Span.{Span as Numbers}
 use Rattle.pick_free.specs.Spans.{spanIs, Expanded}
 use Rattle.pick_new.specs.Runs.{InWords, InBuffers}
@@ -98,14 +99,14 @@ module _ (s : Shape) (words cells : List ℕ) (q : PickRequest) (bytes : List �
         let b = blocksPerPiece d in
         let z = stateOf start d (x .work) out aside ignored loops in
         let k = bounded-kept b N R (w .roomy .wanted) a .span (x .place) z (working-unspent w left) (working-tight w h) in
-        working-step w worked b (rw (sym (around start)) at k) given
+        let m = holding-kept (length aside - 256) a .span (x .place) z (working-unspent w left) (working-holding w h) in
+        working-step w worked b (rw (sym (around start)) at k) (rw (sym (around start)) at m) given
 
   pub span-walked : SpanWalked (randomSpan (requestOf q bytes) first) s words cells x y out out′ ignored ignored′ loops loops′
   unfolding arrived
   span-walked d g h aside u =
       let w = walked-working d g aside h (u .start) (u .wanted) (u .run) (u .working) in
-      let l = working-marks w .2 in
-      let z = working-aside w in
+      let z = working-aside w .0 in
       let eo = ap (λ (k : Walk). k .work) o in
       record {
         is = λ start base c. walked-is d g aside start base (let a = c .since in let b = c .seen in omega arith);

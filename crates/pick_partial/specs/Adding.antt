@@ -21,9 +21,8 @@ use Rattle.pick_state.specs.PickStates.{Did}
 pub record HasRoom (t : PickNumbers) (out aside : List ℕ) : Type 0 where
   pub room : t .end + 256 ≤ length out
   pub given : t .given ≤ 65536
-  pub left : t .left ≤ 2048
-  pub backup : t .aside ≤ 2303
-  pub wide : length aside ≡ 2304
+  pub backup : t .aside < length aside
+  pub wide : t .left + 256 ≤ length aside
 
 -- `step` was made on both, whatever stands beside them; at most 256 blocks were appended
 pub record BlocksDid (step : PickState → PickState) (t r : PickNumbers) (out aside out′ aside′ : List ℕ) : Type 0 where

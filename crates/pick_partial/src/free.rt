@@ -96,7 +96,7 @@ pub fn set_aside(
     t: PickNumbers,
 ) -> PickNumbers
     requires { ⌜ (PlainStates (now states)) × (i < 4096) × (first < length (now states)) × (length (now states) ≤ 256) ⌝ }
-    requires { ⌜ (length (now aside) ≡ 2304) × (t .left ≤ 2048) × (t .aside ≤ 2303) ⌝ }
+    requires { ⌜ (t .aside < length (now aside)) × (t .left + 256 ≤ length (now aside)) ⌝ }
     ensures { λ r. ⌜ AsideDid (setAside (partialBy i (now (states .entry))) first) 256 t r (now (aside .entry)) (now (aside .exit)) ⌝ }
 {
     if t.left <= t.aside {

@@ -17,6 +17,7 @@ use Rattle.model.specs.pick.Blocks.{enoughAside}
 use Rattle.model.specs.pick.Pick.{partialStep, walkPartials}
 use Rattle.model.specs.image.Sound.{Sound}
 use Rattle.model.proofs.pick.BoundLaws.{small}
+use Rattle.model.proofs.pick.AddLaws.{holding-kept}
 use Rattle.model.proofs.pick.OutputLaws.{bounded-kept}
 use Rattle.memory_layout.specs.Changes.{partialIn}
 use Rattle.pick_state.specs.declared.numbers.PickNumbers.{PickNumbers}
@@ -24,7 +25,7 @@ use Rattle.pick_state.specs.PickStates.{contiguousOf, withFlags, stateOf}
 use Rattle.pick_state.specs.Room.{Underway}
 use Rattle.pick_state.proofs.DidLaws.{kept-same, did-then}
 use Rattle.pick_state.proofs.TakeLaws.{between-length}
-use Rattle.pick_state.proofs.RoomLaws.{working-left, working-marks, working-aside, working-tight, working-unspent, working-kept}
+use Rattle.pick_state.proofs.RoomLaws.{working-left, working-aside, working-tight, working-holding, working-unspent, working-kept}
 use Rattle.pick_state.proofs.RoomLaws.{working-downloading}
 use Rattle.pick_state.proofs.RestLaws.{Rest, rest-start, rest-next, rest-end, rest-last}
 use Rattle.pick_partial.specs.Adding.{BlocksDid}
@@ -73,8 +74,7 @@ enough-is : {d : Picker} {t : PickNumbers} {out aside : List ℕ} {ignored : Lis
     → Underway d t out aside ignored loops → enoughAside (stateOf start d t out aside ignored loops) ≡ leb (t .left) (t .aside)
 unfolding enoughAside stateOf
 enough-is {t = t} {aside = aside} start u =
-    let b = working-aside (u .working) in
-    let w = working-marks (u .working) .2 in
+    let b = working-aside (u .working) .0 in
     ap (leb (t .left)) (between-length 0 (t .aside) aside (omega arith) ∙ whole (t .aside))
   where
     whole : (x : ℕ) → x - 0 ≡ x
@@ -198,8 +198,7 @@ module _ {d : Picker} {t : PickNumbers} {out aside : List ℕ} (l : 1 ≤ t .lef
       let e = working-left w in
       let g = w .roomy .room in
       let s = w .since in
-      let b = working-aside w in
-      let m = working-marks w .2 in
+      let b = working-aside w .0 in
       (omega arith, omega arith)
 
   append-alone : {r : PickNumbers} {out′ : List ℕ} (a : PickRequest) → Sound d
@@ -216,7 +215,8 @@ module _ {d : Picker} {t : PickNumbers} {out aside : List ℕ} (l : 1 ≤ t .lef
           run = u .run;
           working = working-kept (u .working) w (blocksPerPiece d)
               (bounded-kept (blocksPerPiece d) (u .wanted) (u .run) (u .working .roomy .wanted) a .backup v (working-unspent (u .working) l)
-              (working-tight (u .working) s)) refl;
+              (working-tight (u .working) s))
+              (holding-kept (length aside - 256) a .backup v (working-unspent (u .working) l) (working-holding (u .working) s)) refl;
         };
       }
 

@@ -145,11 +145,10 @@ pub rest-asks : {d : Picker} {t : PickNumbers} {out aside : List ℕ} {ignored :
 rest-asks u =
     let w = u .working in
     let e = working-left w in
-    let m = working-marks w in
     let g = w .roomy .room in
     let n = w .since in
     let k = w .within in
-    (omega arith, omega (arith, working-aside w))
+    (omega arith, omega (arith, working-aside w .0))
 
 pub rest-counts : {d : Picker} {t : PickNumbers} {out aside : List ℕ} {ignored : List Bool} {loops : List ℕ} → Underway d t out aside
     ignored loops

@@ -64,14 +64,14 @@ module _ {start N R : ℕ} {d : Picker} {t : PickNumbers} {out aside : List ℕ}
           counters = g .counters;
           room = let k = g .room in let s = h .since in omega arith;
           roomAside = g .roomAside;
+          withinAside = g .withinAside;
         };
       }
 
   begun-sees : (first start′ : ℕ) → start′ ≤ t .end → Sees start′ (marks ignored) (begun first t) out aside ignored
   unfolding begun
   begun-sees first start′ l =
-      let a = working-aside h in
-      let m = working-marks h in
+      let a = working-aside h .0 in
       record { since = l; seen = omega arith; within = h .within; withinAside = omega arith; marked = omega arith }
 
   -- it is the definition's

@@ -153,7 +153,7 @@ start-begun q end forced =
 -- a pick that begins is under way
 pub start-underway : (d : Picker) (q : Request) (end : ℕ) (t : PickNumbers) → Begun q end t → (out aside : List ℕ) (ignored : List Bool)
     (loops : List ℕ)
-    → q .wanted ≤ 2048 → q .contiguous ≤ 2048 → end + q .wanted + q .contiguous + 255 ≤ length out → length aside ≡ 2304
+    → q .wanted ≤ 2048 → q .contiguous ≤ 2048 → end + q .wanted + q .contiguous + 255 ≤ length out → q .wanted + 256 ≤ length aside
     → length ignored ≡ 4096 → length loops ≡ 7 → Underway d t out aside ignored loops
 unfolding stateOf contiguousOf len
 start-underway d q end t b out aside ignored loops hn hr room la li ll =
@@ -181,7 +181,8 @@ start-underway d q end t b out aside ignored loops hn hr room la li ll =
           marks = li;
           counters = ll;
           room = room;
-          roomAside = la;
+          roomAside = omega arith;
+          withinAside = omega arith;
         };
       };
     }

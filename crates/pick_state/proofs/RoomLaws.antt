@@ -11,7 +11,7 @@ use Rattle.model.specs.State.{DownloadingPiece, Picker, blocksPerPiece}
 use Rattle.model.specs.pick.Blocks.{PickRequest, Contiguous, PickState, spent, addBlocks, addBlocksDownloading}
 use Rattle.model.specs.image.Sound.{Sound}
 use Rattle.model.proofs.pick.BoundLaws.{Fits, sound-fits, small, Lean, Tight}
-use Rattle.model.proofs.pick.AddLaws.{addBlocks-contiguous, downloading-contiguous}
+use Rattle.model.proofs.pick.AddLaws.{addBlocks-contiguous, downloading-contiguous, Holding, holding-kept}
 use Rattle.model.proofs.pick.OutputLaws.{bounded-kept}
 use Rattle.pick_state.specs.declared.numbers.PickNumbers.{PickNumbers}
 use Rattle.pick_state.specs.PickStates.{contiguousOf, blocksBetween, withFlags, stateOf, Did, Roomy}
@@ -44,9 +44,9 @@ module _ {start N R : ℕ} {d : Picker} {t : PickNumbers} {out aside : List ℕ}
   unfolding stateOf contiguousOf
   working-small = let g = h .roomy in let e = working-left in let n = g .wanted in (omega arith, g .asked, g .given, n, g .run)
 
-  pub working-marks : (length ignored ≡ 4096) × (length loops ≡ 7) × (length aside ≡ 2304)
+  pub working-marks : (length ignored ≡ 4096) × (length loops ≡ 7)
   unfolding stateOf
-  working-marks = let g = h .roomy in (g .marks, g .counters, g .roomAside)
+  working-marks = let g = h .roomy in (g .marks, g .counters)
 
   -- where blocks are wanted, those of a piece and of a run can be appended
   pub working-room : 1 ≤ t .left → t .end + R + 256 ≤ length out
@@ -59,9 +59,22 @@ module _ {start N R : ℕ} {d : Picker} {t : PickNumbers} {out aside : List ℕ}
       let g = h .roomy in
       (sound-fits d s, record { rest = g .rest; few = g .few; backup = g .backup; contiguous = g .asked })
 
-  pub working-aside : t .aside ≤ 2303
+  -- there is room for a piece's blocks among those set aside, where not enough are there
+  pub working-aside : (t .aside < length aside) × (t .left + 256 ≤ length aside)
   unfolding stateOf
-  working-aside = let g = h .roomy in let b = g .backup in let l = g .roomAside in omega (arith, between-end (t .aside) aside (omega arith))
+  working-aside =
+      let g = h .roomy in
+      let b = g .withinAside in
+      (omega (arith, between-end (t .aside) aside b), g .roomAside)
+
+  -- the model's bound on what is set aside, by that room
+  pub working-holding : Sound d → Holding (length aside - 256) (stateOf start d t out aside ignored loops)
+  unfolding stateOf
+  working-holding s =
+      let g = h .roomy in
+      let l = g .roomAside in
+      let b = g .withinAside in
+      record { partials = sound-fits d s .partials; left = omega arith; few = omega arith }
 
   -- blocks are wanted
   pub working-unspent : 1 ≤ t .left → spent (stateOf start d t out aside ignored loops) ≡ false
@@ -71,12 +84,16 @@ module _ {start N R : ℕ} {d : Picker} {t : PickNumbers} {out aside : List ℕ}
   module _ {step : PickState → PickState} {r : PickNumbers} {out′ aside′ : List ℕ} {ignored′ : List Bool} {loops′ : List ℕ}
       (w : Worked step d t r out aside ignored loops out′ aside′ ignored′ loops′) where
     -- a step within the model's bound keeps the room
-    pub working-step : (b : ℕ) → Tight b N R (N + R + 255) (step (stateOf start d t out aside ignored loops)) → r .given ≤ 65536
+    pub working-step : (b : ℕ) → Tight b N R (N + R + 255) (step (stateOf start d t out aside ignored loops))
+        → Holding (length aside - 256) (step (stateOf start d t out aside ignored loops)) → r .given ≤ 65536
         → Working start N R d r out′ aside′ ignored′ loops′
     unfolding Tight Lean-of stateOf contiguousOf
-    working-step b k z =
+    working-step b k q z =
         let g = h .roomy in
         let l = subst (Lean-of N R) (sym (w .did .is start (h .since))) (k .1) in
+        let p = subst (Holding (length aside - 256)) (sym (w .did .is start (h .since))) q in
+        let e = w .did .longAside in
+        let f = g .roomAside in
         record {
           since = let a = h .since in let c = w .did .kept .rises in omega arith;
           within = w .within;
@@ -91,17 +108,19 @@ module _ {start N R : ℕ} {d : Picker} {t : PickNumbers} {out aside : List ℕ}
             marks = w .did .longIgnored ∙ g .marks;
             counters = w .did .longLoops ∙ g .counters;
             room = let c = w .did .kept .long in let e = g .room in omega arith;
-            roomAside = w .did .longAside ∙ g .roomAside;
+            roomAside = let x = p .left in omega arith;
+            withinAside = let x = p .few in omega arith;
           };
         }
 
     -- one that leaves the run as it was
     pub working-kept : (b : ℕ) → Tight b N R (N + R + 255) (step (stateOf start d t out aside ignored loops))
+        → Holding (length aside - 256) (step (stateOf start d t out aside ignored loops))
         → step (stateOf start d t out aside ignored loops) .contiguous ≡ stateOf start d t out aside ignored loops .contiguous
         → Working start N R d r out′ aside′ ignored′ loops′
     unfolding stateOf contiguousOf
-    working-kept b k e =
-        working-step b k (let x = ap (λ (v : PickState). v .contiguous .given) (w .did .is start (h .since)) in
+    working-kept b k q e =
+        working-step b k q (let x = ap (λ (v : PickState). v .contiguous .given) (w .did .is start (h .since)) in
         let y = ap (λ (v : Contiguous). v .given) e in let g = h .roomy .given in omega arith)
 
   -- what a piece adds
@@ -111,7 +130,8 @@ module _ {start N R : ℕ} {d : Picker} {t : PickNumbers} {out aside : List ℕ}
   working-blocks a i s l w =
       let v = stateOf start d t out aside ignored loops in
       let b = blocksPerPiece d in
-      working-kept w b (bounded-kept b N R (h .roomy .wanted) a .piece i v (working-unspent l) (working-tight s)) (addBlocks-contiguous a i v)
+      working-kept w b (bounded-kept b N R (h .roomy .wanted) a .piece i v (working-unspent l) (working-tight s))
+      (holding-kept (length aside - 256) a .piece i v (working-unspent l) (working-holding s)) (addBlocks-contiguous a i v)
 
   -- what a partial adds
   pub working-downloading : (a : PickRequest) (p : DownloadingPiece) {r : PickNumbers} {out′ aside′ : List ℕ} {ignored′ : List Bool} {loops′ : List ℕ}
@@ -120,7 +140,8 @@ module _ {start N R : ℕ} {d : Picker} {t : PickNumbers} {out aside : List ℕ}
   working-downloading a p s o l w =
       let v = stateOf start d t out aside ignored loops in
       let b = blocksPerPiece d in
-      working-kept w b (bounded-kept b N R (h .roomy .wanted) a .partial p v o (working-unspent l) (working-tight s)) (downloading-contiguous a p v)
+      working-kept w b (bounded-kept b N R (h .roomy .wanted) a .partial p v o (working-unspent l) (working-tight s))
+      (holding-kept (length aside - 256) a .partial p v o (working-unspent l) (working-holding s)) (downloading-contiguous a p v)
 
   -- flags, draws and counters do not matter
   pub working-same : (r : PickNumbers) (loops′ : List ℕ) → r .left ≡ t .left → r .asked ≡ t .asked → r .given ≡ t .given → r .end ≡ t .end
@@ -142,7 +163,8 @@ module _ {start N R : ℕ} {d : Picker} {t : PickNumbers} {out aside : List ℕ}
           marks = g .marks;
           counters = ll ∙ g .counters;
           room = g .room;
-          roomAside = g .roomAside;
+          roomAside = rw el (g .roomAside);
+          withinAside = rw es (g .withinAside);
         };
       }
 

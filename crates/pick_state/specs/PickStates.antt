@@ -99,7 +99,7 @@ pub record Did (step : PickState → PickState) (d : Picker) (t r : PickNumbers)
 
 -- ---- the room
 -- N blocks were wanted and a run of R: what is appended, set aside and counted has the room that the call was lent. The model's bounds
--- (at most N + R + 255 appended, 2,303 set aside) keep it so
+-- (at most N + R + 255 appended, 255 set aside past those still wanted) keep it so
 pub record Roomy (start N R : ℕ) (w : PickState) (out aside : List ℕ) : Type 0 where
   pub wanted : N ≤ 2048
   pub run : R ≤ 2048
@@ -111,4 +111,5 @@ pub record Roomy (start N R : ℕ) (w : PickState) (out aside : List ℕ) : Type
   pub marks : length (w .ignored) ≡ 4096
   pub counters : length (w .loops) ≡ 7
   pub room : start + N + R + 255 ≤ length out
-  pub roomAside : length aside ≡ 2304
+  pub roomAside : w .left + 256 ≤ length aside
+  pub withinAside : len (w .backup) < length aside

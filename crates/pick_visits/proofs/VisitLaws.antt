@@ -205,6 +205,7 @@ module _ {d : Picker} {t : PickNumbers} {out aside : List ℕ} {ignored : List B
               counters = g .counters;
               room = g .room;
               roomAside = g .roomAside;
+              withinAside = g .withinAside;
             };
           };
         };
@@ -212,7 +213,7 @@ module _ {d : Picker} {t : PickNumbers} {out aside : List ℕ} {ignored : List B
 
   -- as many marks as there can be pieces, and seven counters
   pub underway-marks : Underway d t out aside ignored loops → (length ignored ≡ 4096) × (length loops ≡ 7)
-  underway-marks u = let m = working-marks (u .working) in (m .0, m .1)
+  underway-marks u = working-marks (u .working)
 
 module _ {d : Picker} {t : PickNumbers} {out aside : List ℕ} {ignored : List Bool} {loops loops′ : List ℕ} (a : PickRequest) (i : ℕ)
     (u : Underway d t out aside ignored loops) (e : loops′ ≡ setNth suggestLoops (nth 0 loops suggestLoops + 1) loops) where

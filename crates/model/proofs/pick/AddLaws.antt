@@ -1,4 +1,4 @@
--- What a piece adds leaves picker, draws, flags, counters and run alone, and never sets more than 2,303 blocks aside. Assumes nothing.
+-- What a piece adds leaves picker, draws, flags, counters and run alone, and of n wanted never sets more than n + 255 blocks aside. Assumes nothing.
 use mathlib.Core.Path.{_≡_, refl}
 use Prim.Native.Nat.{ℕ, _≤_}
 use native.Mathlib.Omega.{arith}
@@ -95,43 +95,35 @@ addBlocks-contiguous a i w =
     (λ z. partial-contiguous a (partialOf (w .picker) i) w))))
 
 -- ---- the blocks set aside
--- no more are wanted than may be, no partial has more than 256 blocks, and at most 2,303 are set aside
-pub record Holding (w : PickState) : Type 0 where
+-- no more than n are wanted, no partial has more than 256 blocks, and no more are set aside than may be of n
+pub record Holding (n : ℕ) (w : PickState) : Type 0 where
   pub partials : every small (w .picker .partials) ≡ true
-  pub left : w .left ≤ 2048
-  pub few : len (w .backup) ≤ mostAside
+  pub left : w .left ≤ n
+  pub few : len (w .backup) ≤ mostAside n
 
-holding-aside : (d : DownloadingPiece) (first : ℕ) (w : PickState) → small d ≡ true → Holding w → Holding (setAside d first w)
+holding-aside : (n : ℕ) (d : DownloadingPiece) (first : ℕ) (w : PickState) → small d ≡ true → Holding n w → Holding n (setAside d first w)
 unfolding withBackup small
-holding-aside d first w o h =
-    aside-arms Holding d first w h
-    (λ e. record { partials = h .partials; left = h .left; few = added-most d first w e (h .left) (leb-true (len (d .blocks)) 256 o) })
+holding-aside n d first w o h =
+    aside-arms (Holding n) d first w h
+    (λ e. record { partials = h .partials; left = h .left; few = added-most n d first w e (h .left) (leb-true (len (d .blocks)) 256 o) })
 
-holding-closed : Closed small Holding
+holding-closed : (n : ℕ) → Closed small (Holding n)
 unfolding withContiguous withOut took ignore
-holding-closed = record {
+holding-closed n = record {
   ready = λ w h. h .partials;
   contiguous = λ r w h. record { partials = h .partials; left = h .left; few = h .few };
   takes = λ i j w h. record { partials = h .partials; left = let l = h .left in omega arith; few = h .few };
   marks = λ i w h. record { partials = h .partials; left = h .left; few = h .few };
-  aside = holding-aside;
+  aside = holding-aside n;
 }
 
-holding-append : (w : PickState) → Holding w → Holding (appendBlocks w)
+holding-append : (n : ℕ) (w : PickState) → Holding n w → Holding n (appendBlocks w)
 unfolding appendBlocks withBackup withOut len
-holding-append w h = record { partials = h .partials; left = let l = h .left in omega arith; few = omega arith }
+holding-append n w h = record { partials = h .partials; left = let l = h .left in omega arith; few = omega arith }
 
 -- each phase of a pick keeps the bound
-pub holding-kept : (a : PickRequest) → Kept a small Holding
+pub holding-kept : (n : ℕ) (a : PickRequest) → Kept a small (Holding n)
 unfolding flagged steps
-holding-kept a =
-    closed-kept a small Holding holding-closed (λ f w h. record { partials = h .partials; left = h .left; few = h .few })
-    (λ w h. record { partials = h .partials; left = h .left; few = h .few }) holding-append
-
--- what a piece adds keeps it
-pub addBlocks-aside : (a : PickRequest) (i : ℕ) (w : PickState) → Holding w → len (addBlocks a i w .backup) ≤ mostAside
-addBlocks-aside a i w h = blocks-keeps small Holding holding-closed a i w h .few
-
--- what a partial adds keeps it
-pub downloading-aside : (a : PickRequest) (d : DownloadingPiece) (w : PickState) → small d ≡ true → Holding w → len (addBlocksDownloading a d w .backup) ≤ mostAside
-downloading-aside a d w o h = downloading-keeps small Holding holding-closed a d w o h .few
+holding-kept n a =
+    closed-kept a small (Holding n) (holding-closed n) (λ f w h. record { partials = h .partials; left = h .left; few = h .few })
+    (λ w h. record { partials = h .partials; left = h .left; few = h .few }) (holding-append n)

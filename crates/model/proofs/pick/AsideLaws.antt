@@ -1,6 +1,6 @@
--- Blocks set aside: block by block or all at once it is the same list, and there are never more than 2,303. Assumes nothing.
+-- Blocks set aside: block by block or all at once it is the same list, and of n wanted there are never more than n + 255. Assumes nothing.
 use mathlib.Core.Path.{_≡_, refl, sym, ap, _∙_}
-use Prim.Native.Nat.{ℕ, suc, _≤_}
+use Prim.Native.Nat.{ℕ, suc, _+_, _≤_}
 use native.Mathlib.Omega.{arith}
 use mathlib.Core.Bool.{Bool, false}
 use mathlib.Core.List.{List, [], _∷_, _++_, append-assoc, append-nil}
@@ -43,15 +43,15 @@ aside-arms I d first w h f =
     (λ e. rw (putAside-all (d .piece) (freeFrom d first) w) (f e)) (λ e. h)
 
 -- ---- the bound
--- the most blocks that are ever set aside: one less than may be wanted, and then a whole piece
-abbrev pub mostAside : ℕ
-mostAside = 2303
+-- the most blocks that are ever set aside of n wanted: one less, and then a whole piece
+abbrev pub mostAside : ℕ → ℕ
+mostAside n = n + 255
 
 -- where fewer are set aside than are wanted, a partial's blocks still fit
-pub added-most : (d : DownloadingPiece) (first : ℕ) (w : PickState) → enoughAside w ≡ false → w .left ≤ 2048 → len (d .blocks) ≤ 256
-    → len (w .backup ++ each (pieceBlock (d .piece)) (freeFrom d first)) ≤ mostAside
+pub added-most : (n : ℕ) (d : DownloadingPiece) (first : ℕ) (w : PickState) → enoughAside w ≡ false → w .left ≤ n → len (d .blocks) ≤ 256
+    → len (w .backup ++ each (pieceBlock (d .piece)) (freeFrom d first)) ≤ mostAside n
 unfolding enoughAside len
-added-most d first w e l k =
+added-most n d first w e l k =
     omega (
       arith,
       leb-false (w .left) (length (w .backup)) e,
@@ -61,7 +61,7 @@ added-most d first w e l k =
     )
 
 -- setting a partial's blocks aside keeps the bound
-pub aside-most : (d : DownloadingPiece) (first : ℕ) (w : PickState) → w .left ≤ 2048 → len (d .blocks) ≤ 256 → len (w .backup) ≤ mostAside
-    → len (setAside d first w .backup) ≤ mostAside
+pub aside-most : (n : ℕ) (d : DownloadingPiece) (first : ℕ) (w : PickState) → w .left ≤ n → len (d .blocks) ≤ 256
+    → len (w .backup) ≤ mostAside n → len (setAside d first w .backup) ≤ mostAside n
 unfolding withBackup
-aside-most d first w l k h = aside-arms (λ v. len (v .backup) ≤ mostAside) d first w h (λ e. added-most d first w e l k)
+aside-most n d first w l k h = aside-arms (λ v. len (v .backup) ≤ mostAside n) d first w h (λ e. added-most n d first w e l k)

@@ -73,7 +73,7 @@ sound-fits s h =
 pub record Lean (N R m left taken aside asked : ℕ) : Type 0 where
   pub rest : left ≡ N - taken
   pub few : taken ≤ m
-  pub backup : aside ≤ mostAside
+  pub backup : aside ≤ mostAside 2048
   pub contiguous : asked ≤ R
 
 -- the geometry and the accounting of a work
@@ -229,7 +229,7 @@ module _ (b N R : ℕ) where
       (freeFrom d first) (N - 1) w h)
 
   -- other blocks set aside, few enough
-  backup-tight-by : (m : ℕ) (bs : List PieceBlock) (w : PickState) → len bs ≤ mostAside → Tight b N R m w → Tight b N R m (withBackup bs w)
+  backup-tight-by : (m : ℕ) (bs : List PieceBlock) (w : PickState) → len bs ≤ mostAside 2048 → Tight b N R m w → Tight b N R m (withBackup bs w)
   unfolding Tight withBackup
   backup-tight-by m bs w l h = (h .0, record { rest = h .1 .rest; few = h .1 .few; backup = l; contiguous = h .1 .contiguous })
 
@@ -238,7 +238,7 @@ module _ (b N R : ℕ) where
     aside-tight d first m w o h =
         aside-arms (Tight b N R m) d first w h
         (λ e. backup-tight-by m (w .backup ++ each (pieceBlock (d .piece)) (freeFrom d first)) w
-        (added-most d first w e (omega (arith, tight-left m w h)) (small-le d o)) h)
+        (added-most 2048 d first w e (omega (arith, tight-left m w h)) (small-le d o)) h)
 
     use-tight : (d : DownloadingPiece) (held : RequestedFrom) (w : PickState) → small d ≡ true → 1 ≤ N → Tight b N R (N - 1) w
         → Tight b N R (N + R + 255) (useFree d held w)

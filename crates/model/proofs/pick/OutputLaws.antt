@@ -83,7 +83,7 @@ module _ (b N R : ℕ) (most : N ≤ 2048) where
 
   -- what a pick comes to in the end
   Final : PickState → Type 0
-  Final w = (len (w .out) ≤ N + R + 255) × (len (w .backup) ≤ mostAside)
+  Final w = (len (w .out) ≤ N + R + 255) × (len (w .backup) ≤ mostAside 2048)
 
   bounded-final : (w : PickState) → Bounded w → Final w
   unfolding Bounded Final Tight
@@ -135,7 +135,7 @@ module _ (ds : List ℕ) (s : Picker) (a : PickRequest) (h : Sound s) (f : reque
       startPick-keeps s a (Tight (blocksPerPiece s) (a .wanted) (a .contiguous) (a .wanted + a .contiguous + 255))
       (flag-tight (blocksPerPiece s) (a .wanted) (a .contiguous) (a .wanted + a .contiguous + 255)) begin-bounded
 
-  final : (len (pickPieces ds s a .out) ≤ a .wanted + a .contiguous + 255) × (len (pickPieces ds s a .backup) ≤ mostAside)
+  final : (len (pickPieces ds s a .out) ≤ a .wanted + a .contiguous + 255) × (len (pickPieces ds s a .backup) ≤ mostAside 2048)
   unfolding pickPieces Final Bounded
   final =
       phases-final (blocksPerPiece s) (a .wanted) (a .contiguous) (ask-fits s a f .wanted) ds (effectiveRequest s a) (startPick s a) (start-more s a (ask-fits s a f .some)) start-bounded
@@ -145,5 +145,5 @@ module _ (ds : List ℕ) (s : Picker) (a : PickRequest) (h : Sound s) (f : reque
   pick-output = final .0
 
   -- and at most 2,303 blocks are set aside
-  pub pick-backup : len (pickPieces ds s a .backup) ≤ mostAside
+  pub pick-backup : len (pickPieces ds s a .backup) ≤ mostAside 2048
   pick-backup = final .1

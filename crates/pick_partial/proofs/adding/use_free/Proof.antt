@@ -16,7 +16,7 @@ set-aside-requires c κs =
     let c4 = c .before .before .before .before in
     let p = c4 .before .before .before .before .pre in
     let r = p .1 in
-    ((p .0 .0, p .0 .1, first-in (c4 .before .before .before .before .args .t) _ _ _ (c4 .first-used .ensures) (p .0 .2), p .0 .3), (r .wide, r .left, r .backup))
+    ((p .0 .0, p .0 .1, first-in (c4 .before .before .before .before .args .t) _ _ _ (c4 .first-used .ensures) (p .0 .2), p .0 .3), (r .backup, r .wide))
 
 same-length : tie.Need-same-length
 same-length c = search needs

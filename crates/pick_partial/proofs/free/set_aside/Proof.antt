@@ -21,14 +21,14 @@ returns c =
     let c4 = c .before .before .before .before in
     let a = c4 .args in
     put-none (a .states .now) (a .i) (a .first) (c4 .pre .0 .0) (c4 .pre .0 .2) (a .t) (a .aside .now)
-    (omega (arith, c4 .pre .1 .0, c4 .pre .1 .2)) (c .if1 .taken)
+    (omega (arith, c4 .pre .1 .0)) (c .if1 .taken)
 
 loop-holds : tie.Need-loop-holds Inv-loop μ-loop
 loop-holds c =
     let c4 = c .before .before .before .before in
     let a = c4 .args in
     putting-start (a .states .now) (a .i) (a .first) (c4 .pre .0 .0) (c4 .pre .0 .2) (a .t) (a .aside .now)
-    (omega (arith, c4 .pre .1 .0, c4 .pre .1 .2)) (c .if1 .left)
+    (omega (arith, c4 .pre .1 .0)) (c .if1 .left)
 
 mul-free : tie.Need-mul-free Inv-loop μ-loop
 mul-free c = let c1 = c .before in omega (arith, c1 .before .before .before .before .before .pre .0 .3, c1 .loop .inv .there)
@@ -41,7 +41,7 @@ put-aside-if-requires c κs =
     let c3 = c .before .before .before in
     let p = c3 .before .before .before .before .before .pre in
     let q = c3 .loop .inv in (
-      omega (arith, c3 .before .if1 .left, q .rest .few, q .rest .long, q .low, p .0 .3, p .1 .0, p .1 .1),
+      omega (arith, c3 .before .if1 .left, q .rest .few, q .rest .long, q .low, p .0 .3, p .1 .1),
       (p .0 .1, omega (arith, p .0 .3, q .there)),
     )
 
