@@ -1,130 +1,56 @@
 -- `pick_pieces` meets its contract. Assumes nothing.
-use mathlib.Core.Path.{refl}
 use Prim.Native.Nat.{ℕ}
-use mathlib.Core.Bool.{Bool, false}
 use native.Mathlib.Omega.{arith}
 use lib.ListN.{length-replicate}
 use borrow.Author.Needs.{needs}
-use Rattle.types.specs.Piece.{numberOf}
-use Rattle.model.specs.Lists.{each}
-use Rattle.memory_rows.specs.Lookup.{pickerIn}
-use Rattle.memory_queues.proofs.StandLaws.{in-queues}
-use Rattle.pick_start.specs.Starting.{requestWith}
-use Rattle.pick_start.proofs.StartLaws.{start-underway}
-use Rattle.pick_pieces.proofs.GaveLaws.{whole-begun, whole-picks, whole-gave, whole-left, low-zero}
 use Rattle.pick_pieces.proofs.pieces.pick_pieces.Statement.{statement}
 use Rattle.pick_pieces.proofs.pieces.pick_pieces.Tie as tie
 
-is-forced-requires : tie.Need-is-forced-requires
-is-forced-requires c κs =
-    let a = c .before .before .before .before .before .before .before .args in
-    let p = c .before .before .before .before .before .before .before .pre in
-    let g = p .0 .asked in (
-      g .stands .bounds .spans .inCells,
-      (
-        in-queues (a .s) (a .live) (a .rows .now) (a .words .now) (a .cells .now) (record { bounds = g .stands .bounds; many = g .many }) (g .stands .sound),
-        (g .wide, p .1 .1 .peers),
-      ),
-    )
+slice-aggregate-pick-with : tie.Need-slice-aggregate-pick-with
+slice-aggregate-pick-with c = search needs
 
-effective-request-requires : tie.Need-effective-request-requires
-effective-request-requires c κs = search needs
-
-start-pick-requires : tie.Need-start-pick-requires
-start-pick-requires c κs = search needs
-
-slice-aggregate-pick-phases : tie.Need-slice-aggregate-pick-phases
-slice-aggregate-pick-phases c = search needs
-
-slice-aggregate-pick-phases-2 : tie.Need-slice-aggregate-pick-phases-2
-slice-aggregate-pick-phases-2 c = search needs
-
-slice-aggregate-pick-phases-3 : tie.Need-slice-aggregate-pick-phases-3
-slice-aggregate-pick-phases-3 c = search needs
-
-pick-phases-requires : tie.Need-pick-phases-requires
-pick-phases-requires c κs =
-    let a = c .before .before .before .before .before .before .before .before .before .before .before .before .before .before .before .args in
-    let p = c .before .before .before .before .before .before .before .before .before .before .before .before .before .before .before .pre in
-    let d = pickerIn (a .live) (a .rows .now) (a .words .now) (a .cells .now) in
-    let f = c .before .before .before .before .before .before .before .is-forced .result in
-    let q = c .before .before .before .before .before .before .effective-request in
-    let t = c .before .before .before .before .before .start-pick in
-    let b = whole-begun (a .q) (a .end) f (q .result) (q .ensures) (t .result) (t .ensures) in
-    let g = p .1 .1 in
-    let n = b .left in
-    let k = g .some in (
-      whole-picks (a .q) (a .end) f (q .result) (q .ensures) (t .result) (t .ensures) (p .0),
-      (
-        p .1 .0,
-        (
-          start-underway d (a .q) (a .end) (t .result) b (a .out .now) _ _ _ (g .wanted) (g .contiguous) (g .room)
-              (length-replicate {A = ℕ} 2304 0) (length-replicate {A = Bool} 4096 false) (length-replicate {A = ℕ} 7 0),
-          (omega arith, b .aside, b .used, g .suggestions, low-zero),
-        ),
-      ),
-    )
-
-array-read-t32 : tie.Need-array-read-t32
-array-read-t32 c = search needs
-
-array-read-t35 : tie.Need-array-read-t35
-array-read-t35 c = search needs
-
-array-read-t38 : tie.Need-array-read-t38
-array-read-t38 c = search needs
-
-array-read-t41 : tie.Need-array-read-t41
-array-read-t41 c = search needs
-
-array-read-t44 : tie.Need-array-read-t44
-array-read-t44 c = search needs
-
-array-read-t47 : tie.Need-array-read-t47
-array-read-t47 c = search needs
-
-array-read-t50 : tie.Need-array-read-t50
-array-read-t50 c = search needs
+pick-with-requires : tie.Need-pick-with-requires
+pick-with-requires c κs =
+    let p = c .before .before .before .before .before .before .before .before .before .before .before .before .pre in
+    (p .0, (p .1 .0, (p .1 .1, omega (arith, c .before .before .before .if1 .taken, length-replicate {A = ℕ} 320 0))))
 
 same-length : tie.Need-same-length
-same-length c = c .before .before .before .before .before .before .before .pick-phases .ensures .wordsKept .long
+same-length c = c .before .before .before .before .before .pick-with .ensures .1 .wordsKept .long
 
 same-length-2 : tie.Need-same-length-2
-same-length-2 c = c .before .before .before .before .before .before .before .pick-phases .ensures .kept .long
+same-length-2 c = c .before .before .before .before .before .pick-with .ensures .0 .long
 
 returns : tie.Need-returns
-unfolding requestWith
-returns c =
-    let a = c .before .before .before .before .before .before .before .before .before .before .before .before .before .before .before .before .before .before .before .before .before .before .before .args in
-    let p = c .before .before .before .before .before .before .before .before .before .before .before .before .before .before .before .before .before .before .before .before .before .before .before .pre in
-    let g = p .0 .asked in
-    let f = c .before .before .before .before .before .before .before .before .before .before .before .before .before .before .before .is-forced in
-    let q = c .before .before .before .before .before .before .before .before .before .before .before .before .before .before .effective-request in
-    let t = c .before .before .before .before .before .before .before .before .before .before .before .before .before .start-pick in
-    let is = each numberOf (a .suggestions .now) in
-    let e = f .ensures .is (a .words .now) (record { bounds = g .stands .bounds; many = g .many }) (requestWith (a .q) (a .bytes .now) is) refl in (
-      whole-gave (a .q) (a .end) (f .result) (q .result) (q .ensures) (t .result) (t .ensures) (a .draws .now) (a .bytes .now) is e refl refl (c .before .before .before .before .before .before .before .pick-phases .ensures),
-      whole-left (a .q) (a .end) (f .result) (q .result) (q .ensures) (t .result) (t .ensures) (a .draws .now) (a .bytes .now) is e refl refl (c .before .before .before .before .before .before .before .pick-phases .ensures),
-    )
+returns c = c .before .before .before .before .before .pick-with .ensures
+
+slice-aggregate-pick-with-2 : tie.Need-slice-aggregate-pick-with-2
+slice-aggregate-pick-with-2 c = search needs
+
+pick-with-requires-2 : tie.Need-pick-with-requires-2
+pick-with-requires-2 c κs =
+    let p = c .before .before .before .before .before .before .before .before .before .before .before .before .pre in
+    (p .0, (p .1 .0, (p .1 .1, omega (arith, p .1 .1 .wanted, length-replicate {A = ℕ} 2304 0))))
+
+same-length-3 : tie.Need-same-length-3
+same-length-3 c = c .before .before .before .before .before .pick-with2 .ensures .1 .wordsKept .long
+
+same-length-4 : tie.Need-same-length-4
+same-length-4 c = c .before .before .before .before .before .pick-with2 .ensures .0 .long
+
+returns-2 : tie.Need-returns-2
+returns-2 c = c .before .before .before .before .before .pick-with2 .ensures
 
 pub pick-pieces-spec : {M : Type 1} → statement M
 pick-pieces-spec =
     tie.close
     (tie.spec
-    is-forced-requires
-    effective-request-requires
-    start-pick-requires
-    slice-aggregate-pick-phases
-    slice-aggregate-pick-phases-2
-    slice-aggregate-pick-phases-3
-    pick-phases-requires
-    array-read-t32
-    array-read-t35
-    array-read-t38
-    array-read-t41
-    array-read-t44
-    array-read-t47
-    array-read-t50
+    slice-aggregate-pick-with
+    pick-with-requires
     same-length
     same-length-2
-    returns)
+    returns
+    slice-aggregate-pick-with-2
+    pick-with-requires-2
+    same-length-3
+    same-length-4
+    returns-2)

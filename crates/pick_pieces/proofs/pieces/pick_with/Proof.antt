@@ -17,13 +17,13 @@ use Rattle.pick_pieces.proofs.pieces.pick_with.Tie as tie
 
 is-forced-requires : tie.Need-is-forced-requires
 is-forced-requires c κs =
-    let a = c .before .before .before .before .before .before .before .args in
-    let p = c .before .before .before .before .before .before .before .pre in
+    let a = c .before .before .before .before .before .before .before .before .args in
+    let p = c .before .before .before .before .before .before .before .before .pre in
     let g = p .0 .asked in (
       g .stands .bounds .spans .inCells,
       (
         in-queues (a .s) (a .live) (a .rows .now) (a .words .now) (a .cells .now) (record { bounds = g .stands .bounds; many = g .many }) (g .stands .sound),
-        (g .wide, p .1 .1 .peers),
+        (g .wide, p .1 .1 .0 .peers),
       ),
     )
 
@@ -39,27 +39,24 @@ slice-aggregate-pick-phases c = search needs
 slice-aggregate-pick-phases-2 : tie.Need-slice-aggregate-pick-phases-2
 slice-aggregate-pick-phases-2 c = search needs
 
-slice-aggregate-pick-phases-3 : tie.Need-slice-aggregate-pick-phases-3
-slice-aggregate-pick-phases-3 c = search needs
-
 pick-phases-requires : tie.Need-pick-phases-requires
 pick-phases-requires c κs =
-    let a = c .before .before .before .before .before .before .before .before .before .before .before .before .before .before .before .args in
-    let p = c .before .before .before .before .before .before .before .before .before .before .before .before .before .before .before .pre in
+    let a = c .before .before .before .before .before .before .before .before .before .before .before .before .before .before .before .before .args in
+    let p = c .before .before .before .before .before .before .before .before .before .before .before .before .before .before .before .before .pre in
     let d = pickerIn (a .live) (a .rows .now) (a .words .now) (a .cells .now) in
     let f = c .before .before .before .before .before .before .before .is-forced .result in
     let q = c .before .before .before .before .before .before .effective-request in
     let t = c .before .before .before .before .before .start-pick in
     let b = whole-begun (a .q) (a .end) f (q .result) (q .ensures) (t .result) (t .ensures) in
-    let g = p .1 .1 in
+    let g = p .1 .1 .0 in
     let n = b .left in
     let k = g .some in (
       whole-picks (a .q) (a .end) f (q .result) (q .ensures) (t .result) (t .ensures) (p .0),
       (
         p .1 .0,
         (
-          start-underway d (a .q) (a .end) (t .result) b (a .out .now) _ _ _ (g .wanted) (g .contiguous) (g .room)
-              (length-replicate {A = ℕ} 2304 0) (length-replicate {A = Bool} 4096 false) (length-replicate {A = ℕ} 7 0),
+          start-underway d (a .q) (a .end) (t .result) b (a .out .now) (a .aside .now) _ _ (g .wanted) (g .contiguous) (g .room)
+              (p .1 .1 .1) (length-replicate {A = Bool} 4096 false) (length-replicate {A = ℕ} 7 0),
           (omega arith, b .aside, b .used, g .suggestions, low-zero),
         ),
       ),
@@ -87,24 +84,28 @@ array-read-t50 : tie.Need-array-read-t50
 array-read-t50 c = search needs
 
 same-length : tie.Need-same-length
-same-length c = c .before .before .before .before .before .before .before .pick-phases .ensures .wordsKept .long
+same-length c = c .before .before .before .before .before .before .before .before .pick-phases .ensures .wordsKept .long
 
 same-length-2 : tie.Need-same-length-2
-same-length-2 c = c .before .before .before .before .before .before .before .pick-phases .ensures .kept .long
+same-length-2 c = c .before .before .before .before .before .before .before .before .pick-phases .ensures .kept .long
+
+same-length-3 : tie.Need-same-length-3
+same-length-3 c = c .before .before .before .before .before .before .before .before .pick-phases .ensures .longAside
 
 returns : tie.Need-returns
 unfolding requestWith
 returns c =
-    let a = c .before .before .before .before .before .before .before .before .before .before .before .before .before .before .before .before .before .before .before .before .before .before .before .args in
-    let p = c .before .before .before .before .before .before .before .before .before .before .before .before .before .before .before .before .before .before .before .before .before .before .before .pre in
+    let a = c .before .before .before .before .before .before .before .before .before .before .before .before .before .before .before .before .before .before .before .before .before .before .before .before .before .args in
+    let p = c .before .before .before .before .before .before .before .before .before .before .before .before .before .before .before .before .before .before .before .before .before .before .before .before .before .pre in
     let g = p .0 .asked in
-    let f = c .before .before .before .before .before .before .before .before .before .before .before .before .before .before .before .is-forced in
-    let q = c .before .before .before .before .before .before .before .before .before .before .before .before .before .before .effective-request in
-    let t = c .before .before .before .before .before .before .before .before .before .before .before .before .before .start-pick in
+    let f = c .before .before .before .before .before .before .before .before .before .before .before .before .before .before .before .before .is-forced in
+    let q = c .before .before .before .before .before .before .before .before .before .before .before .before .before .before .before .effective-request in
+    let t = c .before .before .before .before .before .before .before .before .before .before .before .before .before .before .start-pick in
+    let x = c .before .before .before .before .before .before .before .before .pick-phases .ensures in
     let is = each numberOf (a .suggestions .now) in
     let e = f .ensures .is (a .words .now) (record { bounds = g .stands .bounds; many = g .many }) (requestWith (a .q) (a .bytes .now) is) refl in (
-      whole-gave (a .q) (a .end) (f .result) (q .result) (q .ensures) (t .result) (t .ensures) (a .draws .now) (a .bytes .now) is e refl refl (c .before .before .before .before .before .before .before .pick-phases .ensures),
-      whole-left (a .q) (a .end) (f .result) (q .result) (q .ensures) (t .result) (t .ensures) (a .draws .now) (a .bytes .now) is e refl refl (c .before .before .before .before .before .before .before .pick-phases .ensures),
+      whole-gave (a .q) (a .end) (f .result) (q .result) (q .ensures) (t .result) (t .ensures) (a .draws .now) (a .bytes .now) is e refl refl x,
+      whole-left (a .q) (a .end) (f .result) (q .result) (q .ensures) (t .result) (t .ensures) (a .draws .now) (a .bytes .now) is e refl refl x,
     )
 
 pub pick-with-spec : {M : Type 1} → statement M
@@ -116,7 +117,6 @@ pick-with-spec =
     start-pick-requires
     slice-aggregate-pick-phases
     slice-aggregate-pick-phases-2
-    slice-aggregate-pick-phases-3
     pick-phases-requires
     array-read-t32
     array-read-t35
@@ -127,4 +127,5 @@ pick-with-spec =
     array-read-t50
     same-length
     same-length-2
+    same-length-3
     returns)
