@@ -1,6 +1,6 @@
 #!/usr/bin/env python3
 """Writes the proofs of public changes, which differ in names alone: each is an instance of the walk of its shape
-(crates/memory_records/proofs/walks). Writes those of cores, too, that differ from another in names alone.
+(crates/memory_walks/proofs/walks). Writes those of cores, too, that differ from another in names alone.
 
     tools/calls.py            writes them
     tools/calls.py --check    says which differ from what would be written, and fails where one does
@@ -41,7 +41,7 @@ CALLS = [
     Call('picker_flags', 'flags', 'piece_passed', PIECE, False, 'piece-passed (numberOf (a .0))', [NUMBER_OF]),
 ]
 
-TEXT = """-- `{fn}` meets its contract: a call of the shape of `memory_records`, `walks/{shape}`. Assumes nothing.
+TEXT = """-- `{fn}` meets its contract: a call of the shape of `memory_walks`, `walks/{shape}`. Assumes nothing.
 -- Written by tools/calls.py, and not by hand.
 use mathlib.Core.Path.{{refl}}
 use mathlib.Core.List.{{List}}
@@ -50,7 +50,7 @@ use base.Logic.{{id⊢}}
 use contract.Monad.{{factI}}
 use contract.Running.{{tablesOf}}
 {uses}use Rattle.model.specs.Calls.{{Action, {name}}}
-use Rattle.memory_records.proofs.walks.{shape}.{{{walk}-call}}
+use Rattle.memory_walks.proofs.walks.{shape}.{{{walk}-call}}
 use Rattle.picker_calls.specs.declared.outcomes.CallStep.{{CallStep}}
 use Rattle.picker_calls.specs.Outcomes.{{outcome as answerOf}}
 use Rattle.picker_calls.specs.Cores.{{CoreCalled}}

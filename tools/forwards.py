@@ -14,7 +14,7 @@ from forward.export import Code, arguments, exits, function, links
 from forward.shapes import FORWARDS
 from forward.steps import meets, own_part, walk
 from walk.layout import formatted, imports, laid_out
-from walks import abroad, rust_type
+from walks import rust_type
 
 ROOT = pathlib.Path(__file__).resolve().parent.parent
 FOLDER = ROOT / 'crates/export_walks/proofs/walks'
@@ -37,7 +37,7 @@ def text(s):
     lines = call_part(s) + function(s, code) + links(s) + arguments(s) + exits(s) + walk(s, code) + meets(s) + own_part(s)
     body = laid_out(lines)
     uses = USES.read_text().splitlines() + [STEPS]
-    return abroad('\n'.join(laid_out(head(s)) + imports(uses, '\n'.join(body)) + [''] + body) + '\n')
+    return '\n'.join(laid_out(head(s)) + imports(uses, '\n'.join(body)) + [''] + body) + '\n'
 
 
 def files():

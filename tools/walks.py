@@ -1,5 +1,5 @@
 #!/usr/bin/env python3
-"""Writes the walks of public calls, a file for each shape of parameters: in crates/memory_records/proofs/walks, or in the proofs of the
+"""Writes the walks of public calls, a file for each shape of parameters: in crates/memory_walks/proofs/walks, or in the proofs of the
 crate that has all calls of a shape.
 
     tools/walks.py            writes them
@@ -9,7 +9,6 @@ A function with a lent slice of structs is proved by a walk of its code. All pub
 answer, core and contracts. The prover checks what is written here: nothing of this tool is trusted."""
 
 import pathlib
-import re
 import sys
 
 from walk.core import core_part
@@ -20,7 +19,8 @@ from walk.shapes import SHAPES
 from walk.steps import meets, own_part, walk
 
 ROOT = pathlib.Path(__file__).resolve().parent.parent
-FOLDER = ROOT / 'crates/memory_records/proofs/walks'
+HOME = 'memory_walks'
+FOLDER = ROOT / 'crates' / HOME / 'proofs/walks'
 USES = ROOT / 'tools/walk/uses.txt'
 
 
@@ -54,23 +54,15 @@ def text(s):
     return '\n'.join(laid_out(head(s)) + imports(USES.read_text().splitlines(), '\n'.join(body)) + [''] + body) + '\n'
 
 
-def abroad(t):
-    """The text of a walk as another crate has it: a function's modules stand there without the file of its source."""
-    t = re.sub(r'Rattle\.memory_records\.proofs\.(?:rows|edits)\.(?=[a-z])', 'Rattle.memory_records.proofs.', t)
-    return t.replace('Rattle.memory_records.proofs', 'Rattle.memory_records.proofs').replace(
-        'Rattle.memory_records.specs', 'Rattle.memory_records.specs')
-
-
 def place(s):
     """The path of a shape's walk."""
-    return (FOLDER if s.home == 'memory_records' else ROOT / 'crates' / s.home / 'proofs') / f'{s.name}.antt'
+    return (FOLDER if s.home == HOME else ROOT / 'crates' / s.home / 'proofs') / f'{s.name}.antt'
 
 
 def files():
     """Every file with its text."""
-    modules = ''.join(f'pub mod {s.name}\n' for s in SHAPES if s.home == 'memory_records')
-    texts = {s: text(s) if s.home == 'memory_records' else abroad(text(s)) for s in SHAPES}
-    walks = formatted({f'{s.name}.antt': t for s, t in texts.items()})
+    modules = ''.join(f'pub mod {s.name}\n' for s in SHAPES if s.home == HOME)
+    walks = formatted({f'{s.name}.antt': text(s) for s in SHAPES})
     return {FOLDER.with_suffix('.antt'): modules, **{place(s): walks[f'{s.name}.antt'] for s in SHAPES}}
 
 

@@ -20,8 +20,8 @@ LISTS = [
 # where a walk is from: of lists of 16 bits, of a piece, of the picker
 WALKS = {
     'cells': ('listing-cells-call', f'Rattle.{CRATE}.proofs.ListingCells', '`ListingCells`'),
-    'piece': ('listing-call', 'Rattle.memory_records.proofs.walks.Listing', '`memory_records`, `walks/Listing`'),
-    'picker': ('listing-all-call', 'Rattle.memory_records.proofs.walks.ListingAll', '`memory_records`, `walks/ListingAll`'),
+    'piece': ('listing-call', 'Rattle.memory_walks.proofs.walks.Listing', '`memory_walks`, `walks/Listing`'),
+    'picker': ('listing-all-call', 'Rattle.memory_walks.proofs.walks.ListingAll', '`memory_walks`, `walks/ListingAll`'),
 }
 
 PUBLIC = """-- `{name}` meets its contract: a call of the shape of {shape}. Assumes nothing.

@@ -135,7 +135,7 @@ VALUES = {
     'i32': ('ℤ', '(signed w32)', {'lib.IntN': ['ℤ'], 'mir.Syntax': ['w32'], 'Rattle.memory_records.proofs.steps.Values': ['signed']}),
 }
 
-PUBLIC = """-- `{name}` meets its contract: a call of the shape of `memory_records`, `walks/{walk}`. Assumes nothing.
+PUBLIC = """-- `{name}` meets its contract: a call of the shape of `memory_walks`, `walks/{walk}`. Assumes nothing.
 -- Written by tools/publics.py, and not by hand.
 {uses}
 -- what the core says of words, cells, rows, records lent{argued} and result
@@ -169,7 +169,7 @@ def public_proof(q):
     cited = {'mathlib.Core.Path': ['refl'], 'mathlib.Core.List': ['List'], 'Prim.Native.Nat': ['ℕ'], 'base.Logic': ['id⊢'],
              'contract.Monad': ['factI'], 'contract.Running': ['tablesOf'],
              **({'Rattle.types.specs.Piece': ['numberOf']} if argued else {}),
-             'Rattle.model.specs.ask.Questions': q.constructors(), f'Rattle.memory_records.proofs.walks.{walk}': [call],
+             'Rattle.model.specs.ask.Questions': q.constructors(), f'Rattle.memory_walks.proofs.walks.{walk}': [call],
              'Rattle.picker_answers.specs.Admitting': ['CoreAnswered'], **more}
     answers = f'Rattle.{q.home}.specs' if q.answer.home else f'{own}specs.specs'
     values = 'Rattle.picker_answers.proofs.Values' if q.answer.home else f'{own}proofs.proofs.Values'

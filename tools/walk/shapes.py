@@ -21,7 +21,7 @@ class Shape:
     `ends`: 'apply' for one edit of the records, 'pack' for records from rows, '' where they are only read. `home`: the crate of the walk,
     if it is that of the shape's only calls."""
 
-    def __init__(self, name, lends, partials, extra, ends='', home='memory_records'):
+    def __init__(self, name, lends, partials, extra, ends='', home='memory_walks'):
         self.name, self.lends, self.ends, self.home = name, lends, ends, home
         head = [Param('words', lends, 'u64'), Param('cells', lends, 'u16')]
         self.public = head + [Param('partials', 'rec' + partials, None)] + extra

@@ -1,3 +1,2 @@
 pub mod laws
 pub mod steps
-pub mod walks

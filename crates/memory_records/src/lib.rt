@@ -1,5 +1,5 @@
 // The lent slice of partial records: searches, edits by piece, and the records as rows of numbers, which is how code without slices of
-// structs sees them. Every public call over words, cells and partials stands on it (proofs/walks).
+// structs sees them. Every public call over words, cells and partials stands on it (`memory_walks`).
 mod edits;
 mod record;
 mod rows;

@@ -56,8 +56,8 @@ use Rattle.memory_records.specs.declared.record.DownloadingPiece.{DownloadingPi
 use Rattle.memory_records.specs.Rows.{unpacked, liveRecords}
 use Rattle.memory_records.proofs.record.DownloadingPiece as T
 use Rattle.memory_records.proofs.unpack.Symbol.{name as #unpack}
-use Rattle.memory_records.proofs.steps.UnpackSteps.{big, values, zeros-values, zeros-are, zeros-are′, cells-ty, Rows, apart}
-use Rattle.memory_records.proofs.steps.UnpackSteps.{together, Unpack, unpack-shr}
+use Rattle.memory_records.proofs.steps.UnpackSteps.{big, values, zeros-values, zeros-are, zeros-are′, cells-ty, Rows, apart, together}
+use Rattle.memory_records.proofs.steps.UnpackSteps.{Unpack, unpack-shr}
 use contract.Running.{GhostRules, Running, MachineTables, givenOf, tables, tablesOf}
 use denote.Triple.Table.{entered, cited}
 use Rattle.memory_records.proofs.unpack.Symbol as unpack-def

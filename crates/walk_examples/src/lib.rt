@@ -1,4 +1,4 @@
-// Calls of three shapes, to show that a walk of `memory_records` can be used as it stands. The cores are as small as can be.
+// Calls of three shapes, to show that a walk of `memory_walks` can be used as it stands. The cores are as small as can be.
 ghost use mathlib.Core.Path.{_≡_};
 ghost use lib.ListN.{length};
 ghost use Rattle.memory_records.specs.declared.edits.Edit.the-variants.{Remove};

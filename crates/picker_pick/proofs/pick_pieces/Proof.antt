@@ -1,4 +1,4 @@
--- `pick_pieces` meets its contract: a call of the shape of `memory_records`, `walks/Pick`. Assumes nothing.
+-- `pick_pieces` meets its contract: a call of the shape of `memory_walks`, `walks/Pick`. Assumes nothing.
 use mathlib.Core.Path.{refl}
 use mathlib.Core.List.{List}
 use Prim.Native.Nat.{ℕ}
@@ -8,7 +8,7 @@ use contract.Monad.{factI}
 use contract.Running.{tablesOf}
 use Rattle.types.specs.Piece.{numberOf}
 use Rattle.model.specs.Lists.{each}
-use Rattle.memory_records.proofs.walks.Pick.{pick-call}
+use Rattle.memory_walks.proofs.walks.Pick.{pick-call}
 use Rattle.pick_judge.specs.declared.arguments.PickInput.{PickInput}
 use Rattle.pick_judge.specs.Asking.{requestAsked}
 use Rattle.picker_pick.specs.declared.PickOutcome.{PickOutcome}

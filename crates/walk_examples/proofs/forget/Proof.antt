@@ -1,4 +1,4 @@
--- `forget` meets its contract: a call of the shape of `memory_records`, `walks/Change`. Assumes nothing.
+-- `forget` meets its contract: a call of the shape of `memory_walks`, `walks/Change`. Assumes nothing.
 use mathlib.Core.Path.{_≡_, sym, ap, subst, _∙_}
 use mathlib.Core.List.{List}
 use Prim.Native.Nat.{ℕ}
@@ -14,7 +14,7 @@ use Rattle.walk_examples.specs.declared.Step.{Step}
 use base.Logic.{id⊢}
 use contract.Monad.{factI}
 use contract.Running.{tablesOf}
-use Rattle.memory_records.proofs.walks.Change.{change-call}
+use Rattle.memory_walks.proofs.walks.Change.{change-call}
 use Rattle.walk_examples.proofs.Values.{step}
 use Rattle.walk_examples.proofs.forget_core as core
 use Rattle.walk_examples.proofs.forget_core.Symbol as core-def

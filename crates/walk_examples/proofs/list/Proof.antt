@@ -1,4 +1,4 @@
--- `list` meets its contract: a call of the shape of `memory_records`, `walks/Listing`. Assumes nothing.
+-- `list` meets its contract: a call of the shape of `memory_walks`, `walks/Listing`. Assumes nothing.
 use mathlib.Core.Path.{_≡_}
 use mathlib.Core.List.{List}
 use Prim.Native.Nat.{ℕ}
@@ -8,7 +8,7 @@ use Rattle.walk_examples.specs.declared.Ask.{Ask}
 use base.Logic.{id⊢}
 use contract.Monad.{factI}
 use contract.Running.{tablesOf}
-use Rattle.memory_records.proofs.walks.Listing.{listing-call}
+use Rattle.memory_walks.proofs.walks.Listing.{listing-call}
 use Rattle.walk_examples.proofs.Values.{ask}
 use Rattle.walk_examples.proofs.list_core as core
 use Rattle.walk_examples.proofs.list_core.Symbol as core-def

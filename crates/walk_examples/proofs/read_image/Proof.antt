@@ -1,4 +1,4 @@
--- `read_image` meets its contract: a call of the shape of `memory_records`, `walks/ImageIn`. Assumes nothing.
+-- `read_image` meets its contract: a call of the shape of `memory_walks`, `walks/ImageIn`. Assumes nothing.
 use mathlib.Core.Path.{_≡_, refl, ap, _∙_}
 use mathlib.Core.List.{List}
 use Prim.Native.Nat.{ℕ, _≤_}
@@ -11,7 +11,7 @@ use Rattle.walk_examples.specs.declared.Read.{Read}
 use base.Logic.{id⊢}
 use contract.Monad.{factI}
 use contract.Running.{tablesOf}
-use Rattle.memory_records.proofs.walks.ImageIn.{image-in-call}
+use Rattle.memory_walks.proofs.walks.ImageIn.{image-in-call}
 use Rattle.walk_examples.proofs.Values.{read}
 use Rattle.walk_examples.proofs.read_core as core
 use Rattle.walk_examples.proofs.read_core.Symbol as core-def

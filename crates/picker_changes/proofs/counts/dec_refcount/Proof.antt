@@ -1,4 +1,4 @@
--- `dec_refcount` meets its contract: a call of the shape of `memory_records`, `walks/ChangeDrawn`. Assumes nothing.
+-- `dec_refcount` meets its contract: a call of the shape of `memory_walks`, `walks/ChangeDrawn`. Assumes nothing.
 -- Written by tools/calls.py, and not by hand.
 use mathlib.Core.Path.{refl}
 use mathlib.Core.List.{List}
@@ -10,7 +10,7 @@ use Rattle.types.specs.declared.piece.PieceIndex.{PieceIndex}
 use Rattle.picker_calls.proofs.Values.{piece}
 use Rattle.types.specs.Piece.{numberOf}
 use Rattle.model.specs.Calls.{Action, dec-refcount}
-use Rattle.memory_records.proofs.walks.ChangeDrawn.{change-drawn-call}
+use Rattle.memory_walks.proofs.walks.ChangeDrawn.{change-drawn-call}
 use Rattle.picker_calls.specs.declared.outcomes.CallStep.{CallStep}
 use Rattle.picker_calls.specs.Outcomes.{outcome as answerOf}
 use Rattle.picker_calls.specs.Cores.{CoreCalled}

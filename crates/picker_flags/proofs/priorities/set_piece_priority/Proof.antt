@@ -1,4 +1,4 @@
--- `set_piece_priority` meets its contract: a call of the shape of `memory_records`, `walks/ChangeDrawn`. Assumes nothing.
+-- `set_piece_priority` meets its contract: a call of the shape of `memory_walks`, `walks/ChangeDrawn`. Assumes nothing.
 -- Written by tools/calls.py, and not by hand.
 use mathlib.Core.Path.{refl}
 use mathlib.Core.List.{List}
@@ -10,7 +10,7 @@ use Rattle.picker_flags.specs.declared.priorities.PiecePriority.{PiecePr
 use Rattle.picker_flags.proofs.Values.{piecePriority}
 use Rattle.types.specs.Piece.{numberOf}
 use Rattle.model.specs.Calls.{Action, set-piece-priority}
-use Rattle.memory_records.proofs.walks.ChangeDrawn.{change-drawn-call}
+use Rattle.memory_walks.proofs.walks.ChangeDrawn.{change-drawn-call}
 use Rattle.picker_calls.specs.declared.outcomes.CallStep.{CallStep}
 use Rattle.picker_calls.specs.Outcomes.{outcome as answerOf}
 use Rattle.picker_calls.specs.Cores.{CoreCalled}

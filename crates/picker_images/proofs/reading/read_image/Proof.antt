@@ -1,4 +1,4 @@
--- `read_image` meets its contract: a call of the shape of `memory_records`, `walks/ImageIn`. Assumes nothing.
+-- `read_image` meets its contract: a call of the shape of `memory_walks`, `walks/ImageIn`. Assumes nothing.
 use mathlib.Core.Path.{refl, sym, subst}
 use mathlib.Core.List.{List}
 use Prim.Native.Nat.{ℕ}
@@ -6,7 +6,7 @@ use base.Logic.{id⊢}
 use contract.Monad.{factI}
 use contract.Running.{tablesOf}
 use Rattle.memory_records.specs.declared.record.DownloadingPiece.{DownloadingPiece}
-use Rattle.memory_records.proofs.walks.ImageIn.{image-in-call}
+use Rattle.memory_walks.proofs.walks.ImageIn.{image-in-call}
 use Rattle.picker_calls.specs.Cores.{lending}
 use Rattle.picker_calls.specs.Starting.{ReadCalled}
 use Rattle.picker_images.specs.declared.reading.ReadStep.{ReadStep}

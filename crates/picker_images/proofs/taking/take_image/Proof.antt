@@ -1,11 +1,11 @@
--- `take_image` meets its contract: a call of the shape of `memory_records`, `walks/ImageOut`. Assumes nothing.
+-- `take_image` meets its contract: a call of the shape of `memory_walks`, `walks/ImageOut`. Assumes nothing.
 use mathlib.Core.Path.{refl}
 use mathlib.Core.List.{List}
 use Prim.Native.Nat.{ℕ}
 use base.Logic.{id⊢}
 use contract.Monad.{factI}
 use contract.Running.{tablesOf}
-use Rattle.memory_records.proofs.walks.ImageOut.{image-out-call}
+use Rattle.memory_walks.proofs.walks.ImageOut.{image-out-call}
 use Rattle.picker_images.specs.declared.answers.ImageTaken.{ImageTaken}
 use Rattle.picker_images.specs.Answers.{imageAnswer}
 use Rattle.picker_images.specs.Making.{ImageDone}

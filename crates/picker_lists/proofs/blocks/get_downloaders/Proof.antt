@@ -1,4 +1,4 @@
--- `get_downloaders` meets its contract: a call of the shape of `memory_records`, `walks/Listing`. Assumes nothing.
+-- `get_downloaders` meets its contract: a call of the shape of `memory_walks`, `walks/Listing`. Assumes nothing.
 -- Written by tools/publics.py, and not by hand.
 use mathlib.Core.Path.{refl}
 use mathlib.Core.List.{List}
@@ -11,7 +11,7 @@ use Rattle.types.specs.Piece.{numberOf}
 use Rattle.types.specs.declared.piece.PieceIndex.{PieceIndex}
 use Rattle.picker_calls.proofs.Values.{piece}
 use Rattle.model.specs.ask.Questions.{listOfPiece, get-downloaders}
-use Rattle.memory_records.proofs.walks.Listing.{listing-call}
+use Rattle.memory_walks.proofs.walks.Listing.{listing-call}
 use Rattle.picker_lists.specs.declared.answers.ListAnswer.{ListAnswer}
 use Rattle.picker_lists.specs.Listing.{tellPeers, CoreListed}
 use Rattle.picker_lists.proofs.Values.{list}

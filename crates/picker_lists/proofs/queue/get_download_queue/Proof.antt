@@ -1,4 +1,4 @@
--- `get_download_queue` meets its contract: a call of the shape of `memory_records`, `walks/ListingAll`. Assumes nothing.
+-- `get_download_queue` meets its contract: a call of the shape of `memory_walks`, `walks/ListingAll`. Assumes nothing.
 -- Written by tools/publics.py, and not by hand.
 use mathlib.Core.Path.{refl}
 use mathlib.Core.List.{List}
@@ -8,7 +8,7 @@ use base.Logic.{id⊢}
 use contract.Monad.{factI}
 use contract.Running.{tablesOf}
 use Rattle.model.specs.ask.Questions.{listOfPicker, get-download-queue}
-use Rattle.memory_records.proofs.walks.ListingAll.{listing-all-call}
+use Rattle.memory_walks.proofs.walks.ListingAll.{listing-all-call}
 use Rattle.picker_lists.specs.declared.answers.ListAnswer.{ListAnswer}
 use Rattle.picker_lists.specs.Listing.{tellInfos, CoreListed}
 use Rattle.picker_lists.proofs.Values.{list}

@@ -1,4 +1,4 @@
--- `dec_refcount_all` meets its contract: a call of the shape of `memory_records`, `walks/ChangeAll`. Assumes nothing.
+-- `dec_refcount_all` meets its contract: a call of the shape of `memory_walks`, `walks/ChangeAll`. Assumes nothing.
 -- Written by tools/calls.py, and not by hand.
 use mathlib.Core.Path.{refl}
 use mathlib.Core.List.{List}
@@ -7,7 +7,7 @@ use base.Logic.{id⊢}
 use contract.Monad.{factI}
 use contract.Running.{tablesOf}
 use Rattle.model.specs.Calls.{Action, dec-refcount-all}
-use Rattle.memory_records.proofs.walks.ChangeAll.{change-all-call}
+use Rattle.memory_walks.proofs.walks.ChangeAll.{change-all-call}
 use Rattle.picker_calls.specs.declared.outcomes.CallStep.{CallStep}
 use Rattle.picker_calls.specs.Outcomes.{outcome as answerOf}
 use Rattle.picker_calls.specs.Cores.{CoreCalled}
