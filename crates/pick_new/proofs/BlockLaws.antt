@@ -1,9 +1,10 @@
 -- The loops over the blocks of a piece, by what is left. Assumes nothing.
-use mathlib.Core.Path.{_≡_, refl, sym, ap, _∙_}
+use mathlib.Core.Path.{_≡_, refl, sym, ap, subst, _∙_}
 use mathlib.Core.Bool.{Bool, true, false, _&&_}
 use mathlib.Core.List.{List}
-use Prim.Native.Nat.{ℕ, _+_, _≤_, _<_}
+use Prim.Native.Nat.{ℕ, _+_, _-_, _*_, _≤_, _<_}
 use native.Mathlib.Omega.{arith}
+use lib.ListN.{length, set}
 use lib.Dec.{eqb}
 use Rattle.model.specs.Lists.{from, range, forEach, walk}
 use Rattle.model.specs.State.{Picker}
@@ -11,7 +12,9 @@ use Rattle.model.specs.pick.Blocks.{PickState, took, withOut, shorter, spent, c
 use Rattle.pick_state.specs.declared.numbers.PickNumbers.{PickNumbers}
 use Rattle.pick_state.specs.PickStates.{contiguousOf, stateOf, OutDid}
 use Rattle.pick_state.proofs.RestLaws.{OutRest, out-start, out-next, out-end, out-last}
+use Rattle.pick_state.proofs.TakeLaws.{took-did}
 use Rattle.pick_state.proofs.RangeLaws.{range-all, each-next, each-none, walk-next, walk-stop, walk-none}
+use Rattle.pick_new.specs.Taken.{takenNumbers}
 
 -- run and N after a block, from the numbers
 met-took : (i j : ℕ) {t r : PickNumbers} {out out′ : List ℕ} → OutDid (took i j) 1 t r out out′
@@ -35,6 +38,41 @@ module _ (i n : ℕ) (t : PickNumbers) (out : List ℕ) where
 
     pub blocks-end : j ≤ n → n ≤ j → OutDid (forEach (took i) (from 0 n)) n t cur out out₁
     blocks-end l h = out-end c n l (λ start d aside ignored loops. each-none (took i) j n (stateOf start d cur out₁ aside ignored loops) h)
+
+-- ---- the same, the numbers told by how many blocks there are
+pub taken-is : (t : PickNumbers) (n left : ℕ) → left ≡ t .left - n
+    → record { left = left; asked = t .asked; given = t .given + n; used = t .used; flags = t .flags; end = t .end + n; aside = t .aside } ≡ takenNumbers n t
+unfolding takenNumbers
+taken-is t n left e =
+    λ m. record { left = e m; asked = t .asked; given = t .given + n; used = t .used; flags = t .flags; end = t .end + n; aside = t .aside }
+
+none-taken : (t : PickNumbers) → takenNumbers 0 t ≡ t
+unfolding takenNumbers
+none-taken t =
+    let el : t .left - 0 ≡ t .left = omega arith in
+    let eg : t .given + 0 ≡ t .given = omega arith in
+    let ee : t .end + 0 ≡ t .end = omega arith in
+    λ m. record { left = el m; asked = t .asked; given = eg m; used = t .used; flags = t .flags; end = ee m; aside = t .aside }
+
+module _ (i n : ℕ) (t : PickNumbers) (out : List ℕ) where
+  pub taken-start : OutRest (forEach (took i) (from 0 n)) (forEach (took i) (range 0 n)) 0 t (takenNumbers 0 t) out out
+  taken-start =
+      subst (λ (r : PickNumbers). OutRest (forEach (took i) (from 0 n)) (forEach (took i) (range 0 n)) 0 t r out out) (sym (none-taken t))
+      (blocks-start i n t out)
+
+  module _ {j : ℕ} {out₁ : List ℕ} (c : OutRest (forEach (took i) (from 0 n)) (forEach (took i) (range j n)) j t (takenNumbers j t) out out₁) where
+    pub taken-next : j < n → n ≤ 256 → t .end + j < length out₁ → (w : ℕ) → w ≡ i * 65536 + j
+        → OutRest (forEach (took i) (from 0 n)) (forEach (took i) (range (j + 1) n)) (j + 1) t (takenNumbers (j + 1) t) out (set out₁ (t .end + j) w)
+    unfolding takenNumbers
+    taken-next l m h w e =
+        blocks-next i n t out c l (took-did (takenNumbers j t) (takenNumbers (j + 1) t) out₁ i j w h (omega arith) e (omega arith) refl
+        (omega arith) refl refl (omega arith) refl)
+
+    pub taken-end : j ≤ n → n ≤ j → (r : PickNumbers) → r ≡ takenNumbers n t → OutDid (forEach (took i) (from 0 n)) n t r out out₁
+    taken-end l h r e =
+        let k : n ≡ j = omega arith in
+        subst (λ (v : PickNumbers). OutDid (forEach (took i) (from 0 n)) n t v out out₁) (sym (e ∙ ap (λ (m : ℕ). takenNumbers m t) k))
+        (blocks-end i n t out c l h)
 
 -- ---- up to where run and N are met
 module _ (i n : ℕ) (t : PickNumbers) (out : List ℕ) where

@@ -2,25 +2,56 @@
 use pick_state::PickNumbers;
 use pick_state::contiguous_met;
 use pick_state::take;
-ghost use Prim.Native.Nat.{_+_, _≤_, _<_};
+use types::usize_to_u64;
+ghost use mathlib.Core.Path.{_≡_};
+ghost use Prim.Native.Nat.{_+_, _-_, _≤_, _<_};
 ghost use lib.ListN.{length};
 ghost use Rattle.model.specs.Lists.{from, forEach, walk};
 ghost use Rattle.model.specs.pick.Blocks.{took, contiguousMet};
 ghost use Rattle.pick_state.specs.PickStates.{OutDid};
+ghost use Rattle.pick_new.specs.Taken.{takenNumbers};
 
-// The first n blocks of piece i.
+// n less, and none where there are fewer.
+fn less_by(m: usize, n: usize) -> usize
+    ensures { λ r. ⌜ r ≡ m - n ⌝ }
+{
+    if m < n {
+        return 0;
+    }
+    m - n
+}
+
+// The numbers after n blocks more.
+fn taken(t: PickNumbers, n: usize) -> PickNumbers
+    requires { ⌜ (t .end + n < 18446744073709551616) × (t .given + n < 18446744073709551616) ⌝ }
+    ensures { λ r. ⌜ r ≡ takenNumbers n t ⌝ }
+{
+    let left = less_by(t.left, n);
+    PickNumbers {
+        left: left,
+        asked: t.asked,
+        given: t.given + n,
+        used: t.used,
+        flags: t.flags,
+        end: t.end + n,
+        aside: t.aside,
+    }
+}
+
+// The first n blocks of piece i. Only their words are written one by one: the numbers follow from n.
 pub fn take_blocks(out: &mut [u64], t: PickNumbers, i: usize, n: usize) -> PickNumbers
     requires { ⌜ (t .end + n ≤ length (now out)) × (t .given + n < 4294967296) ⌝ }
     requires { ⌜ (i < 4096) × (n ≤ 256) ⌝ }
     ensures { λ r. ⌜ OutDid (forEach (took i) (from 0 n)) n t r (now (out .entry)) (now (out .exit)) ⌝ }
 {
-    let mut cur = t;
+    let end = t.end;
+    let base = i * 65536;
     let mut j = 0;
     while j < n {
-        cur = take(out, cur, i, j);
+        out[end + j] = usize_to_u64(base + j);
         j += 1;
     }
-    cur
+    taken(t, n)
 }
 
 // The same, up to where the run and the blocks wanted are met.

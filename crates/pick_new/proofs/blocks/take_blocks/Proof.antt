@@ -1,29 +1,43 @@
 -- `take_blocks` meets its contract. Assumes nothing.
-use Rattle.pick_new.proofs.BlockLaws.{blocks-start, blocks-next, blocks-end}
-use Rattle.pick_state.proofs.RestLaws.{OutRest}
-use Rattle.model.specs.pick.Blocks.{took, contiguousMet}
-use Rattle.model.specs.Lists.{from, range, forEach, walk}
-use native.Mathlib.Omega.{arith}
 use Prim.Native.Nat.{_-_, _≤_}
+use native.Mathlib.Omega.{arith}
 use borrow.Author.Needs.{needs}
+use Rattle.model.specs.Lists.{from, range, forEach}
+use Rattle.model.specs.pick.Blocks.{took}
+use Rattle.pick_state.proofs.RestLaws.{OutRest}
+use Rattle.pick_new.specs.Taken.{takenNumbers}
+use Rattle.pick_new.proofs.BlockLaws.{taken-start, taken-next, taken-end}
 use Rattle.pick_new.proofs.blocks.take_blocks.Statement.{statement}
 use Rattle.pick_new.proofs.blocks.take_blocks.Tie as tie
 
 abbrev Inv-loop : tie.InvT-loop
-Inv-loop out₀ i n cur₀ j₀ out cur j =
-    (j ≤ n) × OutRest (forEach (took i) (from 0 n)) (forEach (took i) (range j n)) j cur₀ cur out₀ out
+Inv-loop out₀ t i n end base j₀ out j =
+    (j ≤ n) × OutRest (forEach (took i) (from 0 n)) (forEach (took i) (range j n)) j t (takenNumbers j t) out₀ out
 
 abbrev μ-loop : tie.MeasureT-loop
-μ-loop out₀ i n cur₀ j₀ out cur j = n - j
+μ-loop out₀ t i n end base j₀ out j = n - j
+
+mul-base : tie.Need-mul-base Inv-loop μ-loop
+mul-base c = omega (arith, c .before .pre .1 .0)
 
 loop-holds : tie.Need-loop-holds Inv-loop μ-loop
-loop-holds c = (omega arith, blocks-start _ _ _ _)
+loop-holds c = (omega arith, taken-start _ _ _ _)
 
-take-requires : tie.Need-take-requires Inv-loop μ-loop
-take-requires c κs =
-    let v = c .before .before .loop .inv in
-    let k = v .1 .kept .long in
-    ((omega (arith, v .1 .few), omega (arith, v .1 .given)), (omega arith, omega arith))
+add-usize-to-u64 : tie.Need-add-usize-to-u64 Inv-loop μ-loop
+add-usize-to-u64 c = omega (arith, c .before .before .before .pre .1 .0, c .before .before .before .pre .1 .1, c .loop-test .taken)
+
+usize-to-u64-requires : tie.Need-usize-to-u64-requires Inv-loop μ-loop
+usize-to-u64-requires c κs = search needs
+
+add-out : tie.Need-add-out Inv-loop μ-loop
+add-out c = search needs
+
+mul-out : tie.Need-mul-out Inv-loop μ-loop
+mul-out c = search needs
+
+slice-write-out : tie.Need-slice-write-out Inv-loop μ-loop
+slice-write-out c =
+    let k = c .before .before .loop .inv .1 .kept .long in omega (arith, c .before .before .before .before .pre .0 .0, c .before .loop-test .taken)
 
 add-j : tie.Need-add-j Inv-loop μ-loop
 add-j c = search needs
@@ -33,14 +47,22 @@ loop-less c = search needs
 
 loop-again : tie.Need-loop-again Inv-loop μ-loop
 loop-again c =
-    let v = c .before .before .before .before .before .loop .inv in
-    (omega arith, blocks-next _ _ _ _ (v .1) (omega arith) (c .before .before .take .ensures))
+    let v = c .before .before .loop .inv in
+    let k = v .1 .kept .long in
+    let l = c .before .loop-test .taken in
+    let p = c .before .before .before .before .pre in
+    (omega arith, taken-next _ _ _ _ (v .1) l (p .1 .1) (omega (arith, p .0 .0)) _ (c .usize-to-u64 .ensures))
+
+taken-requires : tie.Need-taken-requires Inv-loop μ-loop
+taken-requires c κs = let p = c .before .before .before .pre in (omega (arith, p .0 .0), omega (arith, p .0 .1))
 
 same-length : tie.Need-same-length Inv-loop μ-loop
-same-length c = search needs
+same-length c = c .before .before .loop .inv .1 .kept .long
 
 returns : tie.Need-returns Inv-loop μ-loop
-returns c = let v = c .before .loop .inv in blocks-end _ _ _ _ (v .1) (v .0) (omega arith)
+returns c =
+    let v = c .before .before .loop .inv in
+    taken-end _ _ _ _ (v .1) (v .0) (c .before .loop-test .left) _ (c .taken .ensures)
 
 pub take-blocks-spec : {M : Type 1} → statement M
 take-blocks-spec =
@@ -48,10 +70,16 @@ take-blocks-spec =
     (tie.spec
     Inv-loop
     μ-loop
+    mul-base
     loop-holds
-    take-requires
+    add-usize-to-u64
+    usize-to-u64-requires
+    add-out
+    mul-out
+    slice-write-out
     add-j
     loop-less
     loop-again
+    taken-requires
     same-length
     returns)
