@@ -54,6 +54,13 @@ none-taken t =
     let ee : t .end + 0 ≡ t .end = omega arith in
     λ m. record { left = el m; asked = t .asked; given = eg m; used = t .used; flags = t .flags; end = ee m; aside = t .aside }
 
+-- one block more
+pub taken-step : (i : ℕ) (t : PickNumbers) (j : ℕ) (out : List ℕ) → j < 256 → t .end + j < length out → (w : ℕ) → w ≡ i * 65536 + j
+    → OutDid (took i j) 1 (takenNumbers j t) (takenNumbers (j + 1) t) out (set out (t .end + j) w)
+unfolding takenNumbers
+taken-step i t j out l h w e =
+    took-did (takenNumbers j t) (takenNumbers (j + 1) t) out i j w h l e (omega arith) refl (omega arith) refl refl (omega arith) refl
+
 module _ (i n : ℕ) (t : PickNumbers) (out : List ℕ) where
   pub taken-start : OutRest (forEach (took i) (from 0 n)) (forEach (took i) (range 0 n)) 0 t (takenNumbers 0 t) out out
   taken-start =
@@ -61,13 +68,6 @@ module _ (i n : ℕ) (t : PickNumbers) (out : List ℕ) where
       (blocks-start i n t out)
 
   module _ {j : ℕ} {out₁ : List ℕ} (c : OutRest (forEach (took i) (from 0 n)) (forEach (took i) (range j n)) j t (takenNumbers j t) out out₁) where
-    pub taken-next : j < n → n ≤ 256 → t .end + j < length out₁ → (w : ℕ) → w ≡ i * 65536 + j
-        → OutRest (forEach (took i) (from 0 n)) (forEach (took i) (range (j + 1) n)) (j + 1) t (takenNumbers (j + 1) t) out (set out₁ (t .end + j) w)
-    unfolding takenNumbers
-    taken-next l m h w e =
-        blocks-next i n t out c l (took-did (takenNumbers j t) (takenNumbers (j + 1) t) out₁ i j w h (omega arith) e (omega arith) refl
-        (omega arith) refl refl (omega arith) refl)
-
     pub taken-end : j ≤ n → n ≤ j → (r : PickNumbers) → r ≡ takenNumbers n t → OutDid (forEach (took i) (from 0 n)) n t r out out₁
     taken-end l h r e =
         let k : n ≡ j = omega arith in
@@ -99,3 +99,24 @@ module _ (i n : ℕ) (t : PickNumbers) (out : List ℕ) where
     pub payload-end : j ≤ n → n ≤ j → OutDid (walk (took i) contiguousMet (from 0 n)) n t cur out out₁
     payload-end l h =
         out-end c n l (λ start d aside ignored loops. walk-none (took i) j n (stateOf start d cur out₁ aside ignored loops) contiguousMet h)
+
+-- the same, the numbers told by how many blocks there are
+module _ (i n : ℕ) (t : PickNumbers) (out : List ℕ) where
+  pub paid-start : OutRest (walk (took i) contiguousMet (from 0 n)) (walk (took i) contiguousMet (range 0 n)) 0 t (takenNumbers 0 t) out out
+  paid-start =
+      subst (λ (r : PickNumbers). OutRest (walk (took i) contiguousMet (from 0 n)) (walk (took i) contiguousMet (range 0 n)) 0 t r out out)
+      (sym (none-taken t)) (payload-start i n t out)
+
+  module _ {j : ℕ} {out₁ : List ℕ}
+      (c : OutRest (walk (took i) contiguousMet (from 0 n)) (walk (took i) contiguousMet (range j n)) j t (takenNumbers j t) out out₁) where
+    pub paid-stop : {out₂ : List ℕ} → j < n → OutDid (took i j) 1 (takenNumbers j t) (takenNumbers (j + 1) t) out₁ out₂
+        → (contiguousIsZero (contiguousOf (takenNumbers (j + 1) t)) && eqb (takenNumbers (j + 1) t .left) 0) ≡ true
+        → (r : PickNumbers) → r ≡ takenNumbers (j + 1) t → OutDid (walk (took i) contiguousMet (from 0 n)) n t r out out₂
+    paid-stop {out₂ = out₂} l y e r k =
+        subst (λ (v : PickNumbers). OutDid (walk (took i) contiguousMet (from 0 n)) n t v out out₂) (sym k) (payload-stop i n t out c l y e)
+
+    pub paid-end : j ≤ n → n ≤ j → (r : PickNumbers) → r ≡ takenNumbers n t → OutDid (walk (took i) contiguousMet (from 0 n)) n t r out out₁
+    paid-end l h r e =
+        let k : n ≡ j = omega arith in
+        subst (λ (v : PickNumbers). OutDid (walk (took i) contiguousMet (from 0 n)) n t v out out₁) (sym (e ∙ ap (λ (m : ℕ). takenNumbers m t) k))
+        (payload-end i n t out c l h)

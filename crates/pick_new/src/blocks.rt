@@ -1,14 +1,14 @@
 // The first blocks of one piece, appended.
 use pick_state::PickNumbers;
-use pick_state::contiguous_met;
-use pick_state::take;
 use types::usize_to_u64;
 ghost use mathlib.Core.Path.{_≡_};
 ghost use Prim.Native.Nat.{_+_, _-_, _≤_, _<_};
+ghost use mathlib.Core.Bool.{_&&_};
+ghost use lib.Dec.{eqb};
 ghost use lib.ListN.{length};
 ghost use Rattle.model.specs.Lists.{from, forEach, walk};
-ghost use Rattle.model.specs.pick.Blocks.{took, contiguousMet};
-ghost use Rattle.pick_state.specs.PickStates.{OutDid};
+ghost use Rattle.model.specs.pick.Blocks.{took, contiguousIsZero, contiguousMet};
+ghost use Rattle.pick_state.specs.PickStates.{contiguousOf, OutDid};
 ghost use Rattle.pick_new.specs.Taken.{takenNumbers};
 
 // n less, and none where there are fewer.
@@ -54,20 +54,30 @@ pub fn take_blocks(out: &mut [u64], t: PickNumbers, i: usize, n: usize) -> PickN
     taken(t, n)
 }
 
+// After n blocks more exactly the run has been given, and no block is wanted.
+fn met_after(t: PickNumbers, n: usize) -> bool
+    requires { ⌜ t .given + n < 18446744073709551616 ⌝ }
+    ensures { λ r. ⌜ r ≡ (contiguousIsZero (contiguousOf (takenNumbers n t)) && eqb (takenNumbers n t .left) 0) ⌝ }
+{
+    let left = less_by(t.left, n);
+    (t.asked == t.given + n) & (left == 0)
+}
+
 // The same, up to where the run and the blocks wanted are met.
 pub fn take_payload(out: &mut [u64], t: PickNumbers, i: usize, n: usize) -> PickNumbers
     requires { ⌜ (t .end + n ≤ length (now out)) × (t .given + n < 4294967296) ⌝ }
     requires { ⌜ (i < 4096) × (n ≤ 256) ⌝ }
     ensures { λ r. ⌜ OutDid (walk (took i) contiguousMet (from 0 n)) n t r (now (out .entry)) (now (out .exit)) ⌝ }
 {
-    let mut cur = t;
+    let end = t.end;
+    let base = i * 65536;
     let mut j = 0;
     while j < n {
-        cur = take(out, cur, i, j);
-        if contiguous_met(cur) {
-            return cur;
-        }
+        out[end + j] = usize_to_u64(base + j);
         j += 1;
+        if met_after(t, j) {
+            return taken(t, j);
+        }
     }
-    cur
+    taken(t, n)
 }

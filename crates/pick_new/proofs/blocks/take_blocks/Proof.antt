@@ -6,7 +6,7 @@ use Rattle.model.specs.Lists.{from, range, forEach}
 use Rattle.model.specs.pick.Blocks.{took}
 use Rattle.pick_state.proofs.RestLaws.{OutRest}
 use Rattle.pick_new.specs.Taken.{takenNumbers}
-use Rattle.pick_new.proofs.BlockLaws.{taken-start, taken-next, taken-end}
+use Rattle.pick_new.proofs.BlockLaws.{blocks-next, taken-start, taken-step, taken-end}
 use Rattle.pick_new.proofs.blocks.take_blocks.Statement.{statement}
 use Rattle.pick_new.proofs.blocks.take_blocks.Tie as tie
 
@@ -51,7 +51,7 @@ loop-again c =
     let k = v .1 .kept .long in
     let l = c .before .loop-test .taken in
     let p = c .before .before .before .before .pre in
-    (omega arith, taken-next _ _ _ _ (v .1) l (p .1 .1) (omega (arith, p .0 .0)) _ (c .usize-to-u64 .ensures))
+    (omega arith, blocks-next _ _ _ _ (v .1) l (taken-step _ _ _ _ (omega (arith, p .1 .1)) (omega (arith, p .0 .0)) _ (c .usize-to-u64 .ensures)))
 
 taken-requires : tie.Need-taken-requires Inv-loop μ-loop
 taken-requires c κs = let p = c .before .before .before .pre in (omega (arith, p .0 .0), omega (arith, p .0 .1))
