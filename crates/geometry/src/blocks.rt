@@ -7,7 +7,7 @@ use crate::pieces::piece_size;
 use types::BLOCK_SIZE;
 use types::PieceIndex;
 ghost use mathlib.Core.Path.{_≡_};
-ghost use Prim.Native.Nat.{_<_};
+ghost use Prim.Native.Nat.{_/_, _<_};
 ghost use Rattle.types.specs.Piece.{numberOf};
 ghost use Rattle.model.specs.Bep3.{numPieces, blockLength, blockLengthAt, blockCount, wholePieceBlocks, pieceBlocks};
 ghost use Rattle.geometry.specs.Numbers.{payloadBlocks};
@@ -52,13 +52,24 @@ pub fn blocks_in_piece(total: u64, size: u64, piece: PieceIndex) -> u64
     blocks_at(total, size, number_of(piece))
 }
 
+// The blocks that so many bytes fill whole. The divisor is a constant where pieces are longer than a block.
+fn blocks_filled(bytes: u64, size: u64) -> u64
+    requires { ⌜ 0 < size ⌝ }
+    ensures { λ r. ⌜ r ≡ bytes / blockLength size ⌝ }
+{
+    if BLOCK_SIZE < size {
+        return bytes / BLOCK_SIZE;
+    }
+    bytes / size
+}
+
 // The blocks of a piece without those that `pad` bytes fill whole; 0 where pads would fill more than there are.
 pub fn payload_blocks_in_piece(total: u64, size: u64, piece: PieceIndex, pad: u64) -> u64
     requires { ⌜ numberOf (piece .0) < numPieces total size ⌝ }
     ensures { λ r. ⌜ r ≡ payloadBlocks total size (numberOf (piece .0)) pad ⌝ }
 {
     let blocks = blocks_in_piece(total, size, piece);
-    let pads = pad / block_size(size);
+    let pads = blocks_filled(pad, size);
     if pads < blocks { blocks - pads } else { 0 }
 }
 
