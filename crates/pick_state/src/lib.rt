@@ -9,7 +9,6 @@ pub use counters::count;
 pub use numbers::PickNumbers;
 pub use numbers::contiguous_above;
 pub use numbers::contiguous_is_zero;
-pub use numbers::contiguous_met;
 pub use numbers::contiguous_over;
 pub use numbers::flagged;
 pub use numbers::shorter;

@@ -66,14 +66,7 @@ pub fn contiguous_above(t: PickNumbers, n: usize) -> bool
     t.given + n < t.asked
 }
 
-// Exactly the run has been given, and no block is wanted.
-pub fn contiguous_met(t: PickNumbers) -> bool
-    ensures { λ r. ⌜ r ≡ (contiguousIsZero (contiguousOf t) && eqb (t .left) 0) ⌝ }
-{
-    (t.asked == t.given) & (t.left == 0)
-}
-
-// The same, or more than the run.
+// Exactly the run has been given, or more, and no block is wanted.
 pub fn contiguous_over(t: PickNumbers) -> bool
     requires { ⌜ t .given < 4294967296 ⌝ }
     ensures { λ r. ⌜ r ≡ (not (contiguousAbove 0 (contiguousOf t)) && eqb (t .left) 0) ⌝ }
