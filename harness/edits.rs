@@ -5,7 +5,7 @@ use crate::records::DownloadingPiece;
 
 /// A record in the place of its piece's.
 pub fn replace(live: &mut [DownloadingPiece], d: DownloadingPiece) -> bool {
-    let k = seek(live, |other| other.index == d.index);
+    let k = seek(live, d.index, |other| other.index == d.index);
     let fits = k < live.len();
     if fits {
         live[k] = d;
@@ -16,7 +16,7 @@ pub fn replace(live: &mut [DownloadingPiece], d: DownloadingPiece) -> bool {
 /// A record put in before those of higher pieces; the last place is free.
 pub fn insert(live: &mut [DownloadingPiece], d: DownloadingPiece) -> bool {
     let n = live.len() - 1;
-    let q = seek(&live[..n], |other| d.index < other.index);
+    let q = seek(&live[..n], d.index, |other| d.index < other.index);
     if q > 0 && live[q - 1].index == d.index {
         return false;
     }
@@ -42,7 +42,7 @@ fn open_gap(live: &mut [DownloadingPiece], i: usize, n: usize) {
 
 /// The piece's record taken out; the last one then stands twice.
 pub fn remove(live: &mut [DownloadingPiece], piece: u32) -> bool {
-    let q = seek(live, |other| other.index == piece);
+    let q = seek(live, piece, |other| other.index == piece);
     if live.len() <= q {
         return false;
     }
@@ -78,7 +78,7 @@ fn write_four(live: &mut [DownloadingPiece], k: usize, [a, b, c, d]: [Downloadin
     put(live, k + 3, d);
 }
 
-/// Field by field, so that four are read into registers. The place is one of the slice: `open_gap` and `close_gap` ask for no other.
+/// Field by field, so that four are read into registers. The place is one of the slice: nothing here asks for another.
 #[inline(always)]
 fn get(live: &[DownloadingPiece], k: usize) -> DownloadingPiece {
     let d = unsafe { live.get_unchecked(k) };
@@ -91,7 +91,29 @@ fn put(live: &mut [DownloadingPiece], k: usize, d: DownloadingPiece) {
     (place.index, place.info_idx, place.flags) = (d.index, d.info_idx, d.flags);
 }
 
-/// The first record that passes, or their number.
-fn seek(live: &[DownloadingPiece], passes: impl Fn(&DownloadingPiece) -> bool) -> usize {
-    live.iter().position(passes).unwrap_or(live.len())
+/// The first record that passes, or their number. None of a lower piece passes.
+fn seek(live: &[DownloadingPiece], piece: u32, passes: impl Fn(DownloadingPiece) -> bool) -> usize {
+    let mut k = skip_lower(live, piece);
+    while k < live.len() {
+        if passes(get(live, k)) {
+            break;
+        }
+        k += 1;
+    }
+    k
+}
+
+/// A place before which all records are of lower pieces.
+fn skip_lower(live: &[DownloadingPiece], piece: u32) -> usize {
+    let higher = |a: u32, b: u32| if a < b { b } else { a };
+    let mut k = 0;
+    while k + 4 <= live.len() {
+        let [a, b, c, d] = read_four(live, k);
+        let (low, high) = (higher(a.index, b.index), higher(c.index, d.index));
+        if piece <= higher(low, high) {
+            break;
+        }
+        k += 4;
+    }
+    k
 }

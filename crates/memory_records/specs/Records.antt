@@ -42,6 +42,10 @@ seekFrom t k ds piece = firstFrom (λ i. eqb (getD ds i noRecord .index) piece) 
 abbrev pub aboveFrom : (t k : ℕ) (ds : List DownloadingPiece) (piece : ℕ) → ℕ
 aboveFrom t k ds piece = firstFrom (λ i. ltb piece (getD ds i noRecord .index)) t k
 
+-- r is among the first n places, and the records before it are of lower pieces
+abbrev pub Skipped : (n piece : ℕ) (ds : List DownloadingPiece) (r : ℕ) → Type 0
+Skipped n piece ds r = (r ≤ n) × ((k : ℕ) → k < r → getD ds k noRecord .index < piece)
+
 -- t records from place i on, the last one first, each to the place after its own
 abbrev pub openGap : (t i : ℕ) (ds : List DownloadingPiece) → List DownloadingPiece
 openGap zero i ds = ds
