@@ -1,7 +1,7 @@
 //! Times the proved changes on a picker in lent buffers, without the memory test, against the Rust's: a count up or down, a priority set
 //! to 0 and back, a block asked for and given back, a piece opened and closed, a piece passed and flushed. `harness/bench` builds and
 //! runs it. A line for each size: microseconds here, and the ratio to the Rust. Both sides start from one picker, make the same calls
-//! with the same draws, and have to end with the same image.
+//! with the same draws, and have to end with the same image. At the end stand parts of opening and closing in plain Rust.
 
 #[allow(dead_code)]
 mod edits;
@@ -10,6 +10,7 @@ mod lent;
 mod linked_changes;
 #[allow(dead_code)]
 mod list_operations;
+mod opening_parts;
 #[allow(dead_code)]
 mod picker;
 mod records;
@@ -25,10 +26,11 @@ use bitdaemon_common::{DownloadPriority, PieceBlock, PieceIndex};
 use lent::Lent;
 use linked_changes::Tested;
 use list_operations::Geometry;
+use opening_parts::{counted_place, insert_rising, marked_place, remove_rising};
 use oracle::image::Fields;
 use oracle::piece_picker::{PickerOptions, PiecePicker};
 use oracle::script::Change;
-use records::unpack;
+use records::{unpack, DownloadingPiece};
 use rng::Rng;
 use sizes::{At, Size};
 use std::hint::black_box;
@@ -67,6 +69,14 @@ impl Clock {
         let microsecond = (ticks() - first) as f64 / since(start);
         let nothing = (0..100_000).map(|_| ticks()).scan(ticks(), |last, now| Some(now - std::mem::replace(last, now)));
         Clock { microsecond, nothing: nothing.min().unwrap_or(0) }
+    }
+
+    /// The ticks that f takes.
+    #[inline(always)]
+    fn of<T>(&self, f: impl FnOnce() -> T) -> u64 {
+        let start = ticks();
+        black_box(f());
+        (ticks() - start).saturating_sub(self.nothing)
     }
 
     /// Microseconds of a change, on average over the pieces of a round. Where rows move, each is timed alone.
@@ -294,10 +304,52 @@ fn marked(size: Size, clock: &Clock) -> [Best; 5] {
     best
 }
 
+/// Parts of opening and closing in plain Rust, on the same buffers: the free place, a record put in, one taken out. Each as where nothing is
+/// known of places and order, then as where it is.
+fn parts(size: Size, clock: &Clock) -> [Best; 3] {
+    let Proved { mut lent, .. } = Proved::new(&size.fields(&[]));
+    let (live, pieces, mut best) = (lent.live(), size.open_pieces(), [NONE_YET; 3]);
+    for _ in 0..ROUNDS {
+        let mut ticks = [[0; 2]; 3];
+        for at in &pieces {
+            let d = DownloadingPiece { index: at.piece as u32, info_idx: live as u32, flags: 0 };
+            let (rows, records) = (&lent.rows, &mut lent.partials[..live + 1]);
+            ticks[0][0] += clock.of(|| marked_place(black_box(rows), live));
+            ticks[0][1] += clock.of(|| counted_place(black_box(rows), live));
+            ticks[1][0] += clock.of(|| edits::insert(black_box(records), d));
+            ticks[2][0] += clock.of(|| edits::remove(black_box(records), d.index));
+            ticks[1][1] += clock.of(|| insert_rising(black_box(records), d));
+            ticks[2][1] += clock.of(|| remove_rising(black_box(records), d.index));
+        }
+        for (best, ticks) in best.iter_mut().zip(ticks) {
+            *best = least(*best, ticks.map(|sum| sum as f64 / pieces.len() as f64 / clock.microsecond));
+        }
+    }
+    best
+}
+
 fn print(size: Size, times: &[Best]) {
     print!("{:6} {:3} {:8} {:6}", size.n, size.b, size.partials, size.groups());
     for [ours, theirs] in times {
         print!(" {ours:7.3} {:5.2}", ours / theirs);
+    }
+    println!();
+}
+
+/// Opening and closing, beside their parts in plain Rust.
+fn print_parts(size: Size, clock: &Clock) {
+    let mut sides = Sides::new(size, clock, &[]);
+    let mut best = [NONE_YET; 2];
+    for _ in 0..ROUNDS {
+        sides.round::<Open>(&mut best[0]);
+        sides.round::<Close>(&mut best[1]);
+    }
+    sides.check();
+    let [open, close] = best;
+    let [place, put_in, taken_out] = parts(size, clock);
+    print!("{:6} {:3} {:8}", size.n, size.b, size.partials);
+    for time in [open, place, put_in, close, taken_out].concat() {
+        print!(" {time:7.3}");
     }
     println!();
 }
@@ -315,5 +367,9 @@ fn main() {
     for (n, b, partials) in SIZES {
         let size = Size { n, b, partials, most: 23, one_group: false };
         print(size, &marked(size, &clock));
+    }
+    println!("pieces   b partials      open, the Rust, place marked, counted, put in, in a block   close, the Rust, taken out, in a block");
+    for (n, b, partials) in SIZES {
+        print_parts(Size { n, b, partials, most: 23, one_group: false }, &clock);
     }
 }

@@ -53,7 +53,7 @@ pub fn add_download_piece(
     let many = blocks_in_piece(words, s, i);
     let payload = payload_blocks(words, s, i);
     let t = fresh_tally(many, payload);
-    let partial = add_partial(words, cells, rows, live, s, i);
+    let partial = add_partial(words, cells, rows, live, s, i, many, payload);
     let next = update_piece_state(words, cells, s, i, t, draws, used);
     Opening {
         partial: partial,

@@ -1,7 +1,7 @@
 -- The places that live records have, marked; the lowest that is free is there, and is no record's. Assumes nothing.
 use mathlib.Core.Path.{_≡_, refl, sym, ap, subst, _∙_}
 use mathlib.Core.Logic.{_≢_}
-use mathlib.Core.Bool.{Bool, true, false, cond, not, _||_, or-true, or-false}
+use mathlib.Core.Bool.{Bool, true, false, cond, not, _&&_, _||_, or-true, or-false}
 use mathlib.Core.List.{List, [], _∷_, _++_}
 use Prim.Native.Nat.{ℕ, zero, suc, _+_, _-_, _≤_, _<_}
 use native.Mathlib.Nat.{le-of-suc-le-suc, not-suc-le-zero}
@@ -13,6 +13,7 @@ use lib.ListN.{length, getD, set, take, replicate, length-replicate, getD-replic
 use lib.Seq.{getD-set-same, getD-set-other}
 use borrow.Author.Tests.{eq-eqb, ne-eqb, not-true, not-false, eqb-false}
 use Rattle.model.specs.Lists.{len, any, filter, member}
+use Rattle.model.proofs.base.Truths.{both-true}
 use Rattle.memory_records.specs.declared.record.DownloadingPiece.{DownloadingPiece as Record}
 use Rattle.memory_records.specs.Records.{noRecord, placeOf, firstFrom}
 use Rattle.memory_records.specs.Rows.{rowAt, recordsIn}
@@ -20,7 +21,7 @@ use Rattle.memory_records.proofs.laws.RowLaws.{records-at}
 use Rattle.memory_layout.specs.Tables.{tabulate}
 use Rattle.memory_layout.specs.Decode.{recordAt}
 use Rattle.memory_layout.proofs.TableLaws.{tabulate-more, tabulate-len}
-use Rattle.memory_partials.specs.Places.{placesTaken, lowestFree, Marked, unmarkedFrom}
+use Rattle.memory_partials.specs.Places.{placesTaken, lowestFree, Marked, unmarkedFrom, markedThrough}
 use Rattle.memory_partials.proofs.RecordLaws.{at-live}
 
 -- ---- marks
@@ -128,6 +129,36 @@ module _ (marks : List Bool) where
     where
       whole : n - 0 ≡ n
       whole = omega arith
+
+-- ---- a stretch of places
+module _ (marks : List Bool) where
+  pub through-start : (p : ℕ) → true ≡ markedThrough marks 0 p
+  unfolding markedThrough
+  through-start p = refl
+
+  pub through-end : (k t p : ℕ) → k ≡ t → markedThrough marks k p ≡ markedThrough marks t p
+  through-end k t p e = ap (λ (n : ℕ). markedThrough marks n p) e
+
+  pub through-more : (k p : ℕ) → (markedThrough marks k p && getD marks (p + k) false) ≡ markedThrough marks (k + 1) p
+  unfolding markedThrough
+  through-more k p = rw add-one refl
+
+  -- where all of its places are marked, the search goes on behind it
+  pub through-goes : (t n p : ℕ) → p + t ≤ n → markedThrough marks t p ≡ true
+      → unmarkedFrom marks (n - p) p ≡ unmarkedFrom marks (n - (p + t)) (p + t)
+  unfolding markedThrough
+  through-goes zero n p h e = ap (λ (q : ℕ). unmarkedFrom marks (n - q) q) same
+    where
+      same : p ≡ p + 0
+      same = omega arith
+  through-goes (suc t) n p h e =
+      let b = both-true (markedThrough marks t p) (getD marks (p + t) false) e in
+      through-goes t n p (omega arith) (b .0)
+      ∙ unmarked-goes marks n (p + t) (omega arith) (b .1)
+      ∙ ap (λ (q : ℕ). unmarkedFrom marks (n - q) q) next
+    where
+      next : (p + t) + 1 ≡ p + suc t
+      next = omega arith
 
 pub lowest-is : (taken : List ℕ) (marks : List Bool) (places : ℕ) → Marked taken marks → places ≤ 512
     → unmarkedFrom marks places 0 ≡ lowestFree places taken

@@ -1,7 +1,7 @@
 -- The place that a partial takes: free places are not stored, a place is free where no live record has it. Assumes nothing.
-use Prim.Native.Nat.{ℕ, _<_}
+use Prim.Native.Nat.{ℕ, zero, suc, _+_, _<_}
 use mathlib.Core.Path.{_≡_}
-use mathlib.Core.Bool.{Bool, false, not}
+use mathlib.Core.Bool.{Bool, true, false, not, _&&_}
 use mathlib.Core.List.{List}
 use lib.ListN.{length, getD}
 use Rattle.model.specs.Lists.{member}
@@ -29,3 +29,8 @@ pub record Marked (taken : List ℕ) (marks : List Bool) : Type 0 where
 -- the first of t places from p on without a mark, or the place behind them
 unfoldable pub unmarkedFrom : (marks : List Bool) (t p : ℕ) → ℕ
 unmarkedFrom marks t p = firstFrom (λ q. not (getD marks q false)) t p
+
+-- t places from p on are all marked
+unfoldable pub markedThrough : (marks : List Bool) (t p : ℕ) → Bool
+markedThrough marks zero p = true
+markedThrough marks (suc t) p = markedThrough marks t p && getD marks (p + t) false

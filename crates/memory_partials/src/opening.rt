@@ -68,7 +68,7 @@ fn fresh_blocks(cells: &mut [u16], s: Shape, p: usize, many: usize, payload: usi
     }
 }
 
-// The record of a partial for piece i. With it put in, the partial stands; the piece's state is a later store's.
+// The record of a partial for piece i, which has `many` blocks, `payload` of them with more than pad bytes. With it put in, the partial stands; the piece's state is a later store's.
 pub fn add_partial(
     words: &mut [u64],
     cells: &mut [u16],
@@ -76,16 +76,17 @@ pub fn add_partial(
     live: usize,
     s: Shape,
     i: usize,
+    many: usize,
+    payload: usize,
 ) -> DownloadingPiece
     requires { ⌜ InBounds s (recordsIn live (now rows)) (now words) (now cells) ⌝ }
     requires { ⌜ (live ≡ headWord (now words) 7) × (live < s .places) × (length (now rows) ≡ 1536) ⌝ }
     requires { ⌜ i < s .pieces ⌝ }
+    requires { ⌜ (many ≡ blocksOf (now words) i) × WordsSay s (now words) (λ d. payloadBlocksInPiece d i) payload ⌝ }
     ensures { λ r. ⌜ Opened s i live (now (rows .entry)) (now (words .entry)) (now (cells .entry)) (now (words .exit))
         (now (cells .exit)) r ⌝ }
 {
     let p = free_place(rows, live, s);
-    let many = blocks_in_piece(words, s, i);
-    let payload = payload_blocks(words, s, i);
     fresh_blocks(cells, s, p, many, payload);
     set_head_word(words, 7, usize_to_u64(live + 1));
     DownloadingPiece {

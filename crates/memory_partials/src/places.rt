@@ -4,10 +4,10 @@ use memory_records::row;
 use types::u32_to_usize;
 ghost use mathlib.Core.Path.{_≡_};
 ghost use mathlib.Core.List.{[]};
-ghost use Prim.Native.Nat.{_<_, _≤_};
+ghost use Prim.Native.Nat.{_+_, _-_, _<_, _≤_};
 ghost use lib.ListN.{length};
 ghost use Rattle.memory_layout.specs.Bounds.{Sizes};
-ghost use Rattle.memory_partials.specs.Places.{placesTaken, PlacesBelow, lowestFree, Marked, unmarkedFrom};
+ghost use Rattle.memory_partials.specs.Places.{placesTaken, PlacesBelow, lowestFree, Marked, unmarkedFrom, markedThrough};
 
 // A mark for each place that one of the first `live` rows has.
 fn mark_places(marks: &mut [bool; 512], rows: &[u32], live: usize)
@@ -25,12 +25,41 @@ fn mark_places(marks: &mut [bool; 512], rows: &[u32], live: usize)
     }
 }
 
+// Whether the 32 places from p on are all marked. The loop has no way out, so that many marks are taken at a time.
+fn stretch_marked(marks: &[bool; 512], p: usize) -> bool
+    requires { ⌜ (p + 32 ≤ 512) × (length (now marks) ≡ 512) ⌝ }
+    ensures { λ r. ⌜ r ≡ markedThrough (now (marks .entry)) 32 p ⌝ }
+{
+    let mut all = true;
+    let mut k = 0;
+    while k < 32 {
+        all = all & marks[p + k];
+        k += 1;
+    }
+    all
+}
+
+// The place behind the marked stretches at the front: the search may start there.
+fn first_stretch(marks: &[bool; 512], places: usize) -> usize
+    requires { ⌜ (places ≤ 512) × (length (now marks) ≡ 512) ⌝ }
+    ensures { λ r. ⌜ (r ≤ places) × (unmarkedFrom (now (marks .entry)) (places - r) r ≡ unmarkedFrom (now (marks .entry)) places 0) ⌝ }
+{
+    let mut p = 0;
+    while p + 32 <= places {
+        if !stretch_marked(marks, p) {
+            return p;
+        }
+        p += 32;
+    }
+    p
+}
+
 // The first of so many places without a mark, or their number.
 fn first_unmarked(marks: &[bool; 512], places: usize) -> usize
     requires { ⌜ (places ≤ 512) × (length (now marks) ≡ 512) ⌝ }
     ensures { λ r. ⌜ r ≡ unmarkedFrom (now (marks .entry)) places 0 ⌝ }
 {
-    let mut p = 0;
+    let mut p = first_stretch(marks, places);
     while p < places {
         if !marks[p] {
             return p;

@@ -12,12 +12,17 @@ pub struct DownloadingPiece {
     pub flags: u32,
 }
 
-// The record at place i.
+// The record at place i, field by field, so that what reads several before it writes has them in registers.
 pub fn get(partials: &[DownloadingPiece], i: usize) -> DownloadingPiece
     requires { ⌜ i < length (now partials) ⌝ }
     ensures { λ r. ⌜ r ≡ getD (now (partials .entry)) i noRecord ⌝ }
 {
-    partials[i]
+    let d = partials[i];
+    DownloadingPiece {
+        index: d.index,
+        info_idx: d.info_idx,
+        flags: d.flags,
+    }
 }
 
 // Place i holds d.

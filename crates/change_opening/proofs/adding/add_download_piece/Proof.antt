@@ -31,7 +31,10 @@ add-partial-requires c κs =
     let a = o .args in
     let r = o .pre .1 in (
       rows-bounds (a .s) (a .i) (a .live) (a .rows .now) (a .words .now) (a .cells .now) (o .pre .0),
-      ((o .pre .0 .stands .count, r .0 .0, r .0 .1), r .1 .0),
+      (
+        (o .pre .0 .stands .count, r .0 .0, r .0 .1),
+        (r .1 .0, (c .before .before .before .before .before .blocks-in-piece .ensures, c .before .before .before .payload-blocks .ensures)),
+      ),
     )
 
 update-piece-state-requires : tie.Need-update-piece-state-requires

@@ -13,26 +13,11 @@ free-place-requires c κs =
     let q = c .before .before .before .pre in
     (q .0 .spans .inWords .sizes, ((q .1 .0 .1, q .1 .0 .2), rows-below _ _ _ _ _ (q .0) (q .1 .0 .0)))
 
-blocks-in-piece-requires : tie.Need-blocks-in-piece-requires
-blocks-in-piece-requires c κs =
-    let q = c .before .before .before .before .before .pre in
-    ((q .0 .spans .inWords, bounds-shape _ _ _ _ (q .0)), q .1 .1)
-
-payload-blocks-requires : tie.Need-payload-blocks-requires
-payload-blocks-requires c κs =
-    let q = c .before .before .before .before .before .before .before .pre in
-    ((q .0 .spans .inWords, bounds-shape _ _ _ _ (q .0)), q .1 .1)
-
 fresh-blocks-requires : tie.Need-fresh-blocks-requires
 fresh-blocks-requires c κs =
-    let c3 = c .before .before .before in
-    let c5 = c3 .before .before in
-    let c9 = c5 .before .before .before .before in (
-      c9 .pre .0 .spans .inCells,
-      (
-        c5 .free-place .ensures .1,
-        omega (arith, c3 .blocks-in-piece .ensures, blocks-within _ _ _ _ (c9 .pre .0) (c9 .args .i)),
-      ),
+    let c5 = c .before .before .before .before .before in (
+      c5 .pre .0 .spans .inCells,
+      (c .before .free-place .ensures .1, omega (arith, c5 .pre .1 .1 .1 .0, blocks-within _ _ _ _ (c5 .pre .0) (c5 .args .i))),
     )
 
 add-usize-to-u64 : tie.Need-add-usize-to-u64
@@ -44,8 +29,8 @@ usize-to-u64-requires c κs = search needs
 set-head-word-requires : tie.Need-set-head-word-requires
 set-head-word-requires c κs =
     let c6 = c .before .before .before .before .before .before in
-    let c14 = c6 .before .before .before .before .before .before .before .before in
-    (head-in _ _ (c14 .pre .0 .spans .inWords), omega arith)
+    let c10 = c6 .before .before .before .before in
+    (head-in _ _ (c10 .pre .0 .spans .inWords), omega arith)
 
 usize-to-u32-requires : tie.Need-usize-to-u32-requires
 usize-to-u32-requires c κs = search needs
@@ -53,13 +38,13 @@ usize-to-u32-requires c κs = search needs
 usize-to-u32-requires-2 : tie.Need-usize-to-u32-requires-2
 usize-to-u32-requires-2 c κs =
     let c7 = c .before .before .before .before .before .before .before in
-    let c14 = c7 .before .before .before .before .before .before .before in
-    let c18 = c14 .before .before .before .before in
+    let c10 = c7 .before .before .before in
+    let c14 = c10 .before .before .before .before in
     omega (
       arith,
-      c14 .free-place .ensures .1,
-      c18 .pre .0 .spans .inWords .sizes .places,
-      places-min (c18 .args .s .pieces),
+      c10 .free-place .ensures .1,
+      c14 .pre .0 .spans .inWords .sizes .places,
+      places-min (c14 .args .s .pieces),
     )
 
 same-length : tie.Need-same-length
@@ -74,21 +59,17 @@ returns c =
     let c5 = c4 .before in
     let c9 = c5 .before .before .before .before in
     let c11 = c9 .before .before in
-    let c13 = c11 .before .before in
-    let c15 = c13 .before .before in
-    let c19 = c15 .before .before .before .before in
-    let q = c19 .pre in
-    opened-all _ _ _ _ _ _ _ _ _ _ _ _ _ (q .0) (q .1 .0 .0) (q .1 .0 .1) (c15 .free-place .ensures .0) (c15 .free-place .ensures .1)
-    (c13 .blocks-in-piece .ensures) (c11 .payload-blocks .ensures) (c9 .fresh-blocks .ensures) (c5 .usize-to-u64 .ensures)
-    (c4 .set-head-word .ensures) (c .before .usize-to-u32 .ensures) (c .usize-to-u322 .ensures) refl
+    let c15 = c11 .before .before .before .before in
+    let q = c15 .pre in
+    opened-all _ _ _ _ _ _ _ _ _ _ _ _ _ (q .0) (q .1 .0 .0) (q .1 .0 .1) (c11 .free-place .ensures .0) (c11 .free-place .ensures .1)
+    (q .1 .1 .1 .0) (q .1 .1 .1 .1) (c9 .fresh-blocks .ensures) (c5 .usize-to-u64 .ensures) (c4 .set-head-word .ensures)
+    (c .before .usize-to-u32 .ensures) (c .usize-to-u322 .ensures) refl
 
 pub add-partial-spec : {M : Type 1} → statement M
 add-partial-spec =
     tie.close
     (tie.spec
     free-place-requires
-    blocks-in-piece-requires
-    payload-blocks-requires
     fresh-blocks-requires
     add-usize-to-u64
     usize-to-u64-requires

@@ -4,7 +4,7 @@ use mathlib.Core.Path.{_≡_, sym, _∙_}
 use borrow.Author.Tests.{not-true, not-false}
 use native.Mathlib.Omega.{arith}
 use Rattle.memory_partials.specs.Places.{unmarkedFrom}
-use Rattle.memory_partials.proofs.PlaceLaws.{unmarked-starts, unmarked-stops, unmarked-goes, unmarked-ends}
+use Rattle.memory_partials.proofs.PlaceLaws.{unmarked-stops, unmarked-goes, unmarked-ends}
 use borrow.Author.Needs.{needs}
 use Rattle.memory_partials.proofs.places.first_unmarked.Statement.{statement}
 use Rattle.memory_partials.proofs.places.first_unmarked.Tie as tie
@@ -16,8 +16,11 @@ Inv-loop marks places p₀ p = (p ≤ places)
 abbrev μ-loop : tie.MeasureT-loop
 μ-loop marks places p₀ p = places - p
 
+first-stretch-requires : tie.Need-first-stretch-requires Inv-loop μ-loop
+first-stretch-requires c κs = c .pre
+
 loop-holds : tie.Need-loop-holds Inv-loop μ-loop
-loop-holds c = (omega arith, unmarked-starts _ _)
+loop-holds c = c .first-stretch .ensures
 
 element-copy-out-if1 : tie.Need-element-copy-out-if1 Inv-loop μ-loop
 element-copy-out-if1 c = search needs
@@ -47,6 +50,7 @@ first-unmarked-spec =
     (tie.spec
     Inv-loop
     μ-loop
+    first-stretch-requires
     loop-holds
     element-copy-out-if1
     returns
