@@ -6,8 +6,9 @@ use native.Mathlib.Decide.{ℕ-discrete}
 use native.Mathlib.Omega.{arith}
 use lib.ListN.{length, getD, set, length-set}
 use lib.Seq.{getD-set-same, getD-set-other}
+use Rattle.model.specs.image.Image.{field}
 use Rattle.image_bytes.specs.Put.{FieldRead}
-use Rattle.image_lay.specs.Laid.{fieldsAt, Within, Elsewhere, Laid}
+use Rattle.image_lay.specs.Laid.{fieldsAt, Within, Elsewhere, Laid, LaidThree}
 
 pub laid-start : (start : ℕ) (f : ℕ → ℕ) (l : List ℕ) → Laid start 0 f l l
 laid-start start f l = record { long = refl; inside = λ j h. absurd (omega arith); other = λ q e. refl }
@@ -33,6 +34,64 @@ laid-end start j many f a b p e = rw e at p
 pub field-is : (first step w : ℕ) (bytes : List ℕ) (j r : ℕ) → FieldRead (first + step * j) w bytes r → r ≡ fieldsAt first step w bytes j
 unfolding fieldsAt
 field-is first step w bytes j r f = f .is
+
+-- one that was read in a record's place is
+pub record-field-is : (start k step w : ℕ) (bytes : List ℕ) (j r : ℕ) → FieldRead (start + step * j + k) w bytes r
+    → r ≡ fieldsAt (start + k) step w bytes j
+unfolding fieldsAt
+record-field-is start k step w bytes j r f =
+    let e : start + step * j + k ≡ start + k + step * j = omega arith in
+    f .is ∙ ap (λ (p : ℕ). field p w bytes) e
+
+-- ---- three columns
+pub three-start : (x y z : ℕ) (f g h : ℕ → ℕ) (l : List ℕ) → LaidThree x y z 0 f g h l l
+three-start x y z f g h l = record {
+  long = refl;
+  first = λ j h. absurd (omega arith);
+  second = λ j h. absurd (omega arith);
+  third = λ j h. absurd (omega arith);
+  other = λ q d e i. refl;
+}
+
+-- a number of each more, where the columns stand apart
+module _ (x y z j many : ℕ) (f g h : ℕ → ℕ) (a b : List ℕ) (p : LaidThree x y z j f g h a b) (hj : j < many) (hx : x + many ≤ y)
+    (hy : y + many ≤ z) (hz : z + many ≤ length a) (u v w : ℕ) where
+  past : (q : ℕ) → (q ≡ x + j → ⊥) → (q ≡ y + j → ⊥) → (q ≡ z + j → ⊥)
+      → getD (set (set (set b (x + j) u) (y + j) v) (z + j) w) q 0 ≡ getD b q 0
+  past q d e i =
+      getD-set-other (set (set b (x + j) u) (y + j) v) (z + j) q w 0 i
+      ∙ getD-set-other (set b (x + j) u) (y + j) q v 0 e ∙ getD-set-other b (x + j) q u 0 d
+
+  pub three-next : u ≡ f j → v ≡ g j → w ≡ h j
+      → LaidThree x y z (j + 1) f g h a (set (set (set b (x + j) u) (y + j) v) (z + j) w)
+  three-next eu ev ew =
+      let b₁ = set b (x + j) u in
+      let b₂ = set b₁ (y + j) v in
+      let long₀ = p .long in
+      let long₁ = length-set b (x + j) u in
+      let long₂ = length-set b₁ (y + j) v in
+      record {
+        long = length-set b₂ (z + j) w ∙ long₂ ∙ long₁ ∙ long₀;
+        first = λ i l. elim (ℕ-discrete i j) [
+          | yes q ↦ rw q (getD-set-other b₂ (z + j) (x + j) w 0 (λ o. omega arith) ∙ getD-set-other b₁ (y + j) (x + j) v 0 (λ o. omega arith)
+              ∙ getD-set-same b (x + j) u 0 (omega arith) ∙ eu)
+          | no q ↦ past (x + i) (λ o. q (omega arith)) (λ o. omega arith) (λ o. omega arith) ∙ p .first i (omega (arith, q))
+        ];
+        second = λ i l. elim (ℕ-discrete i j) [
+          | yes q ↦ rw q (getD-set-other b₂ (z + j) (y + j) w 0 (λ o. omega arith) ∙ getD-set-same b₁ (y + j) v 0 (omega arith) ∙ ev)
+          | no q ↦ past (y + i) (λ o. omega arith) (λ o. q (omega arith)) (λ o. omega arith) ∙ p .second i (omega (arith, q))
+        ];
+        third = λ i l. elim (ℕ-discrete i j) [
+          | yes q ↦ rw q (getD-set-same b₂ (z + j) w 0 (omega arith) ∙ ew)
+          | no q ↦ past (z + i) (λ o. omega arith) (λ o. omega arith) (λ o. q (omega arith)) ∙ p .third i (omega (arith, q))
+        ];
+        other = λ q d e i.
+            past q (λ o. d j (omega arith) o) (λ o. e j (omega arith) o) (λ o. i j (omega arith) o)
+            ∙ p .other q (λ k l o. d k (omega arith) o) (λ k l o. e k (omega arith) o) (λ k l o. i k (omega arith) o);
+      }
+
+pub three-end : (x y z j many : ℕ) (f g h : ℕ → ℕ) (a b : List ℕ) → LaidThree x y z j f g h a b → j ≡ many → LaidThree x y z many f g h a b
+three-end x y z j many f g h a b p e = rw e at p
 
 -- ---- frames
 pub below-column : (start many q : ℕ) → q < start → Elsewhere start many q
