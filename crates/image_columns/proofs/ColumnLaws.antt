@@ -4,8 +4,7 @@ use mathlib.Core.Logic.{_⊎_, inl, inr, ⊎-elim}
 use mathlib.Core.List.{List}
 use Prim.Native.Nat.{ℕ, _+_, _-_, _*_, _≤_, _<_}
 use native.Mathlib.Omega.{arith}
-use lib.ListN.{length, getD, take, drop}
-use lib.Seq.{drop-drop}
+use lib.ListN.{length, getD}
 use Rattle.model.specs.Lists.{nth}
 use Rattle.model.specs.image.Image.{bodyLength, pieceKind, partialKind, blockKind, field}
 use Rattle.memory_layout.specs.declared.shape.Shape.{Shape}
@@ -15,21 +14,14 @@ use Rattle.memory_layout.specs.Bounds.{Spans}
 use Rattle.memory_layout.proofs.OffsetLaws.{cell-below, peer-from, peer-below, peer-place, block-cell-from, block-cell-below}
 use Rattle.memory_layout.proofs.OffsetLaws.{block-cell-place}
 use Rattle.image_bytes.specs.Put.{FieldRead}
-use Rattle.image_bytes.proofs.FieldLaws.{field-inside}
 use Rattle.image_lay.specs.Laid.{fieldsAt, Within, Elsewhere, Laid, LaidThree}
 use Rattle.image_lay.proofs.LaidLaws.{below-column, behind-column}
 use Rattle.image_records.specs.Records.{bodyAt}
+use Rattle.image_records.proofs.FrontLaws.{body-field, body-read}
 use Rattle.image_pieces.specs.Pieces.{piecePlace, pieceBody}
 use Rattle.image_columns.specs.Columns.{PiecesStored, blockBody, BlocksMoved, BlocksStored, flagsAt}
 
 -- ---- fields
--- a field of a record's body is the number in the bytes
-pub body-field : (kind at k w : ℕ) (bytes : List ℕ) → k + w ≤ bodyLength kind
-    → field k w (bodyAt kind at bytes) ≡ field (at + 1 + k) w bytes
-unfolding bodyAt
-body-field kind at k w bytes h =
-    ap (λ (l : List ℕ). field k w (take (bodyLength kind) l)) (drop-drop 1 at bytes) ∙ field-inside (at + 1) (bodyLength kind) k w bytes h
-
 -- one of a column
 column-field : (start many first step w : ℕ) (bytes after : List ℕ)
     → ((j : ℕ) → j < many → getD after (start + j) 0 ≡ fieldsAt first step w bytes j)
@@ -47,9 +39,7 @@ laid-field start many first step w bytes before after a = column-field start man
 -- the flags of a partial
 pub flags-read : (at place : ℕ) (bytes : List ℕ) (r : ℕ) → place ≡ at + 5 → FieldRead place 1 bytes r → r ≡ flagsAt at bytes
 unfolding flagsAt bodyLength nth
-flags-read at place bytes r e f =
-    let z : place ≡ at + 1 + 4 = omega arith in
-    f .is ∙ ap (λ (x : ℕ). field x 1 bytes) z ∙ sym (body-field partialKind at 4 1 bytes (omega arith))
+flags-read at place bytes r e f = body-read partialKind at 4 1 place bytes r (omega arith) (omega arith) f
 
 -- ---- the pieces
 pub pieces-stored : (n : ℕ) (bytes words cells words′ a b c d : List ℕ) → Laid 16 n (fieldsAt 30 10 4 bytes) words words′

@@ -1,3 +1,4 @@
 pub mod BlockLaws
 pub mod PartialLaws
 pub mod WalkLaws
+pub mod PassLaws

@@ -2,5 +2,7 @@
 mod blocks;
 mod partial;
 mod partials;
+mod pass;
+mod tally;
 
 pub use partials::read_partials;
