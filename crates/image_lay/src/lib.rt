@@ -1,4 +1,7 @@
 // A field of records that stand one after another in bytes, laid out as a column of a buffer: number j is read at `first` + `step` * j.
+mod quads;
+
+use crate::quads::lay_many;
 use image_bytes::read1;
 use image_bytes::read2;
 use image_bytes::read4;
@@ -47,9 +50,8 @@ pub fn lay4(bytes: &[u8], first: usize, step: usize, many: usize, words: &mut [u
     }
 }
 
-// `many` blocks from `start` on: their peers as words from v on; state, num_peers and has-peer as cells from x, y and z on. All four numbers
-// of a block are stored in one turn: column by column the compiler takes many blocks at once, which is slower for records of 13 bytes.
-pub fn lay_blocks(
+// All four numbers of a block in one turn: column by column the compiler takes many blocks at once, byte by byte, which is slower.
+fn lay_each(
     bytes: &[u8],
     start: usize,
     many: usize,
@@ -75,5 +77,31 @@ pub fn lay_blocks(
         cells[y + j] = u64_to_u16(read2(bytes, at + 2));
         cells[z + j] = u64_to_u16(read1(bytes, at + 4));
         j += 1;
+    }
+}
+
+// `many` blocks from `start` on: their peers as words from v on; state, num_peers and has-peer as cells from x, y and z on.
+pub fn lay_blocks(
+    bytes: &[u8],
+    start: usize,
+    many: usize,
+    words: &mut [u64],
+    v: usize,
+    cells: &mut [u16],
+    x: usize,
+    y: usize,
+    z: usize,
+)
+    requires { ⌜ (start + 13 * many ≤ length (now bytes)) × (v + many ≤ length (now words)) ⌝ }
+    requires { ⌜ (x + many ≤ y) × (y + many ≤ z) × (z + many ≤ length (now cells)) ⌝ }
+    ensures peers { λ _. ⌜ Laid v many (fieldsAt (start + 5) 13 8 (now (bytes .entry))) (now (words .entry)) (now (words .exit)) ⌝ }
+    ensures others { λ _. ⌜ LaidThree x y z many (fieldsAt (start + 1) 13 1 (now (bytes .entry)))
+        (fieldsAt (start + 2) 13 2 (now (bytes .entry))) (fieldsAt (start + 4) 13 1 (now (bytes .entry)))
+        (now (cells .entry)) (now (cells .exit)) ⌝ }
+{
+    if (many < 16) | (256 < many) {
+        lay_each(bytes, start, many, words, v, cells, x, y, z);
+    } else {
+        lay_many(bytes, start, many, words, v, cells, x, y, z);
     }
 }
