@@ -14,7 +14,7 @@ use Rattle.memory_layout.specs.Bounds.{Spans}
 use Rattle.memory_layout.proofs.OffsetLaws.{cell-below, peer-from, peer-below, peer-place, block-cell-from, block-cell-below}
 use Rattle.memory_layout.proofs.OffsetLaws.{block-cell-place}
 use Rattle.image_bytes.specs.Put.{FieldRead}
-use Rattle.image_lay.specs.Laid.{fieldsAt, Within, Elsewhere, Laid, LaidThree}
+use Rattle.image_lay.specs.Laid.{fieldsAt, Elsewhere, Laid, LaidThree, LaidFour}
 use Rattle.image_lay.proofs.LaidLaws.{below-column, behind-column}
 use Rattle.image_records.specs.Records.{bodyAt}
 use Rattle.image_records.proofs.FrontLaws.{body-field, body-read}
@@ -42,30 +42,29 @@ unfolding flagsAt bodyLength nth
 flags-read at place bytes r e f = body-read partialKind at 4 1 place bytes r (omega arith) (omega arith) f
 
 -- ---- the pieces
-pub pieces-stored : (n : ℕ) (bytes words cells words′ a b c d : List ℕ) → Laid 16 n (fieldsAt 30 10 4 bytes) words words′
-    → Laid 0 n (fieldsAt 25 10 2 bytes) cells a → Laid n n (fieldsAt 27 10 1 bytes) a b → Laid (2 * n) n (fieldsAt 28 10 1 bytes) b c
-    → Laid (3 * n) n (fieldsAt 29 10 1 bytes) c d → PiecesStored n bytes words cells words′ d
+pub pieces-stored : (n : ℕ) (bytes words cells words′ cells′ : List ℕ) → Laid 16 n (fieldsAt 30 10 4 bytes) words words′
+    → LaidFour 0 n (2 * n) (3 * n) n (fieldsAt 25 10 2 bytes) (fieldsAt 27 10 1 bytes) (fieldsAt 28 10 1 bytes) (fieldsAt 29 10 1 bytes)
+    cells cells′
+    → PiecesStored n bytes words cells words′ cells′
 unfolding pieceWord pieceWordAt pieceCell pieceCellAt cell pieceBody bodyLength nth
-pieces-stored n bytes words cells words′ a b c d w p q r s = record {
+pieces-stored n bytes words cells words′ cells′ w c = record {
   wordsLong = w .long;
-  cellsLong = s .long ∙ r .long ∙ q .long ∙ p .long;
+  cellsLong = c .long;
   pads = λ i h. laid-field 16 n 30 10 4 bytes words words′ w pieceKind (piecePlace i) 5 i _ (omega arith) h (omega arith) (omega arith);
   counts = λ i h.
-      s .other (0 * n + i) (below-column _ _ _ (omega arith)) ∙ r .other (0 * n + i) (below-column _ _ _ (omega arith))
-      ∙ q .other (0 * n + i) (below-column _ _ _ (omega arith))
-      ∙ laid-field 0 n 25 10 2 bytes cells a p pieceKind (piecePlace i) 0 i _ (omega arith) h (omega arith) (omega arith);
+      column-field 0 n 25 10 2 bytes cells′ (c .first) pieceKind (piecePlace i) 0 i (0 * n + i) (omega arith) h (omega arith) (omega arith);
   states = λ i h.
-      s .other (1 * n + i) (below-column _ _ _ (omega arith)) ∙ r .other (1 * n + i) (below-column _ _ _ (omega arith))
-      ∙ laid-field n n 27 10 1 bytes a b q pieceKind (piecePlace i) 2 i _ (omega arith) h (omega arith) (omega arith);
+      column-field n n 27 10 1 bytes cells′ (c .second) pieceKind (piecePlace i) 2 i (1 * n + i) (omega arith) h (omega arith) (omega arith);
   priorities = λ i h.
-      s .other (2 * n + i) (below-column _ _ _ (omega arith))
-      ∙ laid-field (2 * n) n 28 10 1 bytes b c r pieceKind (piecePlace i) 3 i _ (omega arith) h (omega arith) (omega arith);
-  flushed = λ i h. laid-field (3 * n) n 29 10 1 bytes c d s pieceKind (piecePlace i) 4 i _ (omega arith) h (omega arith) (omega arith);
+      column-field (2 * n) n 28 10 1 bytes cells′ (c .third) pieceKind (piecePlace i) 3 i (2 * n + i) (omega arith) h (omega arith) (omega arith);
+  flushed = λ i h.
+      column-field (3 * n) n 29 10 1 bytes cells′ (c .fourth) pieceKind (piecePlace i) 4 i (3 * n + i) (omega arith) h (omega arith)
+      (omega arith);
   wordsBelow = λ k h. w .other k (below-column _ _ _ h);
   wordsBehind = λ k h. w .other k (behind-column _ _ _ h);
   cellsBehind = λ k h.
-      s .other k (behind-column _ _ _ (omega arith)) ∙ r .other k (behind-column _ _ _ (omega arith))
-      ∙ q .other k (behind-column _ _ _ (omega arith)) ∙ p .other k (behind-column _ _ _ (omega arith));
+      c .other k (behind-column _ _ _ (omega arith)) (behind-column _ _ _ (omega arith)) (behind-column _ _ _ (omega arith))
+      (behind-column _ _ _ (omega arith));
 }
 
 -- ---- the blocks of a place
