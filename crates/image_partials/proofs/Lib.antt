@@ -2,3 +2,4 @@ pub mod BlockLaws
 pub mod PartialLaws
 pub mod WalkLaws
 pub mod PassLaws
+pub mod QuadLaws

@@ -24,7 +24,7 @@ use Rattle.image_partials.specs.Blocks.{BlocksStand, inRange}
 use Rattle.image_partials.proofs.BlockLaws.{Reading, reading-start, reading-next, reading-end, reading-few}
 
 -- ---- numbers
-or-none : (a b : ℕ) → bitOr a b ≡ 0 → (a ≡ 0) × (b ≡ 0)
+pub or-none : (a b : ℕ) → bitOr a b ≡ 0 → (a ≡ 0) × (b ≡ 0)
 or-none a b e = (omega (arith, or-add-and a b, and-le-r a b), omega (arith, or-add-and a b, and-le-l a b))
 
 -- what a block adds to the sum, by its state

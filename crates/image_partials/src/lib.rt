@@ -3,6 +3,7 @@ mod blocks;
 mod partial;
 mod partials;
 mod pass;
+mod quads;
 mod tally;
 
 pub use partials::read_partials;

@@ -1,4 +1,5 @@
 // Whether all blocks of a partial are well, and how many are free and requested. It does not tell which one is not.
+use crate::quads::pass_many;
 use crate::tally::Tally;
 use image_bytes::read1;
 use image_bytes::read2;
@@ -22,13 +23,13 @@ fn in_range(kind: u64, state: u64, num_peers: u64, has: u64) -> bool
     (kind == 4) & ((state <= 3) & ((has <= 1) & (num_peers <= 1000)))
 }
 
-fn only_if(t: bool, n: u64) -> u64
+pub fn only_if(t: bool, n: u64) -> u64
     ensures { λ r. ⌜ r ≡ cond t n 0 ⌝ }
 {
     if t { n } else { 0 }
 }
 
-// Blocks that the bytes have. Peers without the flag are joined, and have to be 0; free and requested blocks are counted in one sum.
+// A block a turn. Peers without the flag are joined, and have to be 0; free and requested blocks are counted in one sum.
 fn pass_whole(bytes: &[u8], start: usize, many: usize) -> BlocksPassed
     requires { ⌜ (start + 13 * many ≤ length (now bytes)) × (1 ≤ many) × (many ≤ 256) ⌝ }
     ensures { λ r. ⌜ BlocksWell start many (now (bytes .entry)) r ⌝ }
@@ -69,5 +70,8 @@ pub fn pass_blocks(bytes: &[u8], start: usize, many: usize) -> BlocksPassed
     if bytes.len() - start < 13 * many {
         return BlocksPassed::Unclear;
     }
-    pass_whole(bytes, start, many)
+    if many < 16 {
+        return pass_whole(bytes, start, many);
+    }
+    pass_many(bytes, start, many)
 }

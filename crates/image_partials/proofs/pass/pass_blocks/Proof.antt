@@ -21,5 +21,11 @@ pass-whole-requires c κs = search needs
 returns-2 : tie.Need-returns-2
 returns-2 c = search needs
 
+pass-many-requires : tie.Need-pass-many-requires
+pass-many-requires c κs = search needs
+
+returns-3 : tie.Need-returns-3
+returns-3 c = search needs
+
 pub pass-blocks-spec : {M : Type 1} → statement M
-pass-blocks-spec = tie.close (tie.spec sub-if1 mul-if1 returns pass-whole-requires returns-2)
+pass-blocks-spec = tie.close (tie.spec sub-if1 mul-if1 returns pass-whole-requires returns-2 pass-many-requires returns-3)
