@@ -75,7 +75,7 @@ pub fn lay_blocks(
         (fieldsAt (start + 2) 13 2 (now (bytes .entry))) (fieldsAt (start + 4) 13 1 (now (bytes .entry)))
         (now (cells .entry)) (now (cells .exit)) ⌝ }
 {
-    if (many < 16) | (256 < many) {
+    if (many < 64) | (256 < many) {
         lay_each(bytes, start, many, words, v, cells, x, y, z);
     } else {
         lay_many(bytes, start, many, words, v, cells, x, y, z);

@@ -70,7 +70,7 @@ pub fn pass_blocks(bytes: &[u8], start: usize, many: usize) -> BlocksPassed
     if bytes.len() - start < 13 * many {
         return BlocksPassed::Unclear;
     }
-    if many < 16 {
+    if many < 64 {
         return pass_whole(bytes, start, many);
     }
     pass_many(bytes, start, many)

@@ -16,7 +16,7 @@ lay-many-requires c κs =
     let c6 = c2 .before .before .before .before in
     let p = c6 .pre in
     let many = c6 .args .many in
-    (p .0, (ltb-false 256 many (or-no-right (ltb many 16) (ltb 256 many) (c2 .if1 .left)), p .1))
+    (p .0, (ltb-false 256 many (or-no-right (ltb many 64) (ltb 256 many) (c2 .if1 .left)), p .1))
 
 same-length : tie.Need-same-length
 same-length c = search needs
