@@ -3,10 +3,13 @@
 //! image is written again byte for byte, nothing beyond the needs moved; a buffer that is one too short is refused with 2. One that the
 //! reference refuses is refused with 13, in buffers of any length. A refusal leaves every buffer as it was. Built like the programs of
 //! `harness/run`. Prints how many were compared, and ends with status 1 at the first difference. With `time` as an argument it prints
-//! instead how fast the longest images of `compare.images` (standard input) are read, beside a copy of their bytes and the memory test.
+//! instead how fast the longest images of `compare.images` (standard input) are read, beside a copy of their bytes, the memory test, and the
+//! passes over blocks that no reader leaves out, by hand.
 
+mod read_floor;
 mod records;
 
+use read_floor::{judge_each, judge_four, parts, store_each, store_eight, Columns, Part};
 use records::{unpack, DownloadingPiece, ROWS};
 use std::hint::black_box;
 use std::io::BufRead;
@@ -26,6 +29,11 @@ struct Geometry {
 extern "C" {
     fn im_read(bytes: *const u8, bytes_len: usize, words: *mut u64, words_len: usize, cells: *mut u16, cells_len: usize,
         rows: *mut u32, rows_len: usize, lent: usize) -> u8;
+}
+
+#[link(name = "link_judge", kind = "static")]
+extern "C" {
+    fn im_judge_image(bytes: *const u8, bytes_len: usize) -> usize;
 }
 
 #[link(name = "link_image", kind = "static")]
@@ -157,27 +165,70 @@ fn refused(line: usize, data: &[u8], any: &mut Anything) {
     }
 }
 
-/// The least of many rounds, in nanoseconds.
+/// The passes by hand that no reader leaves out, over all partials: judged and stored a block a turn, and many at once.
+fn by_hand(k: usize, data: &[u8], parts: &[Part], g: Geometry, lent: &mut Lent) {
+    let (peers, cells) = (lent.words[16 + 2 * g.pieces..].as_mut_ptr(), lent.cells[4 * g.pieces..].as_mut_ptr());
+    for (p, &(start, many)) in parts.iter().enumerate() {
+        unsafe {
+            let column = |f: usize| cells.add((f * g.places + p) * g.blocks);
+            let to = Columns { peers: peers.add(p * g.blocks), cells: [column(0), column(1), column(2)] };
+            let from = data.as_ptr().add(start);
+            match k {
+                0 => drop(black_box(judge_each(from, many).unwrap())),
+                1 => store_each(from, many, to),
+                2 => drop(black_box(judge_four(from, many).unwrap())),
+                _ => store_eight(from, many, to),
+            }
+        }
+    }
+}
+
+/// The least of many rounds, in nanoseconds. What is stored by hand has to be what was read.
 fn timed(data: &[u8]) {
     let g = geometry(data);
     let need = needs(g);
     let mut lent = Lent::anything(need[0], need[1], need[2], &mut Anything(1));
+    let head = |k: usize, w: usize| data[k..k + w].iter().fold(0, |n, b| n << 8 | *b as u64);
+    let parts = parts(data, head(1, 8), head(9, 4));
     let (mut to, mut counts) = (vec![0; data.len()], [0; ROWS]);
-    let mut least = [f64::MAX; 3];
+    lent.read(data);
+    let mut again = lent.clone();
+    for form in [1, 3] {
+        again.words[16 + 2 * g.pieces..][..parts.len() * g.blocks].fill(0);
+        again.cells[4 * g.pieces..].fill(0);
+        by_hand(form, data, &parts, g, &mut again);
+        for (p, &(_, many)) in parts.iter().enumerate() {
+            let same = |f: usize| {
+                let at = 4 * g.pieces + (f * g.places + p) * g.blocks;
+                again.cells[at..at + many] == lent.cells[at..at + many]
+            };
+            let at = 16 + 2 * g.pieces + p * g.blocks;
+            if again.words[at..at + many] != lent.words[at..at + many] || !(same(0) && same(1) && same(2)) {
+                differs(0, "what is stored by hand is not what is read");
+            }
+        }
+    }
+    let mut least = [f64::MAX; 8];
     for _ in 0..400 {
         for (k, least) in least.iter_mut().enumerate() {
             let start = Instant::now();
             match k {
                 0 => drop(black_box(lent.read(black_box(data)))),
                 1 => black_box(&mut to).copy_from_slice(black_box(data)),
-                _ => drop(black_box(lent.check(black_box(&mut counts)))),
+                2 => drop(black_box(lent.check(black_box(&mut counts)))),
+                3 => drop(black_box(unsafe { im_judge_image(black_box(data).as_ptr(), data.len()) })),
+                _ => by_hand(k - 4, black_box(data), &parts, g, &mut lent),
             }
             *least = least.min(start.elapsed().as_nanos() as f64);
         }
     }
+    let goal = 3.0 * least[2] + 2.0 * least[1];
     println!("reads: {} bytes read in {:.2} µs, {:.2} GB/s; copied in {:.2} µs, tested in {:.2} µs; {:.2} of 3 tests and 2 copies",
-        data.len(), least[0] / 1000.0, data.len() as f64 / least[0], least[1] / 1000.0, least[2] / 1000.0,
-        least[0] / (3.0 * least[2] + 2.0 * least[1]));
+        data.len(), least[0] / 1000.0, data.len() as f64 / least[0], least[1] / 1000.0, least[2] / 1000.0, least[0] / goal);
+    let blocks: usize = parts.iter().map(|part| part.1).sum();
+    println!("  judged in {:.2} µs; {blocks} blocks by hand, judged and stored: a block a turn {:.2} and {:.2} µs, {:.2} of that goal; \
+        many at once {:.2} and {:.2}, {:.2}", least[3] / 1000.0, least[4] / 1000.0, least[5] / 1000.0, (least[4] + least[5]) / goal,
+        least[6] / 1000.0, least[7] / 1000.0, (least[6] + least[7]) / goal);
 }
 
 fn main() {

@@ -1,5 +1,5 @@
 -- A number read from bytes: one byte, two halves, and a field inside a record's body. Assumes nothing.
-use mathlib.Core.Path.{_≡_, refl, sym, ap, ap₂, _∙_}
+use mathlib.Core.Path.{_≡_, refl, sym, ap, ap₂, subst, _∙_}
 use mathlib.Core.List.{List, [], _∷_, _++_}
 use Prim.Native.Nat.{ℕ, zero, suc, _+_, _*_, _-_, _^_, _≤_, _<_}
 use native.Mathlib.Nat.{pow-succ'}
@@ -57,6 +57,16 @@ read-halves at w bytes high low r h p q e = record {
   is = e ∙ ap₂ (λ (x y : ℕ). x * 256 ^ w + y) (p .is) (q .is) ∙ sym (field-parts at w w bytes h);
   small = rw (e, pow-add 256 w w) (digits-lt (p .small) (q .small));
 }
+
+-- four pairs of bytes, each by its own weight
+pub read-pairs : (at : ℕ) (bytes : List ℕ) (a b c d r : ℕ) → at + 8 ≤ length bytes → FieldRead at 2 bytes a → FieldRead (at + 2) 2 bytes b
+    → FieldRead (at + 4) 2 bytes c → FieldRead (at + 6) 2 bytes d
+    → r ≡ a * 281474976710656 + b * 4294967296 + (c * 65536 + d) → FieldRead at 8 bytes r
+read-pairs at bytes a b c d r h p q s t e =
+    let z : at + 6 ≡ at + 4 + 2 = omega arith in
+    let high = read-halves at 2 bytes a b (a * 65536 + b) (omega arith) p q refl in
+    let low = read-halves (at + 4) 2 bytes c d (c * 65536 + d) (omega arith) s (subst (λ (k : ℕ). FieldRead k 2 bytes d) z t) refl in
+    read-halves at 4 bytes (a * 65536 + b) (c * 65536 + d) r h high low (omega arith)
 
 -- a field of a body is the number in the bytes around it
 pub field-inside : (start long k w : ℕ) (bytes : List ℕ) → k + w ≤ long → field k w (take long (drop start bytes)) ≡ field (start + k) w bytes

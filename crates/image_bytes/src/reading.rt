@@ -31,9 +31,12 @@ pub fn read4(bytes: &[u8], at: usize) -> u64
     read2(bytes, at) * 65536 + read2(bytes, at + 2)
 }
 
+// Each two bytes by their own weight: so the compiler finds one number of eight bytes, and loads it at once.
 pub fn read8(bytes: &[u8], at: usize) -> u64
     requires { ⌜ at + 8 ≤ length (now bytes) ⌝ }
     ensures { λ r. ⌜ FieldRead at 8 (now (bytes .entry)) r ⌝ }
 {
-    read4(bytes, at) * 4294967296 + read4(bytes, at + 4)
+    let high = read2(bytes, at) * 281474976710656 + read2(bytes, at + 2) * 4294967296;
+    let low = read2(bytes, at + 4) * 65536 + read2(bytes, at + 6);
+    high + low
 }

@@ -4,72 +4,67 @@ use mathlib.Core.Logic.{_⊎_, inl, inr, ⊎-elim}
 use mathlib.Core.List.{List}
 use Prim.Native.Nat.{ℕ, _+_, _-_, _*_, _≤_, _<_}
 use native.Mathlib.Omega.{arith}
-use lib.ListN.{length, getD, take, drop}
-use lib.Seq.{drop-drop}
+use lib.ListN.{length, getD}
 use Rattle.model.specs.Lists.{nth}
 use Rattle.model.specs.image.Image.{bodyLength, pieceKind, partialKind, blockKind, field}
 use Rattle.memory_layout.specs.declared.shape.Shape.{Shape}
 use Rattle.memory_layout.specs.Offsets.{cell, placesFor, pieceWordAt, pieceCellAt, peerAt, blockCellAt, wordsFor, cellsFor}
 use Rattle.memory_layout.specs.Decode.{pieceWord, peerWord, pieceCell, blockCell}
 use Rattle.memory_layout.specs.Bounds.{Spans}
-use Rattle.memory_layout.proofs.OffsetLaws.{peer-from, peer-below, peer-place, block-cell-from, block-cell-below, block-cell-column}
+use Rattle.memory_layout.proofs.OffsetLaws.{cell-below, peer-from, peer-below, peer-place, block-cell-from, block-cell-below}
 use Rattle.memory_layout.proofs.OffsetLaws.{block-cell-place}
 use Rattle.image_bytes.specs.Put.{FieldRead}
-use Rattle.image_bytes.proofs.FieldLaws.{field-inside}
-use Rattle.image_lay.specs.Laid.{fieldsAt, Within, Elsewhere, Laid}
+use Rattle.image_lay.specs.Laid.{fieldsAt, Elsewhere, Laid, LaidThree, LaidFour}
 use Rattle.image_lay.proofs.LaidLaws.{below-column, behind-column}
 use Rattle.image_records.specs.Records.{bodyAt}
+use Rattle.image_records.proofs.FrontLaws.{body-field, body-read}
 use Rattle.image_pieces.specs.Pieces.{piecePlace, pieceBody}
 use Rattle.image_columns.specs.Columns.{PiecesStored, blockBody, BlocksMoved, BlocksStored, flagsAt}
 
 -- ---- fields
--- a field of a record's body is the number in the bytes
-pub body-field : (kind at k w : ℕ) (bytes : List ℕ) → k + w ≤ bodyLength kind
-    → field k w (bodyAt kind at bytes) ≡ field (at + 1 + k) w bytes
-unfolding bodyAt
-body-field kind at k w bytes h =
-    ap (λ (l : List ℕ). field k w (take (bodyLength kind) l)) (drop-drop 1 at bytes) ∙ field-inside (at + 1) (bodyLength kind) k w bytes h
-
 -- one of a column
-laid-field : (start many first step w : ℕ) (bytes before after : List ℕ) → Laid start many (fieldsAt first step w bytes) before after
+column-field : (start many first step w : ℕ) (bytes after : List ℕ)
+    → ((j : ℕ) → j < many → getD after (start + j) 0 ≡ fieldsAt first step w bytes j)
     → (kind at k j q : ℕ) → k + w ≤ bodyLength kind → j < many → q ≡ start + j → first + step * j ≡ at + 1 + k
     → getD after q 0 ≡ field k w (bodyAt kind at bytes)
 unfolding fieldsAt
-laid-field start many first step w bytes before after a kind at k j q h l e f =
-    ap (λ (x : ℕ). getD after x 0) e ∙ a .inside j l ∙ ap (λ (x : ℕ). field x w bytes) f ∙ sym (body-field kind at k w bytes h)
+column-field start many first step w bytes after a kind at k j q h l e f =
+    ap (λ (x : ℕ). getD after x 0) e ∙ a j l ∙ ap (λ (x : ℕ). field x w bytes) f ∙ sym (body-field kind at k w bytes h)
+
+laid-field : (start many first step w : ℕ) (bytes before after : List ℕ) → Laid start many (fieldsAt first step w bytes) before after
+    → (kind at k j q : ℕ) → k + w ≤ bodyLength kind → j < many → q ≡ start + j → first + step * j ≡ at + 1 + k
+    → getD after q 0 ≡ field k w (bodyAt kind at bytes)
+laid-field start many first step w bytes before after a = column-field start many first step w bytes after (a .inside)
 
 -- the flags of a partial
 pub flags-read : (at place : ℕ) (bytes : List ℕ) (r : ℕ) → place ≡ at + 5 → FieldRead place 1 bytes r → r ≡ flagsAt at bytes
 unfolding flagsAt bodyLength nth
-flags-read at place bytes r e f =
-    let z : place ≡ at + 1 + 4 = omega arith in
-    f .is ∙ ap (λ (x : ℕ). field x 1 bytes) z ∙ sym (body-field partialKind at 4 1 bytes (omega arith))
+flags-read at place bytes r e f = body-read partialKind at 4 1 place bytes r (omega arith) (omega arith) f
 
 -- ---- the pieces
-pub pieces-stored : (n : ℕ) (bytes words cells words′ a b c d : List ℕ) → Laid 16 n (fieldsAt 30 10 4 bytes) words words′
-    → Laid 0 n (fieldsAt 25 10 2 bytes) cells a → Laid n n (fieldsAt 27 10 1 bytes) a b → Laid (2 * n) n (fieldsAt 28 10 1 bytes) b c
-    → Laid (3 * n) n (fieldsAt 29 10 1 bytes) c d → PiecesStored n bytes words cells words′ d
+pub pieces-stored : (n : ℕ) (bytes words cells words′ cells′ : List ℕ) → Laid 16 n (fieldsAt 30 10 4 bytes) words words′
+    → LaidFour 0 n (2 * n) (3 * n) n (fieldsAt 25 10 2 bytes) (fieldsAt 27 10 1 bytes) (fieldsAt 28 10 1 bytes) (fieldsAt 29 10 1 bytes)
+    cells cells′
+    → PiecesStored n bytes words cells words′ cells′
 unfolding pieceWord pieceWordAt pieceCell pieceCellAt cell pieceBody bodyLength nth
-pieces-stored n bytes words cells words′ a b c d w p q r s = record {
+pieces-stored n bytes words cells words′ cells′ w c = record {
   wordsLong = w .long;
-  cellsLong = s .long ∙ r .long ∙ q .long ∙ p .long;
+  cellsLong = c .long;
   pads = λ i h. laid-field 16 n 30 10 4 bytes words words′ w pieceKind (piecePlace i) 5 i _ (omega arith) h (omega arith) (omega arith);
   counts = λ i h.
-      s .other (0 * n + i) (below-column _ _ _ (omega arith)) ∙ r .other (0 * n + i) (below-column _ _ _ (omega arith))
-      ∙ q .other (0 * n + i) (below-column _ _ _ (omega arith))
-      ∙ laid-field 0 n 25 10 2 bytes cells a p pieceKind (piecePlace i) 0 i _ (omega arith) h (omega arith) (omega arith);
+      column-field 0 n 25 10 2 bytes cells′ (c .first) pieceKind (piecePlace i) 0 i (0 * n + i) (omega arith) h (omega arith) (omega arith);
   states = λ i h.
-      s .other (1 * n + i) (below-column _ _ _ (omega arith)) ∙ r .other (1 * n + i) (below-column _ _ _ (omega arith))
-      ∙ laid-field n n 27 10 1 bytes a b q pieceKind (piecePlace i) 2 i _ (omega arith) h (omega arith) (omega arith);
+      column-field n n 27 10 1 bytes cells′ (c .second) pieceKind (piecePlace i) 2 i (1 * n + i) (omega arith) h (omega arith) (omega arith);
   priorities = λ i h.
-      s .other (2 * n + i) (below-column _ _ _ (omega arith))
-      ∙ laid-field (2 * n) n 28 10 1 bytes b c r pieceKind (piecePlace i) 3 i _ (omega arith) h (omega arith) (omega arith);
-  flushed = λ i h. laid-field (3 * n) n 29 10 1 bytes c d s pieceKind (piecePlace i) 4 i _ (omega arith) h (omega arith) (omega arith);
+      column-field (2 * n) n 28 10 1 bytes cells′ (c .third) pieceKind (piecePlace i) 3 i (2 * n + i) (omega arith) h (omega arith) (omega arith);
+  flushed = λ i h.
+      column-field (3 * n) n 29 10 1 bytes cells′ (c .fourth) pieceKind (piecePlace i) 4 i (3 * n + i) (omega arith) h (omega arith)
+      (omega arith);
   wordsBelow = λ k h. w .other k (below-column _ _ _ h);
   wordsBehind = λ k h. w .other k (behind-column _ _ _ h);
   cellsBehind = λ k h.
-      s .other k (behind-column _ _ _ (omega arith)) ∙ r .other k (behind-column _ _ _ (omega arith))
-      ∙ q .other k (behind-column _ _ _ (omega arith)) ∙ p .other k (behind-column _ _ _ (omega arith));
+      c .other k (behind-column _ _ _ (omega arith)) (behind-column _ _ _ (omega arith)) (behind-column _ _ _ (omega arith))
+      (behind-column _ _ _ (omega arith));
 }
 
 -- ---- the blocks of a place
@@ -105,20 +100,32 @@ module _ (s : Shape) (words cells : List ℕ) (r : Spans s words cells) (p many 
         r .inCells .long,
       )
 
-module _ (s : Shape) (p start many : ℕ) (bytes words cells words′ a b c : List ℕ) (hp : p < placesFor (s .pieces)) (hm : many ≤ s .blocks)
+  -- the columns stand apart
+  wide : many ≤ placesFor (s .pieces) * s .blocks
+  unfolding cell
+  wide = omega (arith, cell-below (s .blocks) p (many - 1) (placesFor (s .pieces)) placed (omega arith))
+
+  pub states-apart : (x y : ℕ) → x ≡ blockCellAt (s .pieces) (s .blocks) 0 p 0 → y ≡ blockCellAt (s .pieces) (s .blocks) 1 p 0 → x + many ≤ y
+  unfolding blockCellAt cell
+  states-apart x y ex ey = omega (arith, wide)
+
+  pub counts-apart : (y z : ℕ) → y ≡ blockCellAt (s .pieces) (s .blocks) 1 p 0 → z ≡ blockCellAt (s .pieces) (s .blocks) 2 p 0 → y + many ≤ z
+  unfolding blockCellAt cell
+  counts-apart y z ey ez = omega (arith, wide)
+
+module _ (s : Shape) (p start many : ℕ) (bytes words cells words′ cells′ : List ℕ) (hp : p < placesFor (s .pieces)) (hm : many ≤ s .blocks)
     (x y z v : ℕ) (ev : v ≡ peerAt (s .pieces) (s .blocks) p 0) (ex : x ≡ blockCellAt (s .pieces) (s .blocks) 0 p 0)
     (ey : y ≡ blockCellAt (s .pieces) (s .blocks) 1 p 0) (ez : z ≡ blockCellAt (s .pieces) (s .blocks) 2 p 0)
-    (lv : Laid v many (fieldsAt (start + 5) 13 8 bytes) words words′) (lx : Laid x many (fieldsAt (start + 1) 13 1 bytes) cells a)
-    (ly : Laid y many (fieldsAt (start + 2) 13 2 bytes) a b) (lz : Laid z many (fieldsAt (start + 4) 13 1 bytes) b c) where
-  -- a cell of another column, or of another place, is none of a column's
-  apart : (f g q j at : ℕ) → at ≡ blockCellAt (s .pieces) (s .blocks) g p 0 → q < placesFor (s .pieces) → j < s .blocks
-      → (f ≡ g → q ≡ p → ⊥) → Elsewhere at many (blockCellAt (s .pieces) (s .blocks) f q j)
+    (lw : Laid v many (fieldsAt (start + 5) 13 8 bytes) words words′)
+    (lc : LaidThree x y z many (fieldsAt (start + 1) 13 1 bytes) (fieldsAt (start + 2) 13 2 bytes) (fieldsAt (start + 4) 13 1 bytes) cells
+    cells′) where
+  -- a cell of another place is none of a column's
+  apart : (f g q j at : ℕ) → at ≡ blockCellAt (s .pieces) (s .blocks) g p 0 → q < placesFor (s .pieces) → j < s .blocks → (q ≡ p → ⊥)
+      → Elsewhere at many (blockCellAt (s .pieces) (s .blocks) f q j)
   apart f g q j at e hq hj ne k l d =
       let d′ : blockCellAt (s .pieces) (s .blocks) f q j ≡ blockCellAt (s .pieces) (s .blocks) g p k
       = d ∙ ap (λ (m : ℕ). m + k) e ∙ cell-step (s .pieces) (s .blocks) g p k in
-      let hk : k < s .blocks = omega arith in
-      ne (block-cell-column (s .pieces) (s .blocks) f g q p j k hq hp hj hk d′)
-      (block-cell-place (s .pieces) (s .blocks) f g q p j k hq hp hj hk d′)
+      ne (block-cell-place (s .pieces) (s .blocks) f g q p j k hq hp hj (omega arith) d′)
 
   -- so is one in front of the blocks, or behind them
   outside : (g q at : ℕ) → g < 3 → at ≡ blockCellAt (s .pieces) (s .blocks) g p 0
@@ -128,23 +135,21 @@ module _ (s : Shape) (p start many : ℕ) (bytes words cells words′ a b c : Li
       ⊎-elim (λ o. omega (arith, e′, block-cell-from (s .pieces) (s .blocks) g p k))
       (λ o. omega (arith, e′, block-cell-below (s .pieces) (s .blocks) g p k hg hp (omega arith))) h
 
-  moved : BlocksMoved s words cells words′ c
+  moved : BlocksMoved s words cells words′ cells′
   moved = record {
-    wordsLong = lv .long;
-    cellsLong = lz .long ∙ ly .long ∙ lx .long;
-    wordsBelow = λ q h. lv .other q (λ j l d.
+    wordsLong = lw .long;
+    cellsLong = lc .long;
+    wordsBelow = λ q h. lw .other q (λ j l d.
         omega (arith, peer-step (s .pieces) (s .blocks) p j, peer-from (s .pieces) (s .blocks) p j));
-    wordsBeyond = λ q h. lv .other q (λ j l d.
+    wordsBeyond = λ q h. lw .other q (λ j l d.
         omega (arith, peer-step (s .pieces) (s .blocks) p j, peer-below (s .pieces) (s .blocks) p j hp (omega arith)));
     cellsBelow = λ q h.
-        lz .other q (outside 2 q z (omega arith) ez (inl h)) ∙ ly .other q (outside 1 q y (omega arith) ey (inl h))
-        ∙ lx .other q (outside 0 q x (omega arith) ex (inl h));
+        lc .other q (outside 0 q x (omega arith) ex (inl h)) (outside 1 q y (omega arith) ey (inl h)) (outside 2 q z (omega arith) ez (inl h));
     cellsBeyond = λ q h.
-        lz .other q (outside 2 q z (omega arith) ez (inr h)) ∙ ly .other q (outside 1 q y (omega arith) ey (inr h))
-        ∙ lx .other q (outside 0 q x (omega arith) ex (inr h));
+        lc .other q (outside 0 q x (omega arith) ex (inr h)) (outside 1 q y (omega arith) ey (inr h)) (outside 2 q z (omega arith) ez (inr h));
   }
 
-  pub blocks-stored : BlocksStored s p start many bytes words cells words′ c
+  pub blocks-stored : BlocksStored s p start many bytes words cells words′ cells′
   unfolding blockCell peerWord blockBody bodyLength nth
   blocks-stored =
       let n = s .pieces in
@@ -152,28 +157,20 @@ module _ (s : Shape) (p start many : ℕ) (bytes words cells words′ a b c : Li
       record {
         moved = moved;
         states = λ j h.
-            let q = blockCellAt n w 0 p j in
-            let hj : j < w = omega arith in
-            lz .other q (apart 0 2 p j z ez hp hj (λ o u. omega arith)) ∙ ly .other q (apart 0 1 p j y ey hp hj (λ o u. omega arith))
-            ∙ laid-field x many (start + 1) 13 1 bytes cells a lx blockKind (start + 13 * j) 0 j q (omega arith) h
+            column-field x many (start + 1) 13 1 bytes cells′ (lc .first) blockKind (start + 13 * j) 0 j (blockCellAt n w 0 p j) (omega arith) h
             (omega (arith, cell-step n w 0 p j)) (omega arith);
         numPeers = λ j h.
-            let q = blockCellAt n w 1 p j in
-            let hj : j < w = omega arith in
-            lz .other q (apart 1 2 p j z ez hp hj (λ o u. omega arith))
-            ∙ laid-field y many (start + 2) 13 2 bytes a b ly blockKind (start + 13 * j) 1 j q (omega arith) h
+            column-field y many (start + 2) 13 2 bytes cells′ (lc .second) blockKind (start + 13 * j) 1 j (blockCellAt n w 1 p j) (omega arith) h
             (omega (arith, cell-step n w 1 p j)) (omega arith);
         has = λ j h.
-            laid-field z many (start + 4) 13 1 bytes b c lz blockKind (start + 13 * j) 3 j (blockCellAt n w 2 p j) (omega arith) h
+            column-field z many (start + 4) 13 1 bytes cells′ (lc .third) blockKind (start + 13 * j) 3 j (blockCellAt n w 2 p j) (omega arith) h
             (omega (arith, cell-step n w 2 p j)) (omega arith);
         peers = λ j h.
-            laid-field v many (start + 5) 13 8 bytes words words′ lv blockKind (start + 13 * j) 4 j (peerAt n w p j) (omega arith) h
+            laid-field v many (start + 5) 13 8 bytes words words′ lw blockKind (start + 13 * j) 4 j (peerAt n w p j) (omega arith) h
             (omega (arith, peer-step n w p j)) (omega arith);
         otherCells = λ f q j hf hq hj ne.
-            let o = blockCellAt n w f q j in
-            lz .other o (apart f 2 q j z ez hq hj (λ _ u. ne u)) ∙ ly .other o (apart f 1 q j y ey hq hj (λ _ u. ne u))
-            ∙ lx .other o (apart f 0 q j x ex hq hj (λ _ u. ne u));
+            lc .other (blockCellAt n w f q j) (apart f 0 q j x ex hq hj ne) (apart f 1 q j y ey hq hj ne) (apart f 2 q j z ez hq hj ne);
         otherPeers = λ q j hj ne.
-            lv .other (peerAt n w q j) (λ k l d.
+            lw .other (peerAt n w q j) (λ k l d.
             ne (peer-place n w q p j k hj (omega arith) (d ∙ ap (λ (m : ℕ). m + k) ev ∙ peer-step n w p k)));
       }

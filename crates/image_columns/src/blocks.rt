@@ -1,9 +1,7 @@
 // The blocks of a partial, which stand thirteen bytes apart behind its record.
 use crate::offsets::cells_start;
 use crate::offsets::peers_start;
-use image_lay::lay1;
-use image_lay::lay2;
-use image_lay::lay8;
+use image_lay::lay_blocks;
 use memory_layout::Shape;
 ghost use Prim.Native.Nat.{_+_, _*_, _≤_, _<_};
 ghost use lib.ListN.{length};
@@ -25,8 +23,9 @@ pub fn store_blocks(
     ensures { λ _. ⌜ BlocksStored s p start many (now (bytes .entry)) (now (words .entry)) (now (cells .entry))
         (now (words .exit)) (now (cells .exit)) ⌝ }
 {
-    lay8(bytes, start + 5, 13, many, words, peers_start(s, p));
-    lay1(bytes, start + 1, 13, many, cells, cells_start(s, 0, p));
-    lay2(bytes, start + 2, 13, many, cells, cells_start(s, 1, p));
-    lay1(bytes, start + 4, 13, many, cells, cells_start(s, 2, p));
+    let peers = peers_start(s, p);
+    let states = cells_start(s, 0, p);
+    let counts = cells_start(s, 1, p);
+    let has = cells_start(s, 2, p);
+    lay_blocks(bytes, start, many, words, peers, cells, states, counts, has);
 }

@@ -6,8 +6,9 @@ use native.Mathlib.Decide.{ℕ-discrete}
 use native.Mathlib.Omega.{arith}
 use lib.ListN.{length, getD, set, length-set}
 use lib.Seq.{getD-set-same, getD-set-other}
+use Rattle.model.specs.image.Image.{field}
 use Rattle.image_bytes.specs.Put.{FieldRead}
-use Rattle.image_lay.specs.Laid.{fieldsAt, Within, Elsewhere, Laid}
+use Rattle.image_lay.specs.Laid.{fieldsAt, Within, Elsewhere, Laid, LaidThree, LaidFour}
 
 pub laid-start : (start : ℕ) (f : ℕ → ℕ) (l : List ℕ) → Laid start 0 f l l
 laid-start start f l = record { long = refl; inside = λ j h. absurd (omega arith); other = λ q e. refl }
@@ -33,6 +34,123 @@ laid-end start j many f a b p e = rw e at p
 pub field-is : (first step w : ℕ) (bytes : List ℕ) (j r : ℕ) → FieldRead (first + step * j) w bytes r → r ≡ fieldsAt first step w bytes j
 unfolding fieldsAt
 field-is first step w bytes j r f = f .is
+
+-- one that was read in a record's place is
+pub record-field-is : (start k step w : ℕ) (bytes : List ℕ) (j r : ℕ) → FieldRead (start + step * j + k) w bytes r
+    → r ≡ fieldsAt (start + k) step w bytes j
+unfolding fieldsAt
+record-field-is start k step w bytes j r f =
+    let e : start + step * j + k ≡ start + k + step * j = omega arith in
+    f .is ∙ ap (λ (p : ℕ). field p w bytes) e
+
+-- ---- three columns
+pub three-start : (x y z : ℕ) (f g h : ℕ → ℕ) (l : List ℕ) → LaidThree x y z 0 f g h l l
+three-start x y z f g h l = record {
+  long = refl;
+  first = λ j h. absurd (omega arith);
+  second = λ j h. absurd (omega arith);
+  third = λ j h. absurd (omega arith);
+  other = λ q d e i. refl;
+}
+
+-- a number of each more, where the columns stand apart
+module _ (x y z j many : ℕ) (f g h : ℕ → ℕ) (a b : List ℕ) (p : LaidThree x y z j f g h a b) (hj : j < many) (hx : x + many ≤ y)
+    (hy : y + many ≤ z) (hz : z + many ≤ length a) (u v w : ℕ) where
+  past : (q : ℕ) → (q ≡ x + j → ⊥) → (q ≡ y + j → ⊥) → (q ≡ z + j → ⊥)
+      → getD (set (set (set b (x + j) u) (y + j) v) (z + j) w) q 0 ≡ getD b q 0
+  past q d e i =
+      getD-set-other (set (set b (x + j) u) (y + j) v) (z + j) q w 0 i
+      ∙ getD-set-other (set b (x + j) u) (y + j) q v 0 e ∙ getD-set-other b (x + j) q u 0 d
+
+  pub three-next : u ≡ f j → v ≡ g j → w ≡ h j
+      → LaidThree x y z (j + 1) f g h a (set (set (set b (x + j) u) (y + j) v) (z + j) w)
+  three-next eu ev ew =
+      let b₁ = set b (x + j) u in
+      let b₂ = set b₁ (y + j) v in
+      let long₀ = p .long in
+      let long₁ = length-set b (x + j) u in
+      let long₂ = length-set b₁ (y + j) v in
+      record {
+        long = length-set b₂ (z + j) w ∙ long₂ ∙ long₁ ∙ long₀;
+        first = λ i l. elim (ℕ-discrete i j) [
+          | yes q ↦ rw q (getD-set-other b₂ (z + j) (x + j) w 0 (λ o. omega arith) ∙ getD-set-other b₁ (y + j) (x + j) v 0 (λ o. omega arith)
+              ∙ getD-set-same b (x + j) u 0 (omega arith) ∙ eu)
+          | no q ↦ past (x + i) (λ o. q (omega arith)) (λ o. omega arith) (λ o. omega arith) ∙ p .first i (omega (arith, q))
+        ];
+        second = λ i l. elim (ℕ-discrete i j) [
+          | yes q ↦ rw q (getD-set-other b₂ (z + j) (y + j) w 0 (λ o. omega arith) ∙ getD-set-same b₁ (y + j) v 0 (omega arith) ∙ ev)
+          | no q ↦ past (y + i) (λ o. omega arith) (λ o. q (omega arith)) (λ o. omega arith) ∙ p .second i (omega (arith, q))
+        ];
+        third = λ i l. elim (ℕ-discrete i j) [
+          | yes q ↦ rw q (getD-set-same b₂ (z + j) w 0 (omega arith) ∙ ew)
+          | no q ↦ past (z + i) (λ o. omega arith) (λ o. omega arith) (λ o. q (omega arith)) ∙ p .third i (omega (arith, q))
+        ];
+        other = λ q d e i.
+            past q (λ o. d j (omega arith) o) (λ o. e j (omega arith) o) (λ o. i j (omega arith) o)
+            ∙ p .other q (λ k l o. d k (omega arith) o) (λ k l o. e k (omega arith) o) (λ k l o. i k (omega arith) o);
+      }
+
+pub three-end : (x y z j many : ℕ) (f g h : ℕ → ℕ) (a b : List ℕ) → LaidThree x y z j f g h a b → j ≡ many → LaidThree x y z many f g h a b
+three-end x y z j many f g h a b p e = rw e at p
+
+-- ---- four columns
+pub four-start : (x y z t : ℕ) (f g h i : ℕ → ℕ) (l : List ℕ) → LaidFour x y z t 0 f g h i l l
+four-start x y z t f g h i l = record {
+  long = refl;
+  first = λ j l. absurd (omega arith);
+  second = λ j l. absurd (omega arith);
+  third = λ j l. absurd (omega arith);
+  fourth = λ j l. absurd (omega arith);
+  other = λ q d e k o. refl;
+}
+
+module _ (x y z t j many : ℕ) (f g h i : ℕ → ℕ) (a b : List ℕ) (p : LaidFour x y z t j f g h i a b) (hj : j < many) (hx : x + many ≤ y)
+    (hy : y + many ≤ z) (hz : z + many ≤ t) (ht : t + many ≤ length a) (u v w r : ℕ) where
+  beyond : (q : ℕ) → (q ≡ x + j → ⊥) → (q ≡ y + j → ⊥) → (q ≡ z + j → ⊥) → (q ≡ t + j → ⊥)
+      → getD (set (set (set (set b (x + j) u) (y + j) v) (z + j) w) (t + j) r) q 0 ≡ getD b q 0
+  beyond q d e k o =
+      getD-set-other (set (set (set b (x + j) u) (y + j) v) (z + j) w) (t + j) q r 0 o
+      ∙ getD-set-other (set (set b (x + j) u) (y + j) v) (z + j) q w 0 k
+      ∙ getD-set-other (set b (x + j) u) (y + j) q v 0 e ∙ getD-set-other b (x + j) q u 0 d
+
+  pub four-next : u ≡ f j → v ≡ g j → w ≡ h j → r ≡ i j
+      → LaidFour x y z t (j + 1) f g h i a (set (set (set (set b (x + j) u) (y + j) v) (z + j) w) (t + j) r)
+  four-next eu ev ew er =
+      let b₁ = set b (x + j) u in
+      let b₂ = set b₁ (y + j) v in
+      let b₃ = set b₂ (z + j) w in
+      let long₀ = p .long in
+      let long₁ = length-set b (x + j) u in
+      let long₂ = length-set b₁ (y + j) v in
+      let long₃ = length-set b₂ (z + j) w in
+      record {
+        long = length-set b₃ (t + j) r ∙ long₃ ∙ long₂ ∙ long₁ ∙ long₀;
+        first = λ k l. elim (ℕ-discrete k j) [
+          | yes q ↦ rw q (getD-set-other b₃ (t + j) (x + j) r 0 (λ o. omega arith) ∙ getD-set-other b₂ (z + j) (x + j) w 0 (λ o. omega arith)
+              ∙ getD-set-other b₁ (y + j) (x + j) v 0 (λ o. omega arith) ∙ getD-set-same b (x + j) u 0 (omega arith) ∙ eu)
+          | no q ↦ beyond (x + k) (λ o. q (omega arith)) (λ o. omega arith) (λ o. omega arith) (λ o. omega arith) ∙ p .first k (omega (arith, q))
+        ];
+        second = λ k l. elim (ℕ-discrete k j) [
+          | yes q ↦ rw q (getD-set-other b₃ (t + j) (y + j) r 0 (λ o. omega arith) ∙ getD-set-other b₂ (z + j) (y + j) w 0 (λ o. omega arith)
+              ∙ getD-set-same b₁ (y + j) v 0 (omega arith) ∙ ev)
+          | no q ↦ beyond (y + k) (λ o. omega arith) (λ o. q (omega arith)) (λ o. omega arith) (λ o. omega arith) ∙ p .second k (omega (arith, q))
+        ];
+        third = λ k l. elim (ℕ-discrete k j) [
+          | yes q ↦ rw q (getD-set-other b₃ (t + j) (z + j) r 0 (λ o. omega arith) ∙ getD-set-same b₂ (z + j) w 0 (omega arith) ∙ ew)
+          | no q ↦ beyond (z + k) (λ o. omega arith) (λ o. omega arith) (λ o. q (omega arith)) (λ o. omega arith) ∙ p .third k (omega (arith, q))
+        ];
+        fourth = λ k l. elim (ℕ-discrete k j) [
+          | yes q ↦ rw q (getD-set-same b₃ (t + j) r 0 (omega arith) ∙ er)
+          | no q ↦ beyond (t + k) (λ o. omega arith) (λ o. omega arith) (λ o. omega arith) (λ o. q (omega arith)) ∙ p .fourth k (omega (arith, q))
+        ];
+        other = λ q d e k m.
+            beyond q (λ o. d j (omega arith) o) (λ o. e j (omega arith) o) (λ o. k j (omega arith) o) (λ o. m j (omega arith) o)
+            ∙ p .other q (λ n l o. d n (omega arith) o) (λ n l o. e n (omega arith) o) (λ n l o. k n (omega arith) o) (λ n l o. m n (omega arith) o);
+      }
+
+pub four-end : (x y z t j many : ℕ) (f g h i : ℕ → ℕ) (a b : List ℕ) → LaidFour x y z t j f g h i a b → j ≡ many
+    → LaidFour x y z t many f g h i a b
+four-end x y z t j many f g h i a b p e = rw e at p
 
 -- ---- frames
 pub below-column : (start many q : ℕ) → q < start → Elsewhere start many q

@@ -22,3 +22,20 @@ pub record Laid (start many : ℕ) (f : ℕ → ℕ) (before after : List ℕ) :
   pub long : length after ≡ length before
   pub inside : (j : ℕ) → j < many → getD after (start + j) 0 ≡ f j
   pub other : (q : ℕ) → Elsewhere start many q → getD after q 0 ≡ getD before q 0
+
+-- three columns of one buffer: from x on, from y on and from z on
+pub record LaidThree (x y z many : ℕ) (f g h : ℕ → ℕ) (before after : List ℕ) : Type 0 where
+  pub long : length after ≡ length before
+  pub first : (j : ℕ) → j < many → getD after (x + j) 0 ≡ f j
+  pub second : (j : ℕ) → j < many → getD after (y + j) 0 ≡ g j
+  pub third : (j : ℕ) → j < many → getD after (z + j) 0 ≡ h j
+  pub other : (q : ℕ) → Elsewhere x many q → Elsewhere y many q → Elsewhere z many q → getD after q 0 ≡ getD before q 0
+
+-- four columns of one buffer: from x, y, z and t on
+pub record LaidFour (x y z t many : ℕ) (f g h i : ℕ → ℕ) (before after : List ℕ) : Type 0 where
+  pub long : length after ≡ length before
+  pub first : (j : ℕ) → j < many → getD after (x + j) 0 ≡ f j
+  pub second : (j : ℕ) → j < many → getD after (y + j) 0 ≡ g j
+  pub third : (j : ℕ) → j < many → getD after (z + j) 0 ≡ h j
+  pub fourth : (j : ℕ) → j < many → getD after (t + j) 0 ≡ i j
+  pub other : (q : ℕ) → Elsewhere x many q → Elsewhere y many q → Elsewhere z many q → Elsewhere t many q → getD after q 0 ≡ getD before q 0

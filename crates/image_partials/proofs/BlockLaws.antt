@@ -21,7 +21,7 @@ use Rattle.image_records.specs.Records.{blockNumbers}
 use Rattle.image_records.proofs.FoundLaws.{BlockGot, judged-under, judged-over}
 use Rattle.image_pieces.specs.Places.{Failed}
 use Rattle.image_pieces.proofs.NextLaws.{next-got, next-fault}
-use Rattle.image_partials.specs.declared.blocks.Tally.{Tally}
+use Rattle.image_partials.specs.declared.tally.Tally.{Tally}
 use Rattle.image_partials.specs.Blocks.{inState, Tallied, leftBlocks, BlocksStand, BlockFails}
 
 -- ---- the definition's reader

@@ -1,18 +1,21 @@
 -- The blocks of a partial as they were read. Assumes nothing.
 use Prim.Native.Nat.{ℕ, zero, suc, _+_, _-_, _*_, _≤_}
 use mathlib.Core.Path.{_≡_}
-use mathlib.Core.Bool.{Bool, cond}
+use mathlib.Core.Bool.{Bool, cond, _&&_}
 use mathlib.Core.List.{List, []}
 use lib.ListN.{length, drop}
+use lib.Dec.{eqb, leb}
 use Rattle.types.specs.declared.block.BlockState.{BlockState}
 use Rattle.types.specs.declared.block.BlockState.the-variants.{None, Requested}
 use Rattle.model.specs.Lists.{len, count}
-use Rattle.model.specs.State.{Block, sameBlockState}
-use Rattle.model.specs.image.Image.{Got, got, fault, getBlocks}
+use Rattle.model.specs.State.{Block, sameBlockState, maxPeers}
+use Rattle.model.specs.image.Image.{blockKind, lastBlockState, Got, got, fault, getBlocks}
 use Rattle.image_pieces.specs.Places.{Failed}
-use Rattle.image_partials.specs.declared.blocks.Tally.{Tally}
+use Rattle.image_partials.specs.declared.tally.Tally.{Tally}
 use Rattle.image_partials.specs.declared.blocks.BlocksRead.{BlocksRead}
 use Rattle.image_partials.specs.declared.blocks.BlocksRead.the-variants.{Found, Fault}
+use Rattle.image_partials.specs.declared.pass.BlocksPassed.{BlocksPassed}
+use Rattle.image_partials.specs.declared.pass.BlocksPassed.the-variants.{Well, Unclear}
 
 -- blocks in one state
 unfoldable pub inState : (k : BlockState) (bs : List Block) → ℕ
@@ -43,3 +46,12 @@ BlockFails start many bytes k = (fits : List Block → Bool) → Failed (getBloc
 unfoldable pub BlocksJudged : (start many : ℕ) (bytes : List ℕ) (r : BlocksRead) → Type 0
 BlocksJudged start many bytes (Found t) = BlocksStand start many bytes t
 BlocksJudged start many bytes (Fault k) = BlockFails start many bytes k
+
+-- ---- a pass that only tells whether all of them are well
+-- a block's numbers but for its peer
+unfoldable pub inRange : (kind state numPeers has : ℕ) → Bool
+inRange kind state numPeers has = eqb kind blockKind && (leb state lastBlockState && (leb has 1 && leb numPeers maxPeers))
+
+unfoldable pub BlocksWell : (start many : ℕ) (bytes : List ℕ) (r : BlocksPassed) → Type 0
+BlocksWell start many bytes (Well t) = BlocksStand start many bytes t
+BlocksWell start many bytes Unclear = Unit

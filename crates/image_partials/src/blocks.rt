@@ -1,4 +1,7 @@
 // The blocks of a partial: each by its own rule, and how many are free and requested.
+use crate::pass::BlocksPassed;
+use crate::pass::pass_blocks;
+use crate::tally::Tally;
 use image_records::BlockRead;
 use image_records::read_block;
 ghost use mathlib.Core.Path.{_≡_};
@@ -7,11 +10,6 @@ ghost use lib.ListN.{length};
 ghost use lib.Dec.{eqb};
 ghost use Rattle.model.specs.Lists.{bit};
 ghost use Rattle.image_partials.specs.Blocks.{BlocksJudged};
-
-pub struct Tally {
-    pub free: u64,
-    pub requested: u64,
-}
 
 pub enum BlocksRead {
     Found(Tally),
@@ -36,8 +34,8 @@ fn count_block(t: Tally, state: u64) -> Tally
     }
 }
 
-// `many` blocks from `start` on. What they give together is judged behind the last one.
-pub fn read_blocks(bytes: &[u8], start: usize, many: usize) -> BlocksRead
+// Block by block, up to the first fault.
+fn read_each(bytes: &[u8], start: usize, many: usize) -> BlocksRead
     requires { ⌜ (start ≤ length (now bytes)) × (1 ≤ many) × (many ≤ 256) ⌝ }
     ensures { λ r. ⌜ BlocksJudged start many (now (bytes .entry)) r ⌝ }
 {
@@ -56,4 +54,16 @@ pub fn read_blocks(bytes: &[u8], start: usize, many: usize) -> BlocksRead
         j += 1;
     }
     BlocksRead::Found(t)
+}
+
+// `many` blocks from `start` on. What they give together is judged behind the last one. A pass that only tells whether all are well goes
+// first, since that is what an image mostly has.
+pub fn read_blocks(bytes: &[u8], start: usize, many: usize) -> BlocksRead
+    requires { ⌜ (start ≤ length (now bytes)) × (1 ≤ many) × (many ≤ 256) ⌝ }
+    ensures { λ r. ⌜ BlocksJudged start many (now (bytes .entry)) r ⌝ }
+{
+    match pass_blocks(bytes, start, many) {
+        BlocksPassed::Well(t) => BlocksRead::Found(t),
+        BlocksPassed::Unclear => read_each(bytes, start, many),
+    }
 }

@@ -2,5 +2,8 @@
 mod blocks;
 mod partial;
 mod partials;
+mod pass;
+mod quads;
+mod tally;
 
 pub use partials::read_partials;

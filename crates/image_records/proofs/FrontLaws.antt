@@ -11,8 +11,10 @@ use lib.ListN.{length, take, drop, getD, length-drop, drop-of-length-le}
 use lib.Seq.{drop-cons, drop-drop, length-take-le}
 use borrow.Author.Tests.{eq-eqb, ne-eqb, lt-ltb, le-ltb, le-leb, lt-leb, leb-true}
 use Rattle.model.specs.Lists.{len, every}
-use Rattle.model.specs.image.Image.{bodyLength, Got, got, fault, startsWith, given, judged, obeying, comes}
+use Rattle.model.specs.image.Image.{bodyLength, Got, got, fault, startsWith, given, judged, obeying, comes, field}
 use Rattle.model.proofs.base.Truths.{both, both-true, by-test}
+use Rattle.image_bytes.specs.Put.{FieldRead}
+use Rattle.image_bytes.proofs.FieldLaws.{field-inside}
 use Rattle.image_records.specs.Records.{bodyAt, Body}
 
 -- ---- bytes
@@ -109,6 +111,18 @@ module _ (kind at : ℕ) (bytes : List ℕ) where
     long = length-take-le (bodyLength kind) (drop 1 (drop at bytes))
         (omega (arith, stands-within e, length-drop 1 (drop at bytes), length-drop at bytes));
   }
+
+-- ---- a number in its body
+pub body-field : (kind at k w : ℕ) (bytes : List ℕ) → k + w ≤ bodyLength kind
+    → field k w (bodyAt kind at bytes) ≡ field (at + 1 + k) w bytes
+unfolding bodyAt
+body-field kind at k w bytes h =
+    ap (λ (l : List ℕ). field k w (take (bodyLength kind) l)) (drop-drop 1 at bytes) ∙ field-inside (at + 1) (bodyLength kind) k w bytes h
+
+-- one that was read in the bytes is the body's
+pub body-read : (kind at k w place : ℕ) (bytes : List ℕ) (r : ℕ) → place ≡ at + 1 + k → k + w ≤ bodyLength kind
+    → FieldRead place w bytes r → r ≡ field k w (bodyAt kind at bytes)
+body-read kind at k w place bytes r e h f = f .is ∙ ap (λ (x : ℕ). field x w bytes) e ∙ sym (body-field kind at k w bytes h)
 
 -- ---- what its reader finds
 module _ {A : Type 0} (kind : ℕ) (read : List ℕ → Option A) where

@@ -22,11 +22,10 @@ use Rattle.model.proofs.image.Parts.{extents-end, extents-full, extents-more}
 use Rattle.memory_layout.specs.Tables.{tabulate}
 use Rattle.memory_layout.proofs.TableLaws.{tabulate-ext}
 use Rattle.image_records.specs.Records.{bodyAt}
-use Rattle.image_records.proofs.FrontLaws.{judged-none, judged-cases}
+use Rattle.image_records.proofs.FrontLaws.{judged-none, judged-cases, body-field}
 use Rattle.image_pieces.specs.Pieces.{piecePlace, pieceBody, pieceIn}
 use Rattle.image_tail.specs.Extents.{extentAt, extentsBefore}
 use Rattle.image_columns.specs.Columns.{blockBody, blockIn, flagsAt}
-use Rattle.image_columns.proofs.ColumnLaws.{body-field}
 use Rattle.image_store.specs.Given.{PieceTold}
 
 -- ---- one record
