@@ -1,6 +1,6 @@
 //! How near to its goal reading an image can come: the two passes that no reader leaves out, by hand, without bounds checks and with
-//! nothing beside them: the numbers of every block read and judged, and every number stored. Each in two forms: a block a turn, and four or
-//! eight at once by SSE2, which every x86-64 has; the fastest forms known.
+//! nothing beside them: every number of pieces, blocks and list read and judged, and every number stored. Blocks in two forms: a block a turn,
+//! and four or eight at once by SSE2, which every x86-64 has; the fastest forms known.
 
 use std::arch::x86_64::*;
 
@@ -132,4 +132,70 @@ pub unsafe fn store_eight(p: *const u8, many: usize, to: Columns) {
         j += 8;
     }
     store_from(j, p, many, to);
+}
+
+unsafe fn read4(p: *const u8) -> u32 {
+    (p as *const u32).read_unaligned().swap_bytes()
+}
+
+/// Pieces judged: each number in its range, and the rank by which the list is judged.
+pub unsafe fn judge_pieces(p: *const u8, many: usize, seeds: u16, size: u32, ranks: &mut [u16; 4096]) -> bool {
+    // what a state takes off the rank, and whether a piece in it has one
+    let (less, listed) = ([3, 3, 3, 3, 2, 1, 1], [true, false, false, true, true, true, true]);
+    for i in 0..many {
+        let q = p.add(10 * i);
+        let (kind, count, state, priority) = (*q, read2(q.add(1)), *q.add(3), *q.add(4));
+        let (flushed, pad) = (*q.add(5), read4(q.add(6)));
+        let one_wrong = kind != 2 || state > 6 || flushed > 1 || count > 1000 - seeds || priority > 7;
+        if one_wrong || flushed == 1 && state != 4 || pad > size {
+            return false;
+        }
+        let state = state as usize;
+        let rank = (count + 1) * (8 - priority as u16) * 3 + 1 - less.get_unchecked(state);
+        let has = (priority != 0) & (flushed == 0) & (count | seeds != 0) & *listed.get_unchecked(state);
+        *ranks.get_unchecked_mut(i) = if has { rank } else { 0 };
+    }
+    true
+}
+
+/// Pieces stored: pad bytes as words; peer count, state, priority and flushed as cells.
+pub unsafe fn store_pieces(p: *const u8, many: usize, pads: *mut u64, cells: *mut u16) {
+    for i in 0..many {
+        let q = p.add(10 * i);
+        *pads.add(i) = read4(q.add(6)) as u64;
+        *cells.add(i) = read2(q.add(1));
+        *cells.add(many + i) = *q.add(3) as u16;
+        *cells.add(2 * many + i) = *q.add(4) as u16;
+        *cells.add(3 * many + i) = *q.add(5) as u16;
+    }
+}
+
+/// A piece that the list has is marked in its rank, which is lower than this.
+const LISTED: u16 = 1 << 15;
+
+/// The list judged: pieces with a rank, none twice, ranks never falling, none left out.
+pub unsafe fn judge_list(p: *const u8, places: usize, ranks: &mut [u16]) -> bool {
+    let mut last = 1;
+    for k in 0..places {
+        let q = p.add(5 * k);
+        let piece = read4(q.add(1)) as usize;
+        if *q != 6 || piece >= ranks.len() {
+            return false;
+        }
+        let rank = ranks.get_unchecked_mut(piece);
+        if *rank < last || *rank >= LISTED {
+            return false;
+        }
+        last = *rank;
+        *rank |= LISTED;
+    }
+    ranks.iter().fold(true, |all, rank| all & (*rank == 0 || *rank >= LISTED))
+}
+
+/// The list stored: a word of piece and rank for each place.
+pub unsafe fn store_list(p: *const u8, places: usize, ranks: &[u16], list: *mut u64) {
+    for k in 0..places {
+        let piece = read4(p.add(5 * k + 1)) as usize;
+        *list.add(k) = ((ranks.get_unchecked(piece) & (LISTED - 1)) as u64) << 16 | piece as u64;
+    }
 }

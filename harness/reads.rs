@@ -4,12 +4,12 @@
 //! reference refuses is refused with 13, in buffers of any length. A refusal leaves every buffer as it was. Built like the programs of
 //! `harness/run`. Prints how many were compared, and ends with status 1 at the first difference. With `time` as an argument it prints
 //! instead how fast the longest images of `compare.images` (standard input) are read, beside a copy of their bytes, the memory test, and the
-//! passes over blocks that no reader leaves out, by hand.
+//! passes that no reader leaves out, by hand.
 
 mod read_floor;
 mod records;
 
-use read_floor::{judge_each, judge_four, parts, store_each, store_eight, Columns, Part};
+use read_floor::{judge_each, judge_four, judge_list, judge_pieces, parts, store_each, store_eight, store_list, store_pieces, Columns, Part};
 use records::{unpack, DownloadingPiece, ROWS};
 use std::hint::black_box;
 use std::io::BufRead;
@@ -183,6 +183,22 @@ fn by_hand(k: usize, data: &[u8], parts: &[Part], g: Geometry, lent: &mut Lent) 
     }
 }
 
+/// Pieces and list by hand: judged, or stored.
+fn rest_by_hand(stores: bool, data: &[u8], size: u32, g: Geometry, lent: &mut Lent, ranks: &mut [u16; 4096]) {
+    let (n, places) = (g.pieces, lent.words[6] as usize);
+    let start = data.len() - 5 * places;
+    unsafe {
+        let (pieces, list) = (data.as_ptr().add(24), data.as_ptr().add(start));
+        if stores {
+            store_pieces(pieces, n, lent.words[16..].as_mut_ptr(), lent.cells.as_mut_ptr());
+            store_list(list, places, &ranks[..n], lent.words[16 + n..].as_mut_ptr());
+        } else {
+            let seeds = lent.words[2] as u16;
+            assert!(judge_pieces(pieces, n, seeds, size, ranks) && (lent.words[5] == 1 || judge_list(list, places, &mut ranks[..n])));
+        }
+    }
+}
+
 /// The least of many rounds, in nanoseconds. What is stored by hand has to be what was read.
 fn timed(data: &[u8]) {
     let g = geometry(data);
@@ -208,7 +224,16 @@ fn timed(data: &[u8]) {
             }
         }
     }
-    let mut least = [f64::MAX; 8];
+    let (size, mut ranks) = (head(9, 4) as u32, [0; 4096]);
+    again.words[16..16 + 2 * g.pieces].fill(0);
+    again.cells[..4 * g.pieces].fill(0);
+    rest_by_hand(false, data, size, g, &mut again, &mut ranks);
+    rest_by_hand(true, data, size, g, &mut again, &mut ranks);
+    let listed = 16 + g.pieces + lent.words[6] as usize;
+    if again.words[..listed] != lent.words[..listed] || again.cells[..4 * g.pieces] != lent.cells[..4 * g.pieces] {
+        differs(0, "pieces or list stored by hand are not what is read");
+    }
+    let mut least = [f64::MAX; 10];
     for _ in 0..400 {
         for (k, least) in least.iter_mut().enumerate() {
             let start = Instant::now();
@@ -217,7 +242,8 @@ fn timed(data: &[u8]) {
                 1 => black_box(&mut to).copy_from_slice(black_box(data)),
                 2 => drop(black_box(lent.check(black_box(&mut counts)))),
                 3 => drop(black_box(unsafe { im_judge_image(black_box(data).as_ptr(), data.len()) })),
-                _ => by_hand(k - 4, black_box(data), &parts, g, &mut lent),
+                4..=7 => by_hand(k - 4, black_box(data), &parts, g, &mut lent),
+                _ => rest_by_hand(k == 9, black_box(data), size, g, &mut lent, &mut ranks),
             }
             *least = least.min(start.elapsed().as_nanos() as f64);
         }
@@ -229,6 +255,8 @@ fn timed(data: &[u8]) {
     println!("  judged in {:.2} µs; {blocks} blocks by hand, judged and stored: a block a turn {:.2} and {:.2} µs, {:.2} of that goal; \
         many at once {:.2} and {:.2}, {:.2}", least[3] / 1000.0, least[4] / 1000.0, least[5] / 1000.0, (least[4] + least[5]) / goal,
         least[6] / 1000.0, least[7] / 1000.0, (least[6] + least[7]) / goal);
+    println!("  pieces and list by hand, judged and stored: {:.2} and {:.2} µs; with the blocks many at once {:.2} of that goal",
+        least[8] / 1000.0, least[9] / 1000.0, (least[6] + least[7] + least[8] + least[9]) / goal);
 }
 
 fn main() {

@@ -1,4 +1,5 @@
-// A field of records that stand one after another in bytes, laid out as a column of a buffer: number j is read at `first` + `step` * j.
+// Records that stand one after another in bytes, laid out as columns of buffers, one for each field: number j of a field is read at
+// `first` + `step` * j.
 mod pieces;
 mod quads;
 

@@ -68,7 +68,8 @@ fn fresh_blocks(cells: &mut [u16], s: Shape, p: usize, many: usize, payload: usi
     }
 }
 
-// The record of a partial for piece i, which has `many` blocks, `payload` of them with more than pad bytes. With it put in, the partial stands; the piece's state is a later store's.
+// The record of a partial for piece i, which has `many` blocks, `payload` of them with more than pad bytes. With it put in, the partial
+// stands; the piece's state is a later store's.
 pub fn add_partial(
     words: &mut [u64],
     cells: &mut [u16],

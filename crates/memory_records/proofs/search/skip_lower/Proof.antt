@@ -213,14 +213,18 @@ module _ {M : Type 1} (𝓤 : URA M) (H : Heap 𝓤) (A : Atoms 𝓤) (W : Given
         (and-then ! (load ! (from ! (stop !)) (look ! 4 refl)) (no-more !))) (λ g3.
         land ! (from ! (stop !)) (init ! 8 refl (LL.lawful P.the-type P′.the-laws 𝓤 H A W .typed (getD ys (k + 3) noRecord) _ g3 .0)) $
         call-plain u32 u32 u32 𝓤 H A W (uint-makes 𝓤 H A W w32) (uint-makes 𝓤 H A W w32) (vint w32) (uint-tells w32)
-        (higher.clauses 𝓤 H A mem run) (getD ys k noRecord .index) (getD ys (k + 1) noRecord .index) (vint w32 (getD ys k noRecord .index)) (vint w32 (getD ys (k + 1) noRecord .index)) ! (fmOf 𝓤 H (W .laws) 𝓣)
-        (λ r. ((getD ys k noRecord .index) ≤ r) × ((getD ys (k + 1) noRecord .index) ≤ r)) known-higher tt (index-is _ g0) (index-is _ g1) (id⊢ 𝓤 _) (λ r ws. id⊢ 𝓤 _)
+        (higher.clauses 𝓤 H A mem run) (getD ys k noRecord .index) (getD ys (k + 1) noRecord .index) (vint w32 (getD ys k noRecord .index))
+        (vint w32 (getD ys (k + 1) noRecord .index)) ! (fmOf 𝓤 H (W .laws) 𝓣)
+        (λ r. ((getD ys k noRecord .index) ≤ r) × ((getD ys (k + 1) noRecord .index) ≤ r)) known-higher tt (index-is _ g0) (index-is _ g1)
+        (id⊢ 𝓤 _) (λ r ws. id⊢ 𝓤 _)
         (λ u. and-then ! (load ! (from ! (fld ! refl (stop !))) (look-in ! 12 (sub ! 0 refl (whole !))))
         (and-then ! (load ! (from ! (fld ! refl (stop !))) (look-in ! 11 (sub ! 0 refl (whole !)))) (no-more !))) (λ h0 is0 e0.
         land ! (from ! (stop !)) (init ! 7 refl (tt, record { fits = is0 .1 })) $
         call-plain u32 u32 u32 𝓤 H A W (uint-makes 𝓤 H A W w32) (uint-makes 𝓤 H A W w32) (vint w32) (uint-tells w32)
-        (higher.clauses 𝓤 H A mem run) (getD ys (k + 2) noRecord .index) (getD ys (k + 3) noRecord .index) (vint w32 (getD ys (k + 2) noRecord .index)) (vint w32 (getD ys (k + 3) noRecord .index)) ! (fmOf 𝓤 H (W .laws) 𝓣)
-        (λ r. ((getD ys (k + 2) noRecord .index) ≤ r) × ((getD ys (k + 3) noRecord .index) ≤ r)) known-higher tt (index-is _ g2) (index-is _ g3) (id⊢ 𝓤 _) (λ r ws. id⊢ 𝓤 _)
+        (higher.clauses 𝓤 H A mem run) (getD ys (k + 2) noRecord .index) (getD ys (k + 3) noRecord .index) (vint w32 (getD ys (k + 2)
+        noRecord .index)) (vint w32 (getD ys (k + 3) noRecord .index)) ! (fmOf 𝓤 H (W .laws) 𝓣)
+        (λ r. ((getD ys (k + 2) noRecord .index) ≤ r) × ((getD ys (k + 3) noRecord .index) ≤ r)) known-higher tt (index-is _ g2) (index-is
+        _ g3) (id⊢ 𝓤 _) (λ r ws. id⊢ 𝓤 _)
         (λ u. and-then ! (load ! (from ! (fld ! refl (stop !))) (look-in ! 10 (sub ! 0 refl (whole !))))
         (and-then ! (load ! (from ! (fld ! refl (stop !))) (look-in ! 9 (sub ! 0 refl (whole !)))) (no-more !))) (λ h1 is1 e1.
         land ! (from ! (stop !)) (init ! 6 refl (tt, record { fits = is1 .1 })) $
