@@ -25,7 +25,7 @@ use Rattle.memory_layout.proofs.ReadLaws.{SameRead}
 use Rattle.memory_fields.specs.Reading.{WordsSay}
 use Rattle.memory_blocks.specs.declared.info.BlockInfo.{BlockInfo}
 use Rattle.memory_blocks.specs.Blocks.{blockOf, BlockStored}
-use Rattle.memory_partials.specs.Places.{placesTaken, PlacesBelow, lowestFree}
+use Rattle.memory_partials.specs.Places.{placesTaken, PlacesBelow, PlacesApart, lowestFree}
 use Rattle.memory_partials.specs.Partials.{Edited, Fresh, Opened}
 use Rattle.memory_partials.proofs.RecordLaws.{at-live, slot}
 use Rattle.memory_partials.proofs.PlaceLaws.{place-free}
@@ -43,6 +43,14 @@ pub rows-below : (s : Shape) (live : ℕ) (rows words cells : List ℕ) → InBo
 unfolding recordAt
 rows-below s live rows words cells r e k h =
     subst (λ (x : Record). x .«info_idx» < s .places) (records-at live rows k h) (r .placed k (omega (arith, e)))
+
+-- no two of them the same
+pub rows-apart : (s : Shape) (live : ℕ) (rows words cells : List ℕ) → InBounds s (recordsIn live rows) words cells → live ≡ headWord words 7
+    → PlacesApart live rows
+unfolding recordAt
+rows-apart s live rows words cells r e k l h m q =
+    r .apart k l (omega (arith, e)) (omega (arith, e))
+    (ap (λ (x : Record). x .«info_idx») (records-at live rows k h) ∙ (q ∙ sym (ap (λ (x : Record). x .«info_idx») (records-at live rows l m))))
 
 row-record : (live : ℕ) (rows : List ℕ) (records : List Record) → take live records ≡ recordsIn live rows → (k : ℕ) → k < live
     → recordAt (recordsIn live rows) k ≡ recordAt records k

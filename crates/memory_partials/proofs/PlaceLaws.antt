@@ -65,14 +65,14 @@ marked-end rows marks k live m e = subst (λ (n : ℕ). Marked (placesTaken n ro
 
 -- ---- an upward search
 module _ (test : ℕ → Bool) where
-  from-here : (t k : ℕ) → test k ≡ true → firstFrom test (suc t) k ≡ k
+  pub from-here : (t k : ℕ) → test k ≡ true → firstFrom test (suc t) k ≡ k
   from-here t k e = ap (λ (b : Bool). placeOf b k (firstFrom test t (suc k))) e
 
-  from-next : (t k : ℕ) → test k ≡ false → firstFrom test (suc t) k ≡ firstFrom test t (suc k)
+  pub from-next : (t k : ℕ) → test k ≡ false → firstFrom test (suc t) k ≡ firstFrom test t (suc k)
   from-next t k e = ap (λ (b : Bool). placeOf b k (firstFrom test t (suc k))) e
 
   -- where it stops before the end, the test holds
-  first-holds : (t k : ℕ) → firstFrom test t k < k + t → test (firstFrom test t k) ≡ true
+  pub first-holds : (t k : ℕ) → firstFrom test t k < k + t → test (firstFrom test t k) ≡ true
   first-holds zero k h = absurd (omega arith)
   first-holds (suc t) k h = go (test k) refl (first-holds t (suc k))
     where
@@ -82,7 +82,7 @@ module _ (test : ℕ → Bool) where
       go false e again = ap test (from-next t k e) ∙ again (omega (arith, h, from-next t k e))
 
   -- where it ends, the test holds nowhere
-  first-none : (t k : ℕ) → k + t ≤ firstFrom test t k → (p : ℕ) → k ≤ p → p < k + t → test p ≡ false
+  pub first-none : (t k : ℕ) → k + t ≤ firstFrom test t k → (p : ℕ) → k ≤ p → p < k + t → test p ≡ false
   first-none zero k h p l m = absurd (omega arith)
   first-none (suc t) k h p l m = go (test k) refl (λ a b c. first-none t (suc k) a p b c)
     where
@@ -204,7 +204,7 @@ module _ (x : ℕ) where
       go true m again = refl
       go false m again = again m
 
-pigeonhole : (n : ℕ) (l : List ℕ) → ((p : ℕ) → p < n → member p l ≡ true) → n ≤ length l
+pub pigeonhole : (n : ℕ) (l : List ℕ) → ((p : ℕ) → p < n → member p l ≡ true) → n ≤ length l
 pigeonhole zero l h = omega arith
 pigeonhole (suc n) l h =
     omega (
@@ -240,7 +240,7 @@ taken-long live rows = tabulate-len live (λ k. rowAt rows k .«info_idx»)
 pub place-there : (places live : ℕ) (rows : List ℕ) → live < places → lowestFree places (placesTaken live rows) < places
 place-there places live rows h = lowest-there places (placesTaken live rows) (omega (arith, taken-long live rows))
 
-none-of : (n : ℕ) (f : ℕ → ℕ) (x : ℕ) → member x (tabulate n f) ≡ false → (k : ℕ) → k < n → f k ≢ x
+pub none-of : (n : ℕ) (f : ℕ → ℕ) (x : ℕ) → member x (tabulate n f) ≡ false → (k : ℕ) → k < n → f k ≢ x
 unfolding member any tabulate
 none-of zero f x e k h = absurd (not-suc-le-zero h)
 none-of (suc n) f x e k h = go (eqb x (f 0)) refl e k h (λ a l m. none-of n (λ k. f (suc k)) x a l m)

@@ -2,12 +2,14 @@
 use memory_layout::Shape;
 use memory_records::row;
 use types::u32_to_usize;
+use types::usize_to_u32;
 ghost use mathlib.Core.Path.{_≡_};
 ghost use mathlib.Core.List.{[]};
 ghost use Prim.Native.Nat.{_+_, _-_, _<_, _≤_};
 ghost use lib.ListN.{length};
 ghost use Rattle.memory_layout.specs.Bounds.{Sizes};
-ghost use Rattle.memory_partials.specs.Places.{placesTaken, PlacesBelow, lowestFree, Marked, unmarkedFrom, markedThrough};
+ghost use Rattle.memory_partials.specs.Places.{placesTaken, PlacesBelow, PlacesApart, lowPlaces, lowestFree};
+ghost use Rattle.memory_partials.specs.Places.{Marked, unmarkedFrom, markedThrough};
 
 // A mark for each place that one of the first `live` rows has.
 fn mark_places(marks: &mut [bool; 512], rows: &[u32], live: usize)
@@ -69,14 +71,43 @@ fn first_unmarked(marks: &[bool; 512], places: usize) -> usize
     p
 }
 
-// The lowest place that no live row has. There is one where fewer records are live than there are places.
+// Whether the first `live` rows have places below their number. The loop has no way out, so that many rows are taken at a time.
+fn places_low(rows: &[u32], live: usize) -> bool
+    requires { ⌜ (live ≤ 512) × (length (now rows) ≡ 1536) ⌝ }
+    ensures { λ r. ⌜ r ≡ lowPlaces live live (now (rows .entry)) ⌝ }
+{
+    let most = usize_to_u32(live);
+    let mut all = true;
+    let mut k = 0;
+    while k < live {
+        all = all & (rows[512 + k] < most);
+        k += 1;
+    }
+    all
+}
+
+// The first place without a mark, where each live row has marked its own.
+fn first_free(rows: &[u32], live: usize, places: usize) -> usize
+    requires { ⌜ (live ≤ 512) × (places ≤ 512) × (length (now rows) ≡ 1536) ⌝ }
+    requires { ⌜ PlacesBelow 512 live (now rows) ⌝ }
+    ensures { λ r. ⌜ r ≡ lowestFree places (placesTaken live (now (rows .entry))) ⌝ }
+{
+    let mut marks = [false; 512];
+    mark_places(&mut marks, rows, live);
+    first_unmarked(&marks, places)
+}
+
+// The lowest place that no live row has. There is one where fewer records are live than there are places. Where all of their places are
+// below their number, as a station's mostly are, the rows have all of these, and it is that number.
 pub fn free_place(rows: &[u32], live: usize, s: Shape) -> usize
     requires { ⌜ Sizes s ⌝ }
     requires { ⌜ (live < s .places) × (length (now rows) ≡ 1536) ⌝ }
     requires { ⌜ PlacesBelow (s .places) live (now rows) ⌝ }
+    requires { ⌜ PlacesApart live (now rows) ⌝ }
     ensures { λ r. ⌜ (r ≡ lowestFree (s .places) (placesTaken live (now (rows .entry)))) × (r < s .places) ⌝ }
 {
-    let mut marks = [false; 512];
-    mark_places(&mut marks, rows, live);
-    first_unmarked(&marks, s.places)
+    if places_low(rows, live) {
+        return live;
+    }
+    first_free(rows, live, s.places)
 }

@@ -3,7 +3,7 @@ use native.Mathlib.Omega.{arith}
 use mathlib.Core.Path.{refl}
 use Rattle.memory_layout.proofs.OffsetLaws.{head-in, places-min}
 use Rattle.memory_layout.proofs.BoundsLaws.{blocks-within}
-use Rattle.memory_partials.proofs.AddLaws.{bounds-shape, rows-below, opened-all}
+use Rattle.memory_partials.proofs.AddLaws.{bounds-shape, rows-below, rows-apart, opened-all}
 use borrow.Author.Needs.{needs}
 use Rattle.memory_partials.proofs.opening.add_partial.Statement.{statement}
 use Rattle.memory_partials.proofs.opening.add_partial.Tie as tie
@@ -11,7 +11,7 @@ use Rattle.memory_partials.proofs.opening.add_partial.Tie as tie
 free-place-requires : tie.Need-free-place-requires
 free-place-requires c κs =
     let q = c .before .before .before .pre in
-    (q .0 .spans .inWords .sizes, ((q .1 .0 .1, q .1 .0 .2), rows-below _ _ _ _ _ (q .0) (q .1 .0 .0)))
+    (q .0 .spans .inWords .sizes, ((q .1 .0 .1, q .1 .0 .2), (rows-below _ _ _ _ _ (q .0) (q .1 .0 .0), rows-apart _ _ _ _ _ (q .0) (q .1 .0 .0))))
 
 fresh-blocks-requires : tie.Need-fresh-blocks-requires
 fresh-blocks-requires c κs =
