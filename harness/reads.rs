@@ -3,8 +3,8 @@
 //! image is written again byte for byte, nothing beyond the needs moved; a buffer that is one too short is refused with 2. One that the
 //! reference refuses is refused with 13, in buffers of any length. A refusal leaves every buffer as it was. Built like the programs of
 //! `harness/run`. Prints how many were compared, and ends with status 1 at the first difference. With `time` as an argument it prints
-//! instead how fast the longest images of `compare.images` (standard input) are read, beside a copy of their bytes, the memory test, and the
-//! passes over blocks that no reader leaves out, by hand.
+//! instead how fast the longest images of `compare.images` (standard input) are read, beside a copy of their bytes, the memory test, and
+//! the passes over blocks that no reader leaves out, by hand.
 
 mod read_floor;
 mod records;

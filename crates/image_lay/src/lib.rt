@@ -1,4 +1,4 @@
-// A field of records that stand one after another in bytes, laid out as a column of a buffer: number j is read at `first` + `step` * j.
+// Fields of records that stand one after another in bytes, laid out as columns of buffers: number j is read at `first` + `step` * j.
 mod pieces;
 mod quads;
 
