@@ -54,9 +54,11 @@ pieces-stored n bytes words cells words′ cells′ w c = record {
   counts = λ i h.
       column-field 0 n 25 10 2 bytes cells′ (c .first) pieceKind (piecePlace i) 0 i (0 * n + i) (omega arith) h (omega arith) (omega arith);
   states = λ i h.
-      column-field n n 27 10 1 bytes cells′ (c .second) pieceKind (piecePlace i) 2 i (1 * n + i) (omega arith) h (omega arith) (omega arith);
+      column-field n n 27 10 1 bytes cells′ (c .second) pieceKind (piecePlace i) 2 i (1 * n + i) (omega arith) h (omega arith)
+      (omega arith);
   priorities = λ i h.
-      column-field (2 * n) n 28 10 1 bytes cells′ (c .third) pieceKind (piecePlace i) 3 i (2 * n + i) (omega arith) h (omega arith) (omega arith);
+      column-field (2 * n) n 28 10 1 bytes cells′ (c .third) pieceKind (piecePlace i) 3 i (2 * n + i) (omega arith) h (omega arith)
+      (omega arith);
   flushed = λ i h.
       column-field (3 * n) n 29 10 1 bytes cells′ (c .fourth) pieceKind (piecePlace i) 4 i (3 * n + i) (omega arith) h (omega arith)
       (omega arith);
@@ -105,11 +107,13 @@ module _ (s : Shape) (words cells : List ℕ) (r : Spans s words cells) (p many 
   unfolding cell
   wide = omega (arith, cell-below (s .blocks) p (many - 1) (placesFor (s .pieces)) placed (omega arith))
 
-  pub states-apart : (x y : ℕ) → x ≡ blockCellAt (s .pieces) (s .blocks) 0 p 0 → y ≡ blockCellAt (s .pieces) (s .blocks) 1 p 0 → x + many ≤ y
+  pub states-apart : (x y : ℕ) → x ≡ blockCellAt (s .pieces) (s .blocks) 0 p 0 → y ≡ blockCellAt (s .pieces) (s .blocks) 1 p 0
+      → x + many ≤ y
   unfolding blockCellAt cell
   states-apart x y ex ey = omega (arith, wide)
 
-  pub counts-apart : (y z : ℕ) → y ≡ blockCellAt (s .pieces) (s .blocks) 1 p 0 → z ≡ blockCellAt (s .pieces) (s .blocks) 2 p 0 → y + many ≤ z
+  pub counts-apart : (y z : ℕ) → y ≡ blockCellAt (s .pieces) (s .blocks) 1 p 0 → z ≡ blockCellAt (s .pieces) (s .blocks) 2 p 0
+      → y + many ≤ z
   unfolding blockCellAt cell
   counts-apart y z ey ez = omega (arith, wide)
 
@@ -144,9 +148,11 @@ module _ (s : Shape) (p start many : ℕ) (bytes words cells words′ cells′ :
     wordsBeyond = λ q h. lw .other q (λ j l d.
         omega (arith, peer-step (s .pieces) (s .blocks) p j, peer-below (s .pieces) (s .blocks) p j hp (omega arith)));
     cellsBelow = λ q h.
-        lc .other q (outside 0 q x (omega arith) ex (inl h)) (outside 1 q y (omega arith) ey (inl h)) (outside 2 q z (omega arith) ez (inl h));
+        lc .other q (outside 0 q x (omega arith) ex (inl h)) (outside 1 q y (omega arith) ey (inl h))
+        (outside 2 q z (omega arith) ez (inl h));
     cellsBeyond = λ q h.
-        lc .other q (outside 0 q x (omega arith) ex (inr h)) (outside 1 q y (omega arith) ey (inr h)) (outside 2 q z (omega arith) ez (inr h));
+        lc .other q (outside 0 q x (omega arith) ex (inr h)) (outside 1 q y (omega arith) ey (inr h))
+        (outside 2 q z (omega arith) ez (inr h));
   }
 
   pub blocks-stored : BlocksStored s p start many bytes words cells words′ cells′
@@ -157,13 +163,16 @@ module _ (s : Shape) (p start many : ℕ) (bytes words cells words′ cells′ :
       record {
         moved = moved;
         states = λ j h.
-            column-field x many (start + 1) 13 1 bytes cells′ (lc .first) blockKind (start + 13 * j) 0 j (blockCellAt n w 0 p j) (omega arith) h
+            column-field x many (start + 1) 13 1 bytes cells′ (lc .first) blockKind (start + 13 * j) 0 j (blockCellAt n w 0 p j)
+            (omega arith) h
             (omega (arith, cell-step n w 0 p j)) (omega arith);
         numPeers = λ j h.
-            column-field y many (start + 2) 13 2 bytes cells′ (lc .second) blockKind (start + 13 * j) 1 j (blockCellAt n w 1 p j) (omega arith) h
+            column-field y many (start + 2) 13 2 bytes cells′ (lc .second) blockKind (start + 13 * j) 1 j (blockCellAt n w 1 p j)
+            (omega arith) h
             (omega (arith, cell-step n w 1 p j)) (omega arith);
         has = λ j h.
-            column-field z many (start + 4) 13 1 bytes cells′ (lc .third) blockKind (start + 13 * j) 3 j (blockCellAt n w 2 p j) (omega arith) h
+            column-field z many (start + 4) 13 1 bytes cells′ (lc .third) blockKind (start + 13 * j) 3 j (blockCellAt n w 2 p j)
+            (omega arith) h
             (omega (arith, cell-step n w 2 p j)) (omega arith);
         peers = λ j h.
             laid-field v many (start + 5) 13 8 bytes words words′ lw blockKind (start + 13 * j) 4 j (peerAt n w p j) (omega arith) h

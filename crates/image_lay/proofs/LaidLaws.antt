@@ -73,7 +73,8 @@ module _ (x y z j many : ℕ) (f g h : ℕ → ℕ) (a b : List ℕ) (p : LaidTh
       record {
         long = length-set b₂ (z + j) w ∙ long₂ ∙ long₁ ∙ long₀;
         first = λ i l. elim (ℕ-discrete i j) [
-          | yes q ↦ rw q (getD-set-other b₂ (z + j) (x + j) w 0 (λ o. omega arith) ∙ getD-set-other b₁ (y + j) (x + j) v 0 (λ o. omega arith)
+          | yes q ↦ rw q (getD-set-other b₂ (z + j) (x + j) w 0 (λ o. omega arith)
+              ∙ getD-set-other b₁ (y + j) (x + j) v 0 (λ o. omega arith)
               ∙ getD-set-same b (x + j) u 0 (omega arith) ∙ eu)
           | no q ↦ past (x + i) (λ o. q (omega arith)) (λ o. omega arith) (λ o. omega arith) ∙ p .first i (omega (arith, q))
         ];
@@ -126,26 +127,33 @@ module _ (x y z t j many : ℕ) (f g h i : ℕ → ℕ) (a b : List ℕ) (p : La
       record {
         long = length-set b₃ (t + j) r ∙ long₃ ∙ long₂ ∙ long₁ ∙ long₀;
         first = λ k l. elim (ℕ-discrete k j) [
-          | yes q ↦ rw q (getD-set-other b₃ (t + j) (x + j) r 0 (λ o. omega arith) ∙ getD-set-other b₂ (z + j) (x + j) w 0 (λ o. omega arith)
+          | yes q ↦ rw q (getD-set-other b₃ (t + j) (x + j) r 0 (λ o. omega arith)
+              ∙ getD-set-other b₂ (z + j) (x + j) w 0 (λ o. omega arith)
               ∙ getD-set-other b₁ (y + j) (x + j) v 0 (λ o. omega arith) ∙ getD-set-same b (x + j) u 0 (omega arith) ∙ eu)
-          | no q ↦ beyond (x + k) (λ o. q (omega arith)) (λ o. omega arith) (λ o. omega arith) (λ o. omega arith) ∙ p .first k (omega (arith, q))
+          | no q ↦ beyond (x + k) (λ o. q (omega arith)) (λ o. omega arith) (λ o. omega arith) (λ o. omega arith)
+              ∙ p .first k (omega (arith, q))
         ];
         second = λ k l. elim (ℕ-discrete k j) [
-          | yes q ↦ rw q (getD-set-other b₃ (t + j) (y + j) r 0 (λ o. omega arith) ∙ getD-set-other b₂ (z + j) (y + j) w 0 (λ o. omega arith)
+          | yes q ↦ rw q (getD-set-other b₃ (t + j) (y + j) r 0 (λ o. omega arith)
+              ∙ getD-set-other b₂ (z + j) (y + j) w 0 (λ o. omega arith)
               ∙ getD-set-same b₁ (y + j) v 0 (omega arith) ∙ ev)
-          | no q ↦ beyond (y + k) (λ o. omega arith) (λ o. q (omega arith)) (λ o. omega arith) (λ o. omega arith) ∙ p .second k (omega (arith, q))
+          | no q ↦ beyond (y + k) (λ o. omega arith) (λ o. q (omega arith)) (λ o. omega arith) (λ o. omega arith)
+              ∙ p .second k (omega (arith, q))
         ];
         third = λ k l. elim (ℕ-discrete k j) [
           | yes q ↦ rw q (getD-set-other b₃ (t + j) (z + j) r 0 (λ o. omega arith) ∙ getD-set-same b₂ (z + j) w 0 (omega arith) ∙ ew)
-          | no q ↦ beyond (z + k) (λ o. omega arith) (λ o. omega arith) (λ o. q (omega arith)) (λ o. omega arith) ∙ p .third k (omega (arith, q))
+          | no q ↦ beyond (z + k) (λ o. omega arith) (λ o. omega arith) (λ o. q (omega arith)) (λ o. omega arith)
+              ∙ p .third k (omega (arith, q))
         ];
         fourth = λ k l. elim (ℕ-discrete k j) [
           | yes q ↦ rw q (getD-set-same b₃ (t + j) r 0 (omega arith) ∙ er)
-          | no q ↦ beyond (t + k) (λ o. omega arith) (λ o. omega arith) (λ o. omega arith) (λ o. q (omega arith)) ∙ p .fourth k (omega (arith, q))
+          | no q ↦ beyond (t + k) (λ o. omega arith) (λ o. omega arith) (λ o. omega arith) (λ o. q (omega arith))
+              ∙ p .fourth k (omega (arith, q))
         ];
         other = λ q d e k m.
             beyond q (λ o. d j (omega arith) o) (λ o. e j (omega arith) o) (λ o. k j (omega arith) o) (λ o. m j (omega arith) o)
-            ∙ p .other q (λ n l o. d n (omega arith) o) (λ n l o. e n (omega arith) o) (λ n l o. k n (omega arith) o) (λ n l o. m n (omega arith) o);
+            ∙ p .other q (λ n l o. d n (omega arith) o) (λ n l o. e n (omega arith) o) (λ n l o. k n (omega arith) o)
+            (λ n l o. m n (omega arith) o);
       }
 
 pub four-end : (x y z t j many : ℕ) (f g h i : ℕ → ℕ) (a b : List ℕ) → LaidFour x y z t j f g h i a b → j ≡ many

@@ -43,7 +43,8 @@ quads-next j f a b p h r e =
 module _ (start many : ℕ) (bytes quads quads′ : List ℕ) (l : Laid 0 many (quadAt start bytes) quads quads′) (n : Narrow start many bytes)
   where
     whole : (j : ℕ) → j < many
-        → getD quads′ j 0 ≡ fieldsAt (start + 1) 13 1 bytes j * 16777216 + (fieldsAt (start + 2) 13 2 bytes j * 256 + fieldsAt (start + 4) 13 1 bytes j)
+        → getD quads′ j 0 ≡ fieldsAt (start + 1) 13 1 bytes j * 16777216 +
+        (fieldsAt (start + 2) 13 2 bytes j * 256 + fieldsAt (start + 4) 13 1 bytes j)
     unfolding quadAt
     whole j h = let e : j ≡ 0 + j = omega arith in ap (λ (k : ℕ). getD quads′ k 0) e ∙ l .inside j h
 

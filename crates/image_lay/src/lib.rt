@@ -1,5 +1,4 @@
-// Records that stand one after another in bytes, laid out as columns of buffers, one for each field: number j of a field is read at
-// `first` + `step` * j.
+// Fields of records that stand one after another in bytes, laid out as columns of buffers: number j is read at `first` + `step` * j.
 mod pieces;
 mod quads;
 

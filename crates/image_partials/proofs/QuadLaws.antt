@@ -39,7 +39,8 @@ gathered-wrong start many bytes a b e = record { long = e; each = λ z j h. absu
 
 pub gathered-next : (start j : ℕ) (bytes a b : List ℕ) (wrong : ℕ) → Gathered start j bytes a b wrong → j < length a
     → (kind state peers has peer q alone : ℕ) → FieldRead (start + 13 * j) 1 bytes kind → FieldRead (start + 13 * j + 1) 1 bytes state
-    → FieldRead (start + 13 * j + 2) 2 bytes peers → FieldRead (start + 13 * j + 4) 1 bytes has → FieldRead (start + 13 * j + 5) 8 bytes peer
+    → FieldRead (start + 13 * j + 2) 2 bytes peers → FieldRead (start + 13 * j + 4) 1 bytes has
+    → FieldRead (start + 13 * j + 5) 8 bytes peer
     → q ≡ kind * 16777216 + (state * 65536 + peers) → has ≤ 1 → alone ≡ cond (eqb has 0) peer 0
     → Gathered start (j + 1) bytes a (set b j q) (bitOr wrong alone)
 gathered-next start j bytes a b wrong p h kind state peers has peer q alone fk fs fn fh fp e hf ea = record {

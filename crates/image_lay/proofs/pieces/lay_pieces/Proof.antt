@@ -199,7 +199,8 @@ slice-write-cells-4 c =
       l .inv .2 .long,
       length-set (l .cells) (a .x + l .j) (c6 .u64-to-u16 .result),
       length-set (set (l .cells) (a .x + l .j) (c6 .u64-to-u16 .result)) (a .y + l .j) (c4 .u64-to-u162 .result),
-      length-set (set (set (l .cells) (a .x + l .j) (c6 .u64-to-u16 .result)) (a .y + l .j) (c4 .u64-to-u162 .result)) (a .z + l .j) (c2 .u64-to-u163 .result),
+      length-set (set (set (l .cells) (a .x + l .j) (c6 .u64-to-u16 .result)) (a .y + l .j) (c4 .u64-to-u162 .result)) (a .z + l .j)
+          (c2 .u64-to-u163 .result),
     )
 
 add-j : tie.Need-add-j Inv-loop μ-loop

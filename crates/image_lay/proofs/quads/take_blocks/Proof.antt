@@ -147,7 +147,8 @@ loop-again c =
       laid-next _ (l .j) _ _ _ (l .inv .1) (omega (arith, c11 .pre .1)) _ (record-field-is _ _ _ _ _ _ _ (c5 .read8 .ensures)),
       quads-next (l .j) _ _ _ (l .inv .2) (omega (arith, c11 .pre .2)) _
           (quad-is _ _ _ _ _ _ _ s n h (c .usize-to-u32 .ensures ∙ c1 .u64-to-usize .ensures)),
-      narrow-next _ (l .j) _ (l .inv .3) (omega (arith, sym n, c3 .read2 .ensures .small)) (omega (arith, sym h, c2 .read12 .ensures .small)),
+      narrow-next _ (l .j) _ (l .inv .3) (omega (arith, sym n, c3 .read2 .ensures .small))
+          (omega (arith, sym h, c2 .read12 .ensures .small)),
     )
 
 same-length : tie.Need-same-length Inv-loop μ-loop
