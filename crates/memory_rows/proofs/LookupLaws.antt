@@ -4,7 +4,7 @@ use mathlib.Core.Logic.{_≢_, _⊎_, ⊎-elim}
 use mathlib.Core.Bool.{Bool, true, false}
 use mathlib.Core.List.{List}
 use mathlib.Core.Option.{some}
-use Prim.Native.Nat.{ℕ, zero, suc, _+_, _≤_, _<_}
+use Prim.Native.Nat.{ℕ, zero, suc, _+_, _-_, _≤_, _<_}
 use native.Mathlib.Decide.{ℕ-discrete, decLt}
 use native.Mathlib.Omega.{arith}
 use lib.Dec.{eqb}
@@ -24,45 +24,49 @@ use Rattle.memory_rows.specs.Lookup.{pickerIn, Halves, FoundIn}
 use Rattle.memory_rows.proofs.RisingLaws.{row-index, rows-rise, live-number, live-nth, live-piece, rise-is}
 
 -- ---- halving
-pub halves-start : (live : ℕ) (rows : List ℕ) (i : ℕ) → Halves live rows i 0 live
-halves-start live rows i = record {
-  ordered = omega arith;
+-- no row before the first, and none from `high` on
+pub halves-start : (live : ℕ) (rows : List ℕ) (i high : ℕ) → live ≤ high → Halves live rows i 0 high
+halves-start live rows i high h = record {
   within = omega arith;
-  below = λ k h. absurd (omega arith);
-  above = λ k a b. absurd (omega arith);
+  below = λ k l. absurd (omega arith);
+  above = λ k a b. absurd (omega (arith, h));
 }
 
 -- nothing between
-pub halves-end : (live : ℕ) (rows : List ℕ) (i low high : ℕ) → Halves live rows i low high → high ≤ low → Halves live rows i low low
-halves-end live rows i low high g h =
-    let e : high ≡ low = omega (arith, g .ordered) in
-    rw e at g
+pub halves-end : (live : ℕ) (rows : List ℕ) (i low high : ℕ) → Halves live rows i low high → high ≡ low → Halves live rows i low low
+halves-end live rows i low high g e = rw e at g
 
-module _ (live : ℕ) (rows : List ℕ) (i low high mid : ℕ) (r : risingFrom 0 (recordsIn live rows) ≡ true) (g : Halves live rows i low high)
-    (a : low ≤ mid) (b : mid < high) where
-  -- the piece in the middle is lower
-  pub halves-up : getD rows mid 0 < i → Halves live rows i (mid + 1) high
-  halves-up e = record {
-    ordered = omega arith;
+module _ (live : ℕ) (rows : List ℕ) (i low high next : ℕ) (g : Halves live rows i low high) where
+  -- the step goes beyond the live rows
+  pub halves-past : live < next → (end : ℕ) → next ≤ end + 1 → Halves live rows i low end
+  halves-past h end l = record {
     within = g .within;
-    below = λ k h. elim (ℕ-discrete k mid) [
-      | yes f ↦ rw f e
-      | no f ↦ omega (arith, e, rows-rise live rows r k mid (omega (arith, f)) (omega (arith, g .within)))
-    ];
-    above = g .above;
+    below = g .below;
+    above = λ k a b. absurd (omega arith);
   }
 
-  -- it is not
-  pub halves-down : i ≤ getD rows mid 0 → Halves live rows i low mid
-  halves-down e = record {
-    ordered = a;
-    within = omega (arith, g .within);
-    below = g .below;
-    above = λ k h l. elim (ℕ-discrete k mid) [
-      | yes f ↦ rw f e
-      | no f ↦ omega (arith, e, rows-rise live rows r mid k (omega (arith, f)) l)
-    ];
-  }
+  module _ (r : risingFrom 0 (recordsIn live rows) ≡ true) (a : 0 < next) (b : next ≤ live) where
+    -- the last piece of the step is lower
+    pub halves-up : getD rows (next - 1) 0 < i → (end : ℕ) → high ≤ end → Halves live rows i next end
+    halves-up e end l = record {
+      within = b;
+      below = λ k h. elim (ℕ-discrete k (next - 1)) [
+        | yes f ↦ rw f e
+        | no f ↦ omega (arith, e, rows-rise live rows r k (next - 1) (omega (arith, f)) (omega arith))
+      ];
+      above = λ k h j. g .above k (omega arith) j;
+    }
+
+    -- it is not
+    pub halves-down : i ≤ getD rows (next - 1) 0 → (end : ℕ) → next ≤ end + 1 → Halves live rows i low end
+    halves-down e end l = record {
+      within = g .within;
+      below = g .below;
+      above = λ k h j. elim (ℕ-discrete k (next - 1)) [
+        | yes f ↦ rw f e
+        | no f ↦ omega (arith, e, rows-rise live rows r (next - 1) k (omega (arith, f)) j)
+      ];
+    }
 
 -- ---- the first of some places that passes a test
 module _ (test : ℕ → Bool) where

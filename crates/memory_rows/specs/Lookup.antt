@@ -28,8 +28,7 @@ pickerIn live rows words cells = decode (recordsIn live rows) words cells
 -- ---- a search by halving
 -- rows before `low` are of lower pieces than i, live rows from `high` on of none lower
 pub record Halves (live : ℕ) (rows : List ℕ) (i low high : ℕ) : Type 0 where
-  pub ordered : low ≤ high
-  pub within : high ≤ live
+  pub within : low ≤ live
   pub below : (k : ℕ) → k < low → getD rows k 0 < i
   pub above : (k : ℕ) → high ≤ k → k < live → i ≤ getD rows k 0
 

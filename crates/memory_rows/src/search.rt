@@ -9,21 +9,23 @@ ghost use Rattle.memory_records.specs.Records.{answerOf, seekFrom, risingFrom};
 ghost use Rattle.memory_records.specs.Rows.{recordsIn};
 ghost use Rattle.memory_rows.specs.Lookup.{Halves, FoundIn};
 
-// The first live row whose piece is not below i, or `live`.
+// The first live row whose piece is not below i, or `live`: `width` places on at most. The steps are the same ones for every piece, so
+// that no branch has to be guessed.
 fn lower_bound(rows: &[u32], live: usize, i: usize) -> usize
     requires { ⌜ (live ≤ 512) × (length (now rows) ≡ 1536) ⌝ }
     requires { ⌜ risingFrom 0 (recordsIn live (now rows)) ≡ true ⌝ }
     ensures { λ r. ⌜ Halves live (now (rows .entry)) i r r ⌝ }
 {
     let mut low = 0;
-    let mut high = live;
-    while low < high {
-        let mid = (low + high) / 2;
-        if u32_to_usize(rows[mid]) < i {
-            low = mid + 1;
-        } else {
-            high = mid;
+    let mut width: usize = 512;
+    while 0 < width {
+        let next = low + (width - width / 2);
+        if next <= live {
+            if u32_to_usize(rows[next - 1]) < i {
+                low = next;
+            }
         }
+        width = width / 2;
     }
     low
 }

@@ -1,23 +1,30 @@
--- `lower_bound` meets its contract: rows before `low` are of lower pieces, rows from `high` on are not. Assumes nothing.
+-- `lower_bound` meets its contract: rows before `low` are of lower pieces, rows from `width` places on are not. Assumes nothing.
+use mathlib.Core.Logic.{⊎-elim}
 use borrow.Author.Needs.{needs}
-use Prim.Native.Nat.{_-_}
+use Prim.Native.Nat.{_+_, _≤_}
 use native.Mathlib.Omega.{arith}
 use Rattle.memory_rows.specs.Lookup.{Halves}
-use Rattle.memory_rows.proofs.LookupLaws.{halves-start, halves-up, halves-down, halves-end}
+use Rattle.memory_rows.proofs.LookupLaws.{halves-start, halves-past, halves-up, halves-down, halves-end}
 use Rattle.memory_rows.proofs.search.lower_bound.Statement.{statement}
 use Rattle.memory_rows.proofs.search.lower_bound.Tie as tie
 
 abbrev Inv-loop : tie.InvT-loop
-Inv-loop rows live i low₀ high₀ low high = Halves live rows i low high
+Inv-loop rows live i low₀ width₀ low width = (width ≤ 512) × Halves live rows i low (low + width)
 
 abbrev μ-loop : tie.MeasureT-loop
-μ-loop rows live i low₀ high₀ low high = high - low
+μ-loop rows live i low₀ width₀ low width = width
 
 loop-holds : tie.Need-loop-holds Inv-loop μ-loop
-loop-holds c = halves-start _ _ _
+loop-holds c = (omega arith, halves-start _ _ _ _ (omega (arith, c .before .pre .0 .0)))
 
-add-mid : tie.Need-add-mid Inv-loop μ-loop
-add-mid c = search needs
+sub-next : tie.Need-sub-next Inv-loop μ-loop
+sub-next c = search needs
+
+add-next : tie.Need-add-next Inv-loop μ-loop
+add-next c = omega (arith, c .before .loop .inv .0, c .before .loop .inv .1 .within, c .before .before .before .pre .0 .0)
+
+sub-u32-to-usize : tie.Need-sub-u32-to-usize Inv-loop μ-loop
+sub-u32-to-usize c = search needs
 
 mul-u32-to-usize : tie.Need-mul-u32-to-usize Inv-loop μ-loop
 mul-u32-to-usize c = search needs
@@ -28,33 +35,29 @@ shared-slice-read-u32-to-usize c = search needs
 u32-to-usize-requires : tie.Need-u32-to-usize-requires Inv-loop μ-loop
 u32-to-usize-requires c κs = search needs
 
-add-low : tie.Need-add-low Inv-loop μ-loop
-add-low c = search needs
-
 loop-less : tie.Need-loop-less Inv-loop μ-loop
 loop-less c = search needs
 
 loop-again : tie.Need-loop-again Inv-loop μ-loop
 loop-again c =
-    let a = c .before .before .before .before .before .before .args in
-    let l = c .before .before .before .before .loop in
-    halves-up (a .live) (a .rows .now) (a .i) (l .low) (l .high) _ (c .before .before .before .before .before .before .pre .1) (l .inv)
-    (omega arith) (omega arith) (omega (arith, c .before .u32-to-usize .ensures, c .if1 .taken))
-
-loop-less-2 : tie.Need-loop-less-2 Inv-loop μ-loop
-loop-less-2 c = search needs
-
-loop-again-2 : tie.Need-loop-again-2 Inv-loop μ-loop
-loop-again-2 c =
-    let a = c .before .before .before .before .before .before .args in
-    let l = c .before .before .before .before .loop in
-    halves-down (a .live) (a .rows .now) (a .i) (l .low) (l .high) _ (c .before .before .before .before .before .before .pre .1) (l .inv)
-    (omega arith) (omega arith) (omega (arith, c .before .u32-to-usize .ensures, c .if1 .left))
+    let a = c .before .before .before .before .args in
+    let p = c .before .before .before .before .pre in
+    let l = c .before .before .loop in (
+      omega (arith, l .inv .0),
+      ⊎-elim
+          (λ w. rw (w .4) (halves-up (a .live) (a .rows .now) (a .i) (l .low) (l .low + l .width) _ (l .inv .1) (p .1) (omega arith) (w .0 .taken)
+          (omega (arith, w .2 .ensures, w .3 .taken)) _ (omega arith)))
+          (⊎-elim
+          (λ w. rw (w .4) (halves-down (a .live) (a .rows .now) (a .i) (l .low) (l .low + l .width) _ (l .inv .1) (p .1) (omega arith) (w .0 .taken)
+          (omega (arith, w .2 .ensures, w .3 .left)) _ (omega arith)))
+          (λ w. rw (w .1) (halves-past (a .live) (a .rows .now) (a .i) (l .low) (l .low + l .width) _ (l .inv .1) (w .0 .left) _ (omega arith))))
+          (c .if1 .came),
+    )
 
 returns : tie.Need-returns Inv-loop μ-loop
 returns c =
     let l = c .before .loop in
-    halves-end _ _ _ (l .low) (l .high) (l .inv) (omega arith)
+    halves-end _ _ _ (l .low) (l .low + l .width) (l .inv .1) (omega (arith, c .loop-test .left))
 
 pub lower-bound-spec : {M : Type 1} → statement M
 lower-bound-spec =
@@ -63,13 +66,12 @@ lower-bound-spec =
     Inv-loop
     μ-loop
     loop-holds
-    add-mid
+    sub-next
+    add-next
+    sub-u32-to-usize
     mul-u32-to-usize
     shared-slice-read-u32-to-usize
     u32-to-usize-requires
-    add-low
     loop-less
     loop-again
-    loop-less-2
-    loop-again-2
     returns)
