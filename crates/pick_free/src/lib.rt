@@ -8,3 +8,4 @@ pub use pieces::has_bit;
 pub use pieces::is_piece_free;
 pub use spans::Span;
 pub use spans::expand_piece;
+pub use spans::saturating_sub;

@@ -31,7 +31,7 @@ fn lesser(a: usize, b: usize) -> usize
 }
 
 // The difference, and 0 where it is below.
-fn saturating_sub(a: usize, b: usize) -> usize
+pub fn saturating_sub(a: usize, b: usize) -> usize
     ensures { λ r. ⌜ r ≡ a - b ⌝ }
 {
     if b <= a {

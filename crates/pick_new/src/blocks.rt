@@ -1,8 +1,9 @@
 // The first blocks of one piece, appended.
+use pick_free::saturating_sub;
 use pick_state::PickNumbers;
 use types::usize_to_u64;
 ghost use mathlib.Core.Path.{_≡_};
-ghost use Prim.Native.Nat.{_+_, _-_, _≤_, _<_};
+ghost use Prim.Native.Nat.{_+_, _≤_, _<_};
 ghost use mathlib.Core.Bool.{_&&_};
 ghost use lib.Dec.{eqb};
 ghost use lib.ListN.{length};
@@ -11,22 +12,12 @@ ghost use Rattle.model.specs.pick.Blocks.{took, contiguousIsZero, contiguousMet
 ghost use Rattle.pick_state.specs.PickStates.{contiguousOf, OutDid};
 ghost use Rattle.pick_new.specs.Taken.{takenNumbers};
 
-// n less, and none where there are fewer.
-fn less_by(m: usize, n: usize) -> usize
-    ensures { λ r. ⌜ r ≡ m - n ⌝ }
-{
-    if m < n {
-        return 0;
-    }
-    m - n
-}
-
 // The numbers after n blocks more.
 fn taken(t: PickNumbers, n: usize) -> PickNumbers
     requires { ⌜ (t .end + n < 18446744073709551616) × (t .given + n < 18446744073709551616) ⌝ }
     ensures { λ r. ⌜ r ≡ takenNumbers n t ⌝ }
 {
-    let left = less_by(t.left, n);
+    let left = saturating_sub(t.left, n);
     PickNumbers {
         left: left,
         asked: t.asked,
@@ -59,7 +50,7 @@ fn met_after(t: PickNumbers, n: usize) -> bool
     requires { ⌜ t .given + n < 18446744073709551616 ⌝ }
     ensures { λ r. ⌜ r ≡ (contiguousIsZero (contiguousOf (takenNumbers n t)) && eqb (takenNumbers n t .left) 0) ⌝ }
 {
-    let left = less_by(t.left, n);
+    let left = saturating_sub(t.left, n);
     (t.asked == t.given + n) & (left == 0)
 }
 

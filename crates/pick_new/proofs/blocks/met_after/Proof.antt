@@ -10,8 +10,8 @@ use Rattle.pick_new.specs.Taken.{takenNumbers}
 use Rattle.pick_new.proofs.blocks.met_after.Statement.{statement}
 use Rattle.pick_new.proofs.blocks.met_after.Tie as tie
 
-less-by-requires : tie.Need-less-by-requires
-less-by-requires c κs = search needs
+saturating-sub-requires : tie.Need-saturating-sub-requires
+saturating-sub-requires c κs = search needs
 
 add-result : tie.Need-add-result
 add-result c = search needs
@@ -20,7 +20,7 @@ returns : tie.Need-returns
 unfolding takenNumbers contiguousOf contiguousIsZero
 returns c =
     let a = c .before .before .before .args in
-    ap (λ (m : ℕ). eqb (a .t .asked) (a .t .given + a .n) && eqb m 0) (c .before .before .less-by .ensures)
+    ap (λ (m : ℕ). eqb (a .t .asked) (a .t .given + a .n) && eqb m 0) (c .before .before .saturating-sub .ensures)
 
 pub met-after-spec : {M : Type 1} → statement M
-met-after-spec = tie.close (tie.spec less-by-requires add-result returns)
+met-after-spec = tie.close (tie.spec saturating-sub-requires add-result returns)
