@@ -25,10 +25,10 @@ use Rattle.memory_layout.proofs.ReadLaws.{SameRead}
 use Rattle.memory_fields.specs.Reading.{WordsSay}
 use Rattle.memory_blocks.specs.declared.info.BlockInfo.{BlockInfo}
 use Rattle.memory_blocks.specs.Blocks.{blockOf, BlockStored}
-use Rattle.memory_partials.specs.Places.{placesTaken, PlacesBelow, PlacesApart, lowestFree}
+use Rattle.memory_places.specs.Places.{placesTaken, PlacesBelow, PlacesApart, lowestFree}
+use Rattle.memory_places.proofs.PlaceLaws.{place-free}
 use Rattle.memory_partials.specs.Partials.{Edited, Fresh, Opened}
 use Rattle.memory_partials.proofs.RecordLaws.{at-live, slot}
-use Rattle.memory_partials.proofs.PlaceLaws.{place-free}
 use Rattle.memory_partials.proofs.CountLaws.{Counted, counted-store, counted-kept, counted-list, opened-rising}
 use Rattle.memory_partials.proofs.OpenLaws.{opened-low, opened-here, opened}
 use Rattle.memory_partials.proofs.MarkLaws.{Standing, standing-found, block-replaced}
@@ -56,6 +56,14 @@ row-record : (live : ℕ) (rows : List ℕ) (records : List Record) → take liv
     → recordAt (recordsIn live rows) k ≡ recordAt records k
 unfolding recordAt
 row-record live rows records e k h = ap (λ (ds : List Record). getD ds k noRecord) (sym e) ∙ sym (at-live records live k h)
+
+-- no live record has the lowest place that is free
+record-free : (places live : ℕ) (rows : List ℕ) (records : List Record) → live < places → take live records ≡ recordsIn live rows
+    → (k : ℕ) → k < live → recordAt records k .«info_idx» ≢ lowestFree places (placesTaken live rows)
+record-free places live rows records h e k l q =
+    place-free places live rows h k l
+    (ap (λ (x : Record). x .«info_idx»)
+    (sym (at-live records live k l ∙ ap (λ (ds : List Record). getD ds k noRecord) e ∙ records-at live rows k l)) ∙ q)
 
 -- the rows say what the records do that they were made of
 pub rows-read : (s : Shape) (records : List Record) (live : ℕ) (rows words cells : List ℕ) → InBounds s records words cells
@@ -85,7 +93,7 @@ module _ (s : Shape) (i live : ℕ) (rows words cells words′ cells′ : List �
   module _ (records : List Record) (r : InBounds s records words cells) (e : take live records ≡ recordsIn live rows)
       (fits : live < length records) where
     free : (k : ℕ) → k < headWord words 7 → recordAt records k .«info_idx» ≢ x .«info_idx»
-    free k h z = place-free (s .places) live rows records room e k (omega (arith, el)) (z ∙ ex ∙ ep)
+    free k h z = record-free (s .places) live rows records room e k (omega (arith, el)) (z ∙ ex ∙ ep)
 
     fresh : Fresh s cells cells′ (x .«info_idx») (blocksOf words (x .index)) (payloadBlocksInPiece (decode records words cells) (x .index))
     fresh =

@@ -1,23 +1,7 @@
--- Places and flags computed: the lowest free place in a gap, behind the last, and where none is free; flags with hashing left. Assumes
--- nothing.
+-- Flags computed: passed set and locked cleared, hashing left. Assumes nothing.
 use mathlib.Core.Path.{_≡_, refl}
 use mathlib.Core.Bool.{true, false}
-use mathlib.Core.List.{[], _∷_}
-use Rattle.model.specs.Lists.{any, member}
-use Rattle.memory_partials.specs.Places.{lowestFree}
 use Rattle.memory_partials.specs.Partials.{flagged}
-
-in-a-gap : lowestFree 4 (2 ∷ 0 ∷ []) ≡ 1
-unfolding lowestFree member any
-in-a-gap = refl
-
-behind-the-last : lowestFree 4 (1 ∷ 0 ∷ []) ≡ 2
-unfolding lowestFree member any
-behind-the-last = refl
-
-none-free : lowestFree 2 (1 ∷ 0 ∷ []) ≡ 2
-unfolding lowestFree member any
-none-free = refl
 
 passed-while-hashing : flagged true false 6 ≡ 5
 unfolding flagged

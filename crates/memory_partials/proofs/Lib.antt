@@ -1,6 +1,4 @@
 pub mod RecordLaws
-pub mod PlaceLaws
-pub mod LowLaws
 pub mod CountLaws
 pub mod RisingLaws
 pub mod MarkLaws

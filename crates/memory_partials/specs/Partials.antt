@@ -23,7 +23,7 @@ use Rattle.memory_layout.specs.Changes.{partialIn}
 use Rattle.memory_layout.specs.Bounds.{InBounds, Plain, PlainBlock}
 use Rattle.memory_layout.specs.Stores.{WordsKept, CellsKept, ListKept}
 use Rattle.memory_layout.specs.Frames.{SameFields}
-use Rattle.memory_partials.specs.Places.{placesTaken, lowestFree}
+use Rattle.memory_places.specs.Places.{placesTaken, lowestFree}
 
 -- ---- a change of the words and the cells, and one edit of the records
 -- what stands in bounds is changed so, stays in bounds, and stays plain where it was, once the live records are edited so

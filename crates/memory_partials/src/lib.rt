@@ -4,11 +4,9 @@
 mod closing;
 mod flags;
 mod opening;
-mod places;
 
 pub use closing::drop_partial;
 pub use flags::with_flags;
 pub use opening::add_partial;
 pub use opening::blocks_in_piece;
 pub use opening::payload_blocks;
-pub use places::free_place;

@@ -1,5 +1,4 @@
 // A partial opened for a piece: the lowest free place, its blocks as those of a piece just opened, one partial more.
-use crate::places::free_place;
 use geometry::blocks_at;
 use geometry::payload_blocks_in_piece;
 use memory_blocks::fresh_block;
@@ -7,6 +6,7 @@ use memory_fields::pad_bytes;
 use memory_layout::Shape;
 use memory_layout::head_word;
 use memory_layout::set_head_word;
+use memory_places::free_place;
 use memory_records::DownloadingPiece;
 use types::PieceIndex;
 use types::u64_to_usize;

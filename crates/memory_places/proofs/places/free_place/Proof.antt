@@ -3,10 +3,10 @@ use mathlib.Core.Path.{subst, sym, _∙_}
 use Prim.Native.Nat.{ℕ, _<_}
 use native.Mathlib.Omega.{arith}
 use Rattle.memory_layout.proofs.OffsetLaws.{places-min}
-use Rattle.memory_partials.proofs.PlaceLaws.{place-there}
-use Rattle.memory_partials.proofs.LowLaws.{low-lowest}
-use Rattle.memory_partials.proofs.places.free_place.Statement.{statement}
-use Rattle.memory_partials.proofs.places.free_place.Tie as tie
+use Rattle.memory_places.proofs.PlaceLaws.{place-there}
+use Rattle.memory_places.proofs.LowLaws.{low-lowest}
+use Rattle.memory_places.proofs.places.free_place.Statement.{statement}
+use Rattle.memory_places.proofs.places.free_place.Tie as tie
 
 places-low-requires : tie.Need-places-low-requires
 places-low-requires c κs =

@@ -8,8 +8,8 @@ ghost use mathlib.Core.List.{[]};
 ghost use Prim.Native.Nat.{_+_, _-_, _<_, _≤_};
 ghost use lib.ListN.{length};
 ghost use Rattle.memory_layout.specs.Bounds.{Sizes};
-ghost use Rattle.memory_partials.specs.Places.{placesTaken, PlacesBelow, PlacesApart, lowPlaces, lowestFree};
-ghost use Rattle.memory_partials.specs.Places.{Marked, unmarkedFrom, markedThrough};
+ghost use Rattle.memory_places.specs.Places.{placesTaken, PlacesBelow, PlacesApart, lowPlaces, lowestFree};
+ghost use Rattle.memory_places.specs.Places.{Marked, unmarkedFrom, markedThrough};
 
 // A mark for each place that one of the first `live` rows has.
 fn mark_places(marks: &mut [bool; 512], rows: &[u32], live: usize)

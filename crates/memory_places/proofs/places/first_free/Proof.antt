@@ -1,8 +1,8 @@
 -- `first_free` meets its contract. Assumes nothing.
 use mathlib.Core.Path.{_∙_}
-use Rattle.memory_partials.proofs.PlaceLaws.{marked-none, lowest-is}
-use Rattle.memory_partials.proofs.places.first_free.Statement.{statement}
-use Rattle.memory_partials.proofs.places.first_free.Tie as tie
+use Rattle.memory_places.proofs.PlaceLaws.{marked-none, lowest-is}
+use Rattle.memory_places.proofs.places.first_free.Statement.{statement}
+use Rattle.memory_places.proofs.places.first_free.Tie as tie
 
 mark-places-requires : tie.Need-mark-places-requires
 mark-places-requires c κs = let q = c .before .before .pre in (marked-none, ((q .0 .0, q .0 .2), q .1))

@@ -1,4 +1,4 @@
--- The places that live records have, marked; the lowest that is free is there, and is no record's. Assumes nothing.
+-- The places that live rows have, marked; the lowest that is free is there, and is no row's. Assumes nothing.
 use mathlib.Core.Path.{_≡_, refl, sym, ap, subst, _∙_}
 use mathlib.Core.Logic.{_≢_}
 use mathlib.Core.Bool.{Bool, true, false, cond, not, _&&_, _||_, or-true, or-false}
@@ -9,20 +9,16 @@ use native.Mathlib.Numerals.{add-one}
 use native.Mathlib.Decide.{ℕ-discrete, decLe}
 use native.Mathlib.Omega.{arith}
 use lib.Dec.{eqb}
-use lib.ListN.{length, getD, set, take, replicate, length-replicate, getD-replicate, length-set}
+use lib.ListN.{length, getD, set, replicate, length-replicate, getD-replicate, length-set}
 use lib.Seq.{getD-set-same, getD-set-other}
 use borrow.Author.Tests.{eq-eqb, ne-eqb, not-true, not-false, eqb-false}
 use Rattle.model.specs.Lists.{len, any, filter, member}
 use Rattle.model.proofs.base.Truths.{both-true}
-use Rattle.memory_records.specs.declared.record.DownloadingPiece.{DownloadingPiece as Record}
-use Rattle.memory_records.specs.Records.{noRecord, placeOf, firstFrom}
-use Rattle.memory_records.specs.Rows.{rowAt, recordsIn}
-use Rattle.memory_records.proofs.laws.RowLaws.{records-at}
+use Rattle.memory_records.specs.Records.{placeOf, firstFrom}
+use Rattle.memory_records.specs.Rows.{rowAt}
 use Rattle.memory_layout.specs.Tables.{tabulate}
-use Rattle.memory_layout.specs.Decode.{recordAt}
 use Rattle.memory_layout.proofs.TableLaws.{tabulate-more, tabulate-len}
-use Rattle.memory_partials.specs.Places.{placesTaken, lowestFree, Marked, unmarkedFrom, markedThrough}
-use Rattle.memory_partials.proofs.RecordLaws.{at-live}
+use Rattle.memory_places.specs.Places.{placesTaken, lowestFree, Marked, unmarkedFrom, markedThrough}
 
 -- ---- marks
 pub marked-none : Marked [] (replicate 512 false)
@@ -251,12 +247,10 @@ none-of (suc n) f x e k h = go (eqb x (f 0)) refl e k h (λ a l m. none-of n (λ
     go false a b zero l again = λ q. eqb-false x (f 0) a (sym q)
     go false a b (suc k) l again = again b k (le-of-suc-le-suc l)
 
--- no live record has it
-pub place-free : (places live : ℕ) (rows : List ℕ) (records : List Record) → live < places → take live records ≡ recordsIn live rows
-    → (k : ℕ) → k < live → recordAt records k .«info_idx» ≢ lowestFree places (placesTaken live rows)
+-- no live row has it
+pub place-free : (places live : ℕ) (rows : List ℕ) → live < places → (k : ℕ) → k < live
+    → rowAt rows k .«info_idx» ≢ lowestFree places (placesTaken live rows)
 unfolding placesTaken
-place-free places live rows records h e k l q =
+place-free places live rows h =
     none-of live (λ k. rowAt rows k .«info_idx») (lowestFree places (placesTaken live rows))
-    (lowest-free places (placesTaken live rows) (place-there places live rows h)) k l
-    (ap (λ (x : Record). x .«info_idx»)
-    (sym (at-live records live k l ∙ ap (λ (ds : List Record). getD ds k noRecord) e ∙ records-at live rows k l)) ∙ q)
+    (lowest-free places (placesTaken live rows) (place-there places live rows h))

@@ -7,10 +7,10 @@ use lib.Dec.{ltb}
 use lib.ListN.{getD}
 use borrow.Author.Needs.{needs}
 use Rattle.memory_records.specs.Rows.{rowAt}
-use Rattle.memory_partials.specs.Places.{lowPlaces}
-use Rattle.memory_partials.proofs.LowLaws.{low-start, low-more, low-end}
-use Rattle.memory_partials.proofs.places.places_low.Statement.{statement}
-use Rattle.memory_partials.proofs.places.places_low.Tie as tie
+use Rattle.memory_places.specs.Places.{lowPlaces}
+use Rattle.memory_places.proofs.LowLaws.{low-start, low-more, low-end}
+use Rattle.memory_places.proofs.places.places_low.Statement.{statement}
+use Rattle.memory_places.proofs.places.places_low.Tie as tie
 
 abbrev Inv-loop : tie.InvT-loop
 Inv-loop rows live most all₀ k₀ all k = (k ≤ live) × (all ≡ lowPlaces most k rows)

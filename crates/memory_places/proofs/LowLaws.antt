@@ -18,8 +18,8 @@ use Rattle.memory_records.specs.Records.{firstFrom}
 use Rattle.memory_records.specs.Rows.{rowAt}
 use Rattle.memory_layout.specs.Tables.{tabulate}
 use Rattle.memory_layout.proofs.TableLaws.{tabulate-len}
-use Rattle.memory_partials.specs.Places.{placesTaken, PlacesApart, lowPlaces, lowestFree}
-use Rattle.memory_partials.proofs.PlaceLaws.{from-here, from-next, first-holds, first-none, pigeonhole, none-of}
+use Rattle.memory_places.specs.Places.{placesTaken, PlacesApart, lowPlaces, lowestFree}
+use Rattle.memory_places.proofs.PlaceLaws.{from-here, from-next, first-holds, first-none, pigeonhole, none-of}
 
 -- ---- members of a table
 there-of : (n : ℕ) (f : ℕ → ℕ) (k : ℕ) → k < n → member (f k) (tabulate n f) ≡ true

@@ -3,11 +3,11 @@ use Prim.Native.Nat.{_-_, _≤_}
 use mathlib.Core.Path.{_≡_, sym, _∙_}
 use borrow.Author.Tests.{not-false}
 use native.Mathlib.Omega.{arith}
-use Rattle.memory_partials.specs.Places.{unmarkedFrom}
-use Rattle.memory_partials.proofs.PlaceLaws.{unmarked-starts, through-goes}
+use Rattle.memory_places.specs.Places.{unmarkedFrom}
+use Rattle.memory_places.proofs.PlaceLaws.{unmarked-starts, through-goes}
 use borrow.Author.Needs.{needs}
-use Rattle.memory_partials.proofs.places.first_stretch.Statement.{statement}
-use Rattle.memory_partials.proofs.places.first_stretch.Tie as tie
+use Rattle.memory_places.proofs.places.first_stretch.Statement.{statement}
+use Rattle.memory_places.proofs.places.first_stretch.Tie as tie
 
 abbrev Inv-loop : tie.InvT-loop
 Inv-loop marks places p₀ p = (p ≤ places)

@@ -3,11 +3,11 @@ use Prim.Native.Nat.{_-_, _≤_}
 use native.Mathlib.Omega.{arith}
 use mathlib.Core.Path.{ap, _∙_}
 use Rattle.memory_records.specs.declared.record.DownloadingPiece.{DownloadingPiece as Record}
-use Rattle.memory_partials.specs.Places.{placesTaken, Marked}
-use Rattle.memory_partials.proofs.PlaceLaws.{marked-start, marked-next, marked-end}
+use Rattle.memory_places.specs.Places.{placesTaken, Marked}
+use Rattle.memory_places.proofs.PlaceLaws.{marked-start, marked-next, marked-end}
 use borrow.Author.Needs.{needs}
-use Rattle.memory_partials.proofs.places.mark_places.Statement.{statement}
-use Rattle.memory_partials.proofs.places.mark_places.Tie as tie
+use Rattle.memory_places.proofs.places.mark_places.Statement.{statement}
+use Rattle.memory_places.proofs.places.mark_places.Tie as tie
 
 abbrev Inv-loop : tie.InvT-loop
 Inv-loop marks₀ rows live k₀ marks k = (k ≤ live) × Marked (placesTaken k rows) marks

@@ -4,11 +4,11 @@ use mathlib.Core.Path.{_≡_, ap, _∙_}
 use mathlib.Core.Bool.{Bool, false, _&&_}
 use native.Mathlib.Omega.{arith}
 use lib.ListN.{getD}
-use Rattle.memory_partials.specs.Places.{markedThrough}
-use Rattle.memory_partials.proofs.PlaceLaws.{through-start, through-more, through-end}
+use Rattle.memory_places.specs.Places.{markedThrough}
+use Rattle.memory_places.proofs.PlaceLaws.{through-start, through-more, through-end}
 use borrow.Author.Needs.{needs}
-use Rattle.memory_partials.proofs.places.stretch_marked.Statement.{statement}
-use Rattle.memory_partials.proofs.places.stretch_marked.Tie as tie
+use Rattle.memory_places.proofs.places.stretch_marked.Statement.{statement}
+use Rattle.memory_places.proofs.places.stretch_marked.Tie as tie
 
 abbrev Inv-loop : tie.InvT-loop
 Inv-loop marks p all₀ k₀ all k = (k ≤ 32) × (all ≡ markedThrough marks k p)
