@@ -7,7 +7,7 @@ ghost use lib.ListN.{length, take};
 ghost use Rattle.model.specs.Lists.{bit};
 ghost use Rattle.list_words.specs.Updating.{Ready};
 ghost use Rattle.model.specs.State.{maxPieces};
-ghost use Rattle.list_rebuild.specs.Rebuilding.{Ranked};
+ghost use Rattle.list_sort.specs.Sorting.{Ranked};
 
 // The list mended after a piece came from rank `old` to `new`.
 #[no_mangle]

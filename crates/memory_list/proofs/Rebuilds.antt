@@ -20,7 +20,8 @@ use Rattle.memory_layout.specs.Decode.{headWord, yes?, decode}
 use Rattle.memory_layout.specs.Bounds.{Sizes}
 use Rattle.list_groups.specs.Words.{piecesOf, wordsOf, RanksIn}
 use Rattle.list_words.proofs.Writing.{words-pieces, words-ranks, length-words}
-use Rattle.list_rebuild.specs.Rebuilding.{rankIn, Ranked, rebuiltBelow, drawsBelow, IsRebuilt}
+use Rattle.list_sort.specs.Sorting.{rankIn, Ranked}
+use Rattle.list_rebuild.specs.Rebuilding.{rebuiltBelow, drawsBelow, IsRebuilt}
 use Rattle.list_rebuild.proofs.Building.{rebuilt-is, rebuildDraws-is}
 use Rattle.memory_list.specs.Listings.{ListBounds, RanksRight, RanksFilled, ListBecame}
 use Rattle.memory_list.proofs.Regions.{lentAt, backAt, part-long, part-stored, flag-is, list-stored, list-left}

@@ -1,0 +1,3 @@
+pub mod Stable
+pub mod Tabling
+pub mod Placing
