@@ -14,7 +14,7 @@ use Rattle.model.proofs.base.Bep3Laws.{lt-partsOf}
 use Rattle.geometry.specs.Numbers.{extentOf, extentBegin, extentEnd as endOf}
 use Rattle.geometry.proofs.PartLaws.{least-le}
 use Rattle.geometry.proofs.ValidLaws.{bounds}
-use Rattle.geometry.proofs.ExtentLaws.{extents-parts}
+use Rattle.geometry_needs.proofs.ExtentLaws.{extents-parts}
 use Rattle.memory_records.specs.declared.record.DownloadingPiece.{DownloadingPiece as Record}
 use Rattle.memory_layout.specs.declared.shape.Shape.{Shape}
 use Rattle.memory_layout.specs.Decode.{headWord, blocksOn, decode}

@@ -1,6 +1,6 @@
 // Which extents are recorded, and one more of them.
 use crate::neighbours::worth_recording;
-use geometry::extent_for;
+use geometry_needs::extent_for;
 use memory_fields::num_recent_extents;
 use memory_fields::push_recent_extent;
 use memory_fields::recent_extent;

@@ -1,6 +1,6 @@
 // The other pieces of a piece's extent: whether they make it worth recording. One pass over the extent.
-use geometry::extent_for;
-use geometry::extent_pieces;
+use geometry_needs::extent_for;
+use geometry_needs::extent_pieces;
 use memory_fields::flushed;
 use memory_fields::priority;
 use memory_layout::Shape;

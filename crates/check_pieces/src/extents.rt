@@ -1,5 +1,5 @@
 // The test of the extents: each in range, and none twice.
-use geometry::num_extents;
+use geometry_needs::num_extents;
 use memory_layout::Shape;
 use memory_layout::head_word;
 use types::u64_to_usize;

@@ -1,7 +1,7 @@
 // What a picker of a geometry needs: 0 where the geometry is not valid.
 ghost use mathlib.Core.Path.{_≡_};
 ghost use Rattle.types.specs.Piece.{numberOf};
-ghost use Rattle.geometry.specs.Needs.{memoryOf, Lengths, bytesFor};
+ghost use Rattle.geometry_needs.specs.Needs.{memoryOf, Lengths, bytesFor};
 
 // Lengths of the three buffers: words, cells, records.
 #[repr(C)]

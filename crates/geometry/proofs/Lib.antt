@@ -1,7 +1,3 @@
 pub mod PartLaws
 pub mod ValidLaws
-pub mod ExtentLaws
-pub mod NeedLaws
 pub mod NumberLaws
-pub mod ImageLength
-pub mod ImageBound

@@ -7,12 +7,11 @@ use native.Mathlib.Decide.{decLe}
 use native.Mathlib.Omega.{arith}
 use lib.Dec.{leb}
 use borrow.Author.Tests.{leb-true, le-leb, lt-leb}
-use Rattle.model.specs.Bep3.{numPieces, wholePieceBlocks}
+use Rattle.model.specs.Bep3.{numPieces}
 use Rattle.model.specs.State.{validGeometry}
 use Rattle.model.proofs.base.Bep3Laws.{numPieces-le, numPieces-pos, blocksPerPiece-pos, blocksPerPiece-le}
 use Rattle.model.proofs.base.Truths.{both-true}
 use Rattle.geometry.specs.Numbers.{Bounds}
-use Rattle.geometry.specs.Needs.{Small}
 
 -- ---- the test
 -- tests of two facts that go together
@@ -60,6 +59,3 @@ module _ (totalSize pieceSize : ℕ) where
         some-blocks = blocksPerPiece-pos pieceSize some-size;
         blocks-most = blocksPerPiece-le pieceSize some-size size-most;
       }
-
-  pub small : validGeometry totalSize pieceSize ≡ true → Small (numPieces totalSize pieceSize) (wholePieceBlocks pieceSize)
-  small valid = let b = bounds valid in record { pieces-most = b .pieces-most; blocks-most = b .blocks-most }

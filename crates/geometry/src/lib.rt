@@ -1,9 +1,7 @@
-// The geometry of a torrent: pieces, blocks and extents, and what a picker needs of memory and an image of bytes.
-// `total` is the torrent's length and `size` the length of a whole piece, in bytes; `b` is the number of blocks of a whole piece.
+// The geometry of a torrent: its pieces and blocks, how many there are and how long each is.
+// `total` is the torrent's length and `size` the length of a whole piece, in bytes.
 mod blocks;
-mod extents;
 mod limits;
-mod needs;
 mod parts;
 mod pieces;
 
@@ -13,21 +11,11 @@ pub use blocks::blocks_at;
 pub use blocks::blocks_in_piece;
 pub use blocks::blocks_per_piece;
 pub use blocks::payload_blocks_in_piece;
-pub use extents::PieceRange;
-pub use extents::extent_for;
-pub use extents::extent_pieces;
-pub use extents::extent_size;
-pub use extents::num_extents;
 pub use limits::limit_values;
-pub use needs::Memory;
-pub use needs::cells_needed;
-pub use needs::image_length;
-pub use needs::image_needed;
-pub use needs::largest_image;
-pub use needs::memory_needed;
-pub use needs::partials_needed;
-pub use needs::words_needed;
+pub use parts::lesser;
+pub use parts::parts_of;
 pub use pieces::num_pieces;
+pub use pieces::number_of;
 pub use pieces::piece_length;
 pub use pieces::piece_size;
 pub use pieces::valid_geometry;

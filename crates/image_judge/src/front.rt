@@ -1,7 +1,7 @@
 // The image that stands in front of the bytes, part by part.
 use geometry::blocks_per_piece;
-use geometry::num_extents;
 use geometry::num_pieces;
+use geometry_needs::num_extents;
 use image_partials::read_partials;
 use image_pieces::Head;
 use image_pieces::HeadRead;

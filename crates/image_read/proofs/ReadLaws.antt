@@ -11,7 +11,7 @@ use Rattle.model.specs.Memory.{Memory, memoryFor, memoryNeeded, isShort}
 use Rattle.model.specs.Calls.{made, notMade, within, readWithin, readPicker}
 use Rattle.model.specs.image.Image.{Read, accepted, faultAt, readImage}
 use Rattle.model.proofs.base.MemoryLaws.{long-enough}
-use Rattle.geometry.specs.Needs.{noMemory, memoryOf}
+use Rattle.geometry_needs.specs.Needs.{noMemory, memoryOf}
 use Rattle.memory_layout.specs.Good.{lengths}
 use Rattle.image_pieces.specs.declared.head.Head.{Head}
 use Rattle.image_pieces.proofs.HeadLaws.{HeadGot, head-valid}

@@ -1,9 +1,9 @@
 // Whether the buffers are long enough for the picker of a geometry.
-use geometry::memory_needed;
+use geometry_needs::memory_needed;
 use types::usize_to_u64;
 ghost use mathlib.Core.Path.{_≡_};
 ghost use Rattle.model.specs.Memory.{isShort};
-ghost use Rattle.geometry.specs.Needs.{memoryOf};
+ghost use Rattle.geometry_needs.specs.Needs.{memoryOf};
 
 // One of them is shorter than is needed.
 pub fn is_short(words: usize, cells: usize, partials: usize, total: u64, size: u64) -> bool

@@ -9,8 +9,8 @@ use Rattle.model.specs.Lists.{len}
 use Rattle.model.specs.Bep3.{sumTo}
 use Rattle.model.specs.State.{Picker, DownloadingPiece}
 use Rattle.model.specs.image.Image.{image}
-use Rattle.geometry.specs.Needs.{Parts, imageLength, blocksOf as allBlocks}
-use Rattle.geometry.proofs.ImageLength.{size-image}
+use Rattle.geometry_needs.specs.Needs.{Parts, imageLength, blocksOf as allBlocks}
+use Rattle.geometry_needs.proofs.ImageLength.{size-image}
 use Rattle.memory_records.specs.Rows.{recordsIn}
 use Rattle.memory_layout.specs.declared.shape.Shape.{Shape}
 use Rattle.memory_layout.specs.Tables.{tabulate}

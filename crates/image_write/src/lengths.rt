@@ -34,7 +34,7 @@ pub fn image_length(words: &[u64], rows: &[u32], live: usize, s: Shape) -> usize
     let blocks = blocks_of_rows(words, rows, live, s);
     let extents = head_word(words, 8);
     let places = head_word(words, 6);
-    u64_to_usize(geometry::image_length(
+    u64_to_usize(geometry_needs::image_length(
         usize_to_u64(s.pieces),
         usize_to_u64(live),
         blocks,

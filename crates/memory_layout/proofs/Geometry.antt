@@ -5,7 +5,7 @@ use Prim.Native.Nat.{ℕ, min}
 use mathlib.Core.List.{List}
 use Rattle.model.specs.Bep3.{numPieces, wholePieceBlocks}
 use Rattle.model.specs.State.{validGeometry}
-use Rattle.geometry.proofs.ValidLaws.{small}
+use Rattle.geometry.proofs.ValidLaws.{bounds}
 use Rattle.memory_layout.specs.declared.shape.Shape.{Shape}
 use Rattle.memory_layout.specs.Decode.{headWord, piecesOn, blocksOn}
 use Rattle.memory_layout.specs.Bounds.{ShapeOf}
@@ -18,7 +18,7 @@ pub shape-is : (s : Shape) (words : List ℕ) → validGeometry (headWord words 
     → s .places ≡ min (s .pieces) 512 → ShapeOf s words
 unfolding piecesOn blocksOn
 shape-is s words h p b m =
-    let v = small (headWord words 0) (headWord words 1) h in
+    let v = bounds (headWord words 0) (headWord words 1) h in
     record {
       sizes = record {
         places = m ∙ sym (places-min (s .pieces));

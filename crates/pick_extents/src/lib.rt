@@ -1,5 +1,5 @@
 // The pieces of the recent extents, in a pick that goes by rarity; one finished extent is forgotten, the last found.
-use geometry::extent_pieces;
+use geometry_needs::extent_pieces;
 use memory_fields::flushed;
 use memory_fields::num_recent_extents;
 use memory_fields::recent_extent;

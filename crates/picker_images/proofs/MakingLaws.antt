@@ -15,7 +15,7 @@ use Rattle.model.specs.Memory.{Memory, memoryFor, memoryNeeded, isShort}
 use Rattle.model.specs.Calls.{Made, made, notMade, within, newPicker}
 use Rattle.model.proofs.base.MemoryLaws.{long-enough}
 use Rattle.model.proofs.sound.NewSound.{new-sound}
-use Rattle.geometry.specs.Needs.{noMemory, memoryOf}
+use Rattle.geometry_needs.specs.Needs.{noMemory, memoryOf}
 use Rattle.memory_records.specs.declared.record.DownloadingPiece.{DownloadingPiece as Record}
 use Rattle.memory_layout.specs.declared.shape.Shape.{Shape}
 use Rattle.memory_layout.specs.Decode.{headWord, blocksOn, decode}

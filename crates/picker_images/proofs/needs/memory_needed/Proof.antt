@@ -5,7 +5,7 @@ use mir.Val.{SFits}
 use mir.ValLaws.{toZ-ofZ}
 use Prim.Native.Nat.{ℕ}
 use Rattle.types.specs.Piece.{numberOf}
-use Rattle.geometry.specs.Needs.{memoryOf, Lengths}
+use Rattle.geometry_needs.specs.Needs.{memoryOf, Lengths}
 use borrow.Author.Needs.{needs}
 use Rattle.picker_images.proofs.needs.memory_needed.Statement.{statement}
 use Rattle.picker_images.proofs.needs.memory_needed.Tie as tie

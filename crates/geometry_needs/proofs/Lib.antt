@@ -1,0 +1,4 @@
+pub mod ExtentLaws
+pub mod NeedLaws
+pub mod ImageLength
+pub mod ImageBound
