@@ -1,8 +1,8 @@
 // The parts of the test behind the head: pieces, places, partials, extents and list.
+use check_list::list_ok;
 use check_partials::partials_ok;
 use check_partials::places_ok;
 use check_pieces::extents_ok;
-use check_pieces::list_ok;
 use check_pieces::pieces_ok;
 use memory_layout::Shape;
 ghost use mathlib.Core.Path.{_≡_};

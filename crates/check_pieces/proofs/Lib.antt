@@ -6,5 +6,3 @@ pub mod RowLaws
 pub mod Passes
 pub mod PadLaws
 pub mod PieceTests
-pub mod ListTests
-pub mod WalkLaws

@@ -1,21 +1,19 @@
--- What each part of the memory test answers, and under what it runs. None of them reads records: each answer is the definition's whatever
--- records stand beside the words and cells. Assumes nothing.
+-- What the tests of head, extents and pieces answer, and under what they run. None of them reads records: each answer is the definition's
+-- whatever records stand beside the words and cells. Assumes nothing.
 use Prim.Native.Nat.{ℕ, _+_, _≤_, _<_}
 use mathlib.Core.Path.{_≡_}
 use mathlib.Core.Bool.{Bool, true, cond, _&&_}
-use mathlib.Core.List.{List, []}
+use mathlib.Core.List.{List}
 use lib.Dec.{eqb, leb}
 use lib.ListN.{length, getD}
 use Rattle.model.specs.State.{maxPeers, validGeometry}
-use Rattle.model.specs.Lists.{every, from}
 use Rattle.model.specs.list.Order.{rank}
-use Rattle.model.specs.image.WellFormed.{orderOk}
 use Rattle.memory_records.specs.declared.record.DownloadingPiece.{DownloadingPiece as Record}
 use Rattle.memory_layout.specs.declared.shape.Shape.{Shape}
 use Rattle.memory_layout.specs.Tables.{tabulate}
-use Rattle.memory_layout.specs.Decode.{headWord, piecesOn, blocksOn, listHeld, decode}
+use Rattle.memory_layout.specs.Decode.{headWord, piecesOn, blocksOn, decode}
 use Rattle.memory_layout.specs.Bounds.{WordsSpan}
-use Rattle.memory_layout.specs.Good.{rankRaw, goodHead, goodPieces, goodExtents, goodList}
+use Rattle.memory_layout.specs.Good.{goodHead, goodPieces, goodExtents}
 
 -- ---- the head
 -- for n pieces and so many places for partials: the dirty flag, and the numbers of list places, partials and extents
@@ -58,20 +56,3 @@ pub record PieceTest (s : Shape) (r : Bool) (words cells ranks : List ℕ) : Typ
   pub is : (records : List Record) → r ≡ goodPieces records words cells
   pub each : r ≡ true → RanksOf (s .pieces) words cells ranks
   pub long : s .pieces ≤ length ranks
-
--- ---- the list
--- its places, each with its rank and in order
-unfoldable pub placesOk : (records : List Record) (words cells : List ℕ) → Bool
-placesOk records words cells =
-    every (rankRaw words (piecesOn words) (rank (decode records words cells))) (from 0 (headWord words 6))
-    && orderOk (decode records words cells) [] (listHeld words (piecesOn words))
-
--- the answer of their test, where the ranks are those of the n pieces
-abbrev pub PlaceTest : (n : ℕ) (r : Bool) (words ranks : List ℕ) → Type 0
-PlaceTest n r words ranks =
-    (cells : List ℕ) → RanksOf n words cells ranks → (records : List Record) → r ≡ placesOk records words cells
-
--- the answer of the list's test, where the ranks are those of the n pieces
-abbrev pub ListTest : (n : ℕ) (r : Bool) (words ranks : List ℕ) → Type 0
-ListTest n r words ranks =
-    (cells : List ℕ) → RanksOf n words cells ranks → (records : List Record) → r ≡ goodList records words cells

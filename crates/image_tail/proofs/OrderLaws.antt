@@ -19,9 +19,9 @@ use Rattle.model.specs.image.Image.{getOrder}
 use Rattle.model.specs.image.Image.{getListing}
 use Rattle.model.proofs.base.Counts.{length-filter}
 use Rattle.model.proofs.base.Truths.{both-true}
-use Rattle.check_pieces.specs.Rows.{rankedIn}
-use Rattle.check_pieces.proofs.ListTests.{leftOf}
 use Rattle.check_pieces.proofs.Tails.{member-behind, last-behind, count-below}
+use Rattle.check_list.specs.Places.{rankedIn}
+use Rattle.check_list.proofs.ListTests.{leftOf}
 use Rattle.image_pieces.specs.declared.place.Place.{Place}
 use Rattle.image_pieces.specs.declared.place.Place.the-variants.{At, Fault}
 use Rattle.image_pieces.specs.Places.{Ended, Failed, Went}

@@ -9,7 +9,7 @@ use types::usize_to_u64;
 ghost use mathlib.Core.Path.{_≡_};
 ghost use Prim.Native.Nat.{_≤_};
 ghost use lib.ListN.{length};
-ghost use Rattle.check_pieces.specs.Rows.{rankedIn};
+ghost use Rattle.check_list.specs.Places.{rankedIn};
 ghost use Rattle.image_tail.specs.Order.{Taken, OrderJudged, ListingJudged};
 
 // What a place gives: the rank of its piece.

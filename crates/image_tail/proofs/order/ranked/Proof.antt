@@ -3,7 +3,7 @@ use mathlib.Core.Path.{_∙_}
 use mathlib.Core.Logic.{⊎-elim}
 use Prim.Native.Nat.{_-_}
 use native.Mathlib.Omega.{arith}
-use Rattle.check_pieces.proofs.ListTests.{Counting, counting-start, count-one, count-none, count-end}
+use Rattle.check_list.proofs.ListTests.{Counting, counting-start, count-one, count-none, count-end}
 use borrow.Author.Needs.{needs}
 use Rattle.image_tail.proofs.order.ranked.Statement.{statement}
 use Rattle.image_tail.proofs.order.ranked.Tie as tie

@@ -1,10 +1,10 @@
 -- `check_pieces::step` meets its contract: each way out by one law.
 use native.Mathlib.Omega.{arith}
 use Rattle.list_groups.specs.Words.{listedPiece, listedRank}
-use Rattle.check_pieces.proofs.ListTests.{falls, outside, other-rank, stepped}
+use Rattle.check_list.proofs.ListTests.{falls, outside, other-rank, stepped}
 use borrow.Author.Needs.{needs}
-use Rattle.check_pieces.proofs.list.step.Statement.{statement}
-use Rattle.check_pieces.proofs.list.step.Tie as tie
+use Rattle.check_list.proofs.list.step.Statement.{statement}
+use Rattle.check_list.proofs.list.step.Tie as tie
 
 u64-to-usize-requires : tie.Need-u64-to-usize-requires
 u64-to-usize-requires c κs = search needs

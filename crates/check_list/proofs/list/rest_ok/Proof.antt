@@ -1,10 +1,10 @@
 -- `check_pieces::rest_ok` meets its contract. The loop's invariant: the places from `start` to k pass. Assumes nothing.
 use Prim.Native.Nat.{_-_}
 use native.Mathlib.Omega.{arith}
-use Rattle.check_pieces.proofs.WalkLaws.{Walking, walking-start, walking-next, walking-stop, walking-end}
+use Rattle.check_list.proofs.WalkLaws.{Walking, walking-start, walking-next, walking-stop, walking-end}
 use borrow.Author.Needs.{needs}
-use Rattle.check_pieces.proofs.list.rest_ok.Statement.{statement}
-use Rattle.check_pieces.proofs.list.rest_ok.Tie as tie
+use Rattle.check_list.proofs.list.rest_ok.Statement.{statement}
+use Rattle.check_list.proofs.list.rest_ok.Tie as tie
 
 abbrev Inv-loop : tie.InvT-loop
 Inv-loop list n start many least ranks₀ last₀ k₀ ranks last k = Walking n list start many least ranks₀ ranks last k

@@ -1,11 +1,11 @@
 -- `check_pieces::list_ok` meets its contract: the dirty flag, the count and the places are the parts of the definition.
 use mathlib.Core.Path.{_∙_}
 use native.Mathlib.Omega.{arith}
 use Rattle.check_pieces.proofs.HeadLaws.{head-there}
-use Rattle.check_pieces.proofs.ListTests.{dirty-list, other-many, as-many}
+use Rattle.check_list.proofs.ListTests.{dirty-list, other-many, as-many}
 use borrow.Author.Needs.{needs}
-use Rattle.check_pieces.proofs.list.list_ok.Statement.{statement}
-use Rattle.check_pieces.proofs.list.list_ok.Tie as tie
+use Rattle.check_list.proofs.list.list_ok.Statement.{statement}
+use Rattle.check_list.proofs.list.list_ok.Tie as tie
 
 head-word-requires : tie.Need-head-word-requires
 head-word-requires c κs = (head-there _ _ (c .before .before .pre .0), omega arith)

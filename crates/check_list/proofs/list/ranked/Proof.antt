@@ -3,10 +3,10 @@ use mathlib.Core.Path.{_∙_}
 use mathlib.Core.Logic.{⊎-elim}
 use Prim.Native.Nat.{_-_}
 use native.Mathlib.Omega.{arith}
-use Rattle.check_pieces.proofs.ListTests.{Counting, counting-start, count-one, count-none, count-end}
+use Rattle.check_list.proofs.ListTests.{Counting, counting-start, count-one, count-none, count-end}
 use borrow.Author.Needs.{needs}
-use Rattle.check_pieces.proofs.list.ranked.Statement.{statement}
-use Rattle.check_pieces.proofs.list.ranked.Tie as tie
+use Rattle.check_list.proofs.list.ranked.Statement.{statement}
+use Rattle.check_list.proofs.list.ranked.Tie as tie
 
 abbrev Inv-loop : tie.InvT-loop
 Inv-loop ranks n many₀ i₀ many i = Counting ranks n many i

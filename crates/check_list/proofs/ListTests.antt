@@ -24,12 +24,13 @@ use Rattle.memory_layout.specs.Decode.{headWord, pieceWord, piecesOn, yes?, lis
 use Rattle.memory_layout.specs.Bounds.{WordColumn}
 use Rattle.memory_layout.specs.Good.{rankRaw, goodList}
 use Rattle.memory_layout.proofs.TableLaws.{tabulate-len}
-use Rattle.check_pieces.specs.Rows.{rankedIn, placeIn, Stepped}
-use Rattle.check_pieces.specs.Parts.{HeadPassed, RanksOf, placesOk, PlaceTest, ListTest}
+use Rattle.check_pieces.specs.Parts.{HeadPassed, RanksOf}
 use Rattle.check_pieces.proofs.HeadLaws.{headed}
 use Rattle.check_pieces.proofs.Passes.{every-next, every-end, every-start}
 use Rattle.check_pieces.proofs.Tails.{tail, tail-all, tail-next, tail-end, front-next, member-behind, last-behind, count-below}
 use Rattle.check_pieces.proofs.ExtentTests.{pieces-in}
+use Rattle.check_list.specs.Places.{rankedIn, placeIn, Stepped}
+use Rattle.check_list.specs.Answers.{placesOk, PlaceTest, ListTest}
 
 -- ---- how many ranks are not 0
 -- those counted and those that are left are all

@@ -1,8 +1,8 @@
 -- `check_pieces::four` meets its contract: each way out by one law. Assumes nothing.
-use Rattle.check_pieces.proofs.WalkLaws.{first-fails, second-fails, third-fails, fourth}
+use Rattle.check_list.proofs.WalkLaws.{first-fails, second-fails, third-fails, fourth}
 use borrow.Author.Needs.{needs}
-use Rattle.check_pieces.proofs.list.four.Statement.{statement}
-use Rattle.check_pieces.proofs.list.four.Tie as tie
+use Rattle.check_list.proofs.list.four.Statement.{statement}
+use Rattle.check_list.proofs.list.four.Tie as tie
 
 mul-step : tie.Need-mul-step
 mul-step c = search needs

@@ -10,8 +10,9 @@ ghost use mathlib.Core.Path.{_≡_};
 ghost use Prim.Native.Nat.{_+_, _≤_};
 ghost use lib.ListN.{length};
 ghost use Rattle.memory_layout.specs.Decode.{headWord};
-ghost use Rattle.check_pieces.specs.Rows.{rankedIn, Stepped, FourPassed, RestPassed};
-ghost use Rattle.check_pieces.specs.Parts.{HeadPassed, PlaceTest, ListTest};
+ghost use Rattle.check_pieces.specs.Parts.{HeadPassed};
+ghost use Rattle.check_list.specs.Places.{rankedIn, Stepped, FourPassed, RestPassed};
+ghost use Rattle.check_list.specs.Answers.{PlaceTest, ListTest};
 
 // How many of the first n ranks are not 0. The count has as many bits as a rank, so that many are counted at once.
 fn ranked(ranks: &[u16], n: usize) -> usize

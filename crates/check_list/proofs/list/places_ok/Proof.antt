@@ -1,11 +1,11 @@
 -- `check_pieces::places_ok` meets its contract. The loop's invariant: the places before k pass. Assumes nothing.
 use Prim.Native.Nat.{_-_}
 use native.Mathlib.Omega.{arith}
 use Rattle.check_pieces.proofs.HeadLaws.{list-most}
-use Rattle.check_pieces.proofs.WalkLaws.{Walking, walking-start, walking-four, four-stop, walking-rest, decided}
+use Rattle.check_list.proofs.WalkLaws.{Walking, walking-start, walking-four, four-stop, walking-rest, decided}
 use borrow.Author.Needs.{needs}
-use Rattle.check_pieces.proofs.list.places_ok.Statement.{statement}
-use Rattle.check_pieces.proofs.list.places_ok.Tie as tie
+use Rattle.check_list.proofs.list.places_ok.Statement.{statement}
+use Rattle.check_list.proofs.list.places_ok.Tie as tie
 
 abbrev Inv-loop : tie.InvT-loop
 Inv-loop words many ranks₀ list n last₀ k₀ ranks last k = Walking n list 0 many 1 ranks₀ ranks last k

@@ -9,9 +9,10 @@ use lib.ListN.{length, getD}
 use Rattle.memory_layout.specs.declared.shape.Shape.{Shape}
 use Rattle.memory_layout.specs.Decode.{headWord}
 use Rattle.memory_layout.specs.Bounds.{WordColumn}
-use Rattle.check_pieces.specs.Rows.{Stepped, Further, Reached, AllPass, OneFails, Decided, FourPassed, RestPassed}
-use Rattle.check_pieces.specs.Parts.{HeadPassed, PlaceTest}
-use Rattle.check_pieces.proofs.ListTests.{Listing, listing-start, step-bad, step-next, places-end}
+use Rattle.check_pieces.specs.Parts.{HeadPassed}
+use Rattle.check_list.specs.Places.{Stepped, Further, Reached, AllPass, OneFails, Decided, FourPassed, RestPassed}
+use Rattle.check_list.specs.Answers.{PlaceTest}
+use Rattle.check_list.proofs.ListTests.{Listing, listing-start, step-bad, step-next, places-end}
 
 module _ (n : ℕ) (list start : List ℕ) where
   pub reach-start : Reached n list start 0 1 start

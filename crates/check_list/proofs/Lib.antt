@@ -1,0 +1,2 @@
+pub mod ListTests
+pub mod WalkLaws
