@@ -1,5 +1,2 @@
-pub mod BlockLaws
 pub mod PartialLaws
 pub mod WalkLaws
-pub mod PassLaws
-pub mod QuadLaws

@@ -24,8 +24,8 @@ use Rattle.image_records.proofs.FoundLaws.{NumberGot, flags-most}
 use Rattle.image_pieces.specs.declared.place.Place.the-variants.{At, Fault}
 use Rattle.image_pieces.specs.Places.{Ended, Failed, Went}
 use Rattle.image_pieces.proofs.NextLaws.{next-got, next-fault}
-use Rattle.image_partials.specs.declared.tally.Tally.{Tally}
-use Rattle.image_partials.specs.Blocks.{inState, Tallied, leftBlocks, BlocksStand, BlockFails}
+use Rattle.image_pass.specs.declared.tally.Tally.{Tally}
+use Rattle.image_pass.specs.Blocks.{inState, Tallied, leftBlocks, BlocksStand, BlockFails}
 use Rattle.image_partials.specs.Partials.{PartialJudged}
 
 -- ---- the state

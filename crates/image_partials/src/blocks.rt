@@ -1,7 +1,7 @@
 // The blocks of a partial: each by its own rule, and how many are free and requested.
-use crate::pass::BlocksPassed;
-use crate::pass::pass_blocks;
-use crate::tally::Tally;
+use image_pass::BlocksPassed;
+use image_pass::Tally;
+use image_pass::pass_blocks;
 use image_records::BlockRead;
 use image_records::read_block;
 ghost use mathlib.Core.Path.{_≡_};

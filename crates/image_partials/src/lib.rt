@@ -2,8 +2,5 @@
 mod blocks;
 mod partial;
 mod partials;
-mod pass;
-mod quads;
-mod tally;
 
 pub use partials::read_partials;

@@ -1,8 +1,8 @@
 // One partial: its record, its blocks, and the state of its piece, which is judged at the last block.
 use crate::blocks::BlocksRead;
 use crate::blocks::read_blocks;
-use crate::tally::Tally;
 use check_partials::state_ok;
+use image_pass::Tally;
 use image_pieces::Place;
 use image_records::NumberRead;
 use image_records::read_partial;

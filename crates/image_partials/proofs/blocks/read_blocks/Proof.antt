@@ -1,6 +1,7 @@
 -- `read_blocks` meets its contract: all blocks are well, or each is read by itself. Assumes nothing.
 use mathlib.Core.Path.{subst}
-use Rattle.image_partials.specs.Blocks.{BlocksJudged, BlocksWell}
+use Rattle.image_pass.specs.Blocks.{BlocksWell}
+use Rattle.image_partials.specs.Blocks.{BlocksJudged}
 use borrow.Author.Needs.{needs}
 use Rattle.image_partials.proofs.blocks.read_blocks.Statement.{statement}
 use Rattle.image_partials.proofs.blocks.read_blocks.Tie as tie

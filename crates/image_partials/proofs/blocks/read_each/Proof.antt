@@ -3,8 +3,8 @@ use mathlib.Core.Path.{sym, _∙_}
 use Prim.Native.Nat.{_-_}
 use native.Mathlib.Omega.{arith}
 use Rattle.image_records.proofs.FoundLaws.{block-got, block-bad}
+use Rattle.image_pass.proofs.BlockLaws.{Reading, reading-start, reading-next, reading-fault, reading-end, reading-few}
 use Rattle.image_partials.specs.Blocks.{BlocksJudged}
-use Rattle.image_partials.proofs.BlockLaws.{Reading, reading-start, reading-next, reading-fault, reading-end, reading-few}
 use borrow.Author.Needs.{needs}
 use Rattle.image_partials.proofs.blocks.read_each.Statement.{statement}
 use Rattle.image_partials.proofs.blocks.read_each.Tie as tie

@@ -7,8 +7,8 @@ use Rattle.model.specs.Lists.{nth, len}
 use Rattle.model.specs.image.Image.{bodyLength, partialKind, readPartial}
 use Rattle.check_partials.specs.Rows.{stateBy}
 use Rattle.image_records.proofs.FoundLaws.{number-got, number-bad}
+use Rattle.image_pass.proofs.BlockLaws.{tallied-few}
 use Rattle.image_partials.specs.Blocks.{BlocksJudged}
-use Rattle.image_partials.proofs.BlockLaws.{tallied-few}
 use Rattle.image_partials.proofs.PartialLaws.{record-fails, block-fails, partial-ends, partial-stops}
 use borrow.Author.Needs.{needs}
 use Rattle.image_partials.proofs.partial.read_whole.Statement.{statement}

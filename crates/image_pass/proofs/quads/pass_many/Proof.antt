@@ -2,12 +2,12 @@
 use mathlib.Core.Path.{_≡_, subst}
 use Prim.{tt}
 use native.Mathlib.Omega.{arith}
-use Rattle.image_partials.specs.Blocks.{BlocksWell}
-use Rattle.image_partials.specs.Quads.{Gathered}
-use Rattle.image_partials.proofs.QuadLaws.{told-well}
+use Rattle.image_pass.specs.Blocks.{BlocksWell}
+use Rattle.image_pass.specs.Quads.{Gathered}
+use Rattle.image_pass.proofs.QuadLaws.{told-well}
 use borrow.Author.Needs.{needs}
-use Rattle.image_partials.proofs.quads.pass_many.Statement.{statement}
-use Rattle.image_partials.proofs.quads.pass_many.Tie as tie
+use Rattle.image_pass.proofs.quads.pass_many.Statement.{statement}
+use Rattle.image_pass.proofs.quads.pass_many.Tie as tie
 
 slice-aggregate-gather : tie.Need-slice-aggregate-gather
 slice-aggregate-gather c = search needs

@@ -3,11 +3,11 @@ use mathlib.Core.Path.{_∙_}
 use Prim.Native.Nat.{_-_, _≤_}
 use native.Mathlib.Omega.{arith}
 use lib.ListN.{length-set}
-use Rattle.image_partials.specs.Quads.{Gathered}
-use Rattle.image_partials.proofs.QuadLaws.{gathered-start, gathered-next, gathered-wrong, gathered-end}
+use Rattle.image_pass.specs.Quads.{Gathered}
+use Rattle.image_pass.proofs.QuadLaws.{gathered-start, gathered-next, gathered-wrong, gathered-end}
 use borrow.Author.Needs.{needs}
-use Rattle.image_partials.proofs.quads.gather.Statement.{statement}
-use Rattle.image_partials.proofs.quads.gather.Tie as tie
+use Rattle.image_pass.proofs.quads.gather.Statement.{statement}
+use Rattle.image_pass.proofs.quads.gather.Tie as tie
 
 abbrev Inv-loop : tie.InvT-loop
 Inv-loop bytes start many quads₀ lone₀ j₀ quads lone j = (j ≤ many) × Gathered start j bytes quads₀ quads lone

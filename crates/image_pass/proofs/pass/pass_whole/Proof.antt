@@ -4,11 +4,11 @@ use Prim.{tt}
 use Prim.Native.Nat.{_-_}
 use native.Mathlib.Omega.{arith}
 use borrow.Author.Tests.{not-false}
-use Rattle.image_partials.specs.Blocks.{BlocksWell}
-use Rattle.image_partials.proofs.PassLaws.{Passing, passing-start, passing-next, passing-end, block-well, range-state, weight-most}
+use Rattle.image_pass.specs.Blocks.{BlocksWell}
+use Rattle.image_pass.proofs.PassLaws.{Passing, passing-start, passing-next, passing-end, block-well, range-state, weight-most}
 use borrow.Author.Needs.{needs}
-use Rattle.image_partials.proofs.pass.pass_whole.Statement.{statement}
-use Rattle.image_partials.proofs.pass.pass_whole.Tie as tie
+use Rattle.image_pass.proofs.pass.pass_whole.Statement.{statement}
+use Rattle.image_pass.proofs.pass.pass_whole.Tie as tie
 
 abbrev Inv-loop : tie.InvT-loop
 Inv-loop bytes start many counts lone₀ sum₀ at₀ j₀ lone sum at j = Passing start many bytes lone sum at j

@@ -18,13 +18,13 @@ use Rattle.model.proofs.base.Truths.{both-true}
 use Rattle.image_bytes.specs.Put.{FieldRead}
 use Rattle.image_records.proofs.FrontLaws.{Small}
 use Rattle.image_records.proofs.FoundLaws.{BlockGot}
-use Rattle.image_partials.specs.declared.tally.Tally.{Tally}
-use Rattle.image_partials.specs.declared.pass.BlocksPassed.{BlocksPassed}
-use Rattle.image_partials.specs.declared.pass.BlocksPassed.the-variants.{Well, Unclear}
-use Rattle.image_partials.specs.Blocks.{BlocksStand, BlocksWell, inRange}
-use Rattle.image_partials.specs.Quads.{quadOk, BlockQuad, Gathered, countTo, freeIn, requestedIn, QuadsWell, QuadsTold}
-use Rattle.image_partials.proofs.BlockLaws.{Reading, reading-start, reading-next, reading-end}
-use Rattle.image_partials.proofs.PassLaws.{or-none, block-well}
+use Rattle.image_pass.specs.declared.tally.Tally.{Tally}
+use Rattle.image_pass.specs.declared.pass.BlocksPassed.{BlocksPassed}
+use Rattle.image_pass.specs.declared.pass.BlocksPassed.the-variants.{Well, Unclear}
+use Rattle.image_pass.specs.Blocks.{BlocksStand, BlocksWell, inRange}
+use Rattle.image_pass.specs.Quads.{quadOk, BlockQuad, Gathered, countTo, freeIn, requestedIn, QuadsWell, QuadsTold}
+use Rattle.image_pass.proofs.BlockLaws.{Reading, reading-start, reading-next, reading-end}
+use Rattle.image_pass.proofs.PassLaws.{or-none, block-well}
 
 -- ---- gathered
 pub gathered-start : (start : ℕ) (bytes quads : List ℕ) → Gathered start 0 bytes quads quads 0

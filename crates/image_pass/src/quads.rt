@@ -11,8 +11,8 @@ ghost use mathlib.Core.Path.{_≡_};
 ghost use Prim.Native.Nat.{_+_, _*_, _≤_};
 ghost use lib.ListN.{length};
 ghost use Rattle.model.specs.Lists.{bit};
-ghost use Rattle.image_partials.specs.Blocks.{BlocksWell};
-ghost use Rattle.image_partials.specs.Quads.{quadOk, Gathered, QuadsTold};
+ghost use Rattle.image_pass.specs.Blocks.{BlocksWell};
+ghost use Rattle.image_pass.specs.Quads.{quadOk, Gathered, QuadsTold};
 
 fn quad_ok(q: u32) -> bool
     ensures { λ r. ⌜ r ≡ quadOk q ⌝ }

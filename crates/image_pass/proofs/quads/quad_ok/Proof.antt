@@ -1,8 +1,8 @@
 -- `quad_ok` meets its contract. Assumes nothing.
 use mathlib.Core.Path.{refl}
-use Rattle.image_partials.specs.Quads.{quadOk}
-use Rattle.image_partials.proofs.quads.quad_ok.Statement.{statement}
-use Rattle.image_partials.proofs.quads.quad_ok.Tie as tie
+use Rattle.image_pass.specs.Quads.{quadOk}
+use Rattle.image_pass.proofs.quads.quad_ok.Statement.{statement}
+use Rattle.image_pass.proofs.quads.quad_ok.Tie as tie
 
 returns : tie.Need-returns
 unfolding quadOk

@@ -1,9 +1,9 @@
 -- `pass_blocks` meets its contract. Assumes nothing.
 use Prim.{tt}
-use Rattle.image_partials.specs.Blocks.{BlocksWell}
+use Rattle.image_pass.specs.Blocks.{BlocksWell}
 use borrow.Author.Needs.{needs}
-use Rattle.image_partials.proofs.pass.pass_blocks.Statement.{statement}
-use Rattle.image_partials.proofs.pass.pass_blocks.Tie as tie
+use Rattle.image_pass.proofs.pass.pass_blocks.Statement.{statement}
+use Rattle.image_pass.proofs.pass.pass_blocks.Tie as tie
 
 sub-if1 : tie.Need-sub-if1
 sub-if1 c = search needs

@@ -21,8 +21,8 @@ use Rattle.image_records.specs.Records.{blockNumbers}
 use Rattle.image_records.proofs.FoundLaws.{BlockGot, judged-under, judged-over}
 use Rattle.image_pieces.specs.Places.{Failed}
 use Rattle.image_pieces.proofs.NextLaws.{next-got, next-fault}
-use Rattle.image_partials.specs.declared.tally.Tally.{Tally}
-use Rattle.image_partials.specs.Blocks.{inState, Tallied, leftBlocks, BlocksStand, BlockFails}
+use Rattle.image_pass.specs.declared.tally.Tally.{Tally}
+use Rattle.image_pass.specs.Blocks.{inState, Tallied, leftBlocks, BlocksStand, BlockFails}
 
 -- ---- the definition's reader
 given-cond : {A B : Type 0} (t : Bool) (here rest : List ℕ) (a : A) (f : A → B)

@@ -9,7 +9,7 @@ ghost use mathlib.Core.Path.{_≡_};
 ghost use mathlib.Core.Bool.{cond};
 ghost use Prim.Native.Nat.{_+_, _*_, _≤_};
 ghost use lib.ListN.{length};
-ghost use Rattle.image_partials.specs.Blocks.{inRange, BlocksWell};
+ghost use Rattle.image_pass.specs.Blocks.{inRange, BlocksWell};
 
 pub enum BlocksPassed {
     Well(Tally),

@@ -2,11 +2,11 @@
 use Prim.{tt}
 use Prim.Native.Nat.{_-_}
 use native.Mathlib.Omega.{arith}
-use Rattle.image_partials.specs.Quads.{QuadsTold}
-use Rattle.image_partials.proofs.QuadLaws.{Telling, telling-start, telling-next, telling-end}
+use Rattle.image_pass.specs.Quads.{QuadsTold}
+use Rattle.image_pass.proofs.QuadLaws.{Telling, telling-start, telling-next, telling-end}
 use borrow.Author.Needs.{needs}
-use Rattle.image_partials.proofs.quads.tell.Statement.{statement}
-use Rattle.image_partials.proofs.quads.tell.Tie as tie
+use Rattle.image_pass.proofs.quads.tell.Statement.{statement}
+use Rattle.image_pass.proofs.quads.tell.Tie as tie
 
 abbrev Inv-loop : tie.InvT-loop
 Inv-loop quads many wrong₀ free₀ requested₀ j₀ wrong free requested j = Telling many quads wrong free requested j

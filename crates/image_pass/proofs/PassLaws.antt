@@ -19,9 +19,9 @@ use Rattle.image_records.specs.Records.{bodyAt, blockTest}
 use Rattle.image_records.proofs.FrontLaws.{Small, starts-here, body-at, body-read}
 use Rattle.image_records.proofs.RecordLaws.{block-found}
 use Rattle.image_records.proofs.FoundLaws.{BlockGot, block-got}
-use Rattle.image_partials.specs.declared.tally.Tally.{Tally}
-use Rattle.image_partials.specs.Blocks.{BlocksStand, inRange}
-use Rattle.image_partials.proofs.BlockLaws.{Reading, reading-start, reading-next, reading-end, reading-few}
+use Rattle.image_pass.specs.declared.tally.Tally.{Tally}
+use Rattle.image_pass.specs.Blocks.{BlocksStand, inRange}
+use Rattle.image_pass.proofs.BlockLaws.{Reading, reading-start, reading-next, reading-end, reading-few}
 
 -- ---- numbers
 pub or-none : (a b : ℕ) → bitOr a b ≡ 0 → (a ≡ 0) × (b ≡ 0)

@@ -1,8 +1,8 @@
 -- `in_range` meets its contract. Assumes nothing.
 use mathlib.Core.Path.{refl}
-use Rattle.image_partials.specs.Blocks.{inRange}
-use Rattle.image_partials.proofs.pass.in_range.Statement.{statement}
-use Rattle.image_partials.proofs.pass.in_range.Tie as tie
+use Rattle.image_pass.specs.Blocks.{inRange}
+use Rattle.image_pass.proofs.pass.in_range.Statement.{statement}
+use Rattle.image_pass.proofs.pass.in_range.Tie as tie
 
 returns : tie.Need-returns
 unfolding inRange

@@ -7,9 +7,9 @@ use lib.ListN.{length, getD}
 use lib.Dec.{eqb, leb}
 use Rattle.model.specs.Lists.{bit}
 use Rattle.image_bytes.specs.Put.{FieldRead}
-use Rattle.image_partials.specs.declared.tally.Tally.{Tally}
-use Rattle.image_partials.specs.declared.pass.BlocksPassed.{BlocksPassed}
-use Rattle.image_partials.specs.declared.pass.BlocksPassed.the-variants.{Well, Unclear}
+use Rattle.image_pass.specs.declared.tally.Tally.{Tally}
+use Rattle.image_pass.specs.declared.pass.BlocksPassed.{BlocksPassed}
+use Rattle.image_pass.specs.declared.pass.BlocksPassed.the-variants.{Well, Unclear}
 
 -- a block, one of the four states, and not too many peers
 unfoldable pub quadOk : (q : ℕ) → Bool
