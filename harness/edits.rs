@@ -1,4 +1,4 @@
-//! The three edits of the live records that a change answers, by the steps of `memory_records::apply`, so that they can stand for it where
+//! The three edits of the live records that a change answers, by the steps of `memory_edits::apply`, so that they can stand for it where
 //! changes are timed. Each answers false where it does not fit.
 
 use crate::records::DownloadingPiece;

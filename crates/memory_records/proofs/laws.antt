@@ -2,4 +2,3 @@ pub mod SearchLaws
 pub mod LiveLaws
 pub mod EditLaws
 pub mod RowLaws
-pub mod GapLaws

@@ -1,5 +1,4 @@
 -- The lent records by place and by piece: searches, and one put in, taken out or replaced. Assumes nothing.
-use mathlib.Core.Path.{_≡_}
 use mathlib.Core.Bool.{Bool, true, false, cond, not, _&&_, _||_}
 use Prim.Native.Nat.{ℕ, zero, suc, _+_, _-_, _<_, _≤_}
 use lib.Dec.{ltb, leb, eqb}
@@ -42,10 +41,6 @@ seekFrom t k ds piece = firstFrom (λ i. eqb (getD ds i noRecord .index) piece) 
 abbrev pub aboveFrom : (t k : ℕ) (ds : List DownloadingPiece) (piece : ℕ) → ℕ
 aboveFrom t k ds piece = firstFrom (λ i. ltb piece (getD ds i noRecord .index)) t k
 
--- r is among the first n places, and the records before it are of lower pieces
-abbrev pub Skipped : (n piece : ℕ) (ds : List DownloadingPiece) (r : ℕ) → Type 0
-Skipped n piece ds r = (r ≤ n) × ((k : ℕ) → k < r → getD ds k noRecord .index < piece)
-
 -- t records from place i on, the last one first, each to the place after its own
 abbrev pub openGap : (t i : ℕ) (ds : List DownloadingPiece) → List DownloadingPiece
 openGap zero i ds = ds
@@ -55,14 +50,6 @@ openGap (suc t) i ds = openGap t i (set ds (suc (i + t)) (getD ds (i + t) noReco
 abbrev pub closeGap : (t i : ℕ) (ds : List DownloadingPiece) → List DownloadingPiece
 closeGap zero i ds = ds
 closeGap (suc t) i ds = closeGap t (suc i) (set ds i (getD ds (suc i) noRecord))
-
--- of the records from i to n - 1 those from r on went up: the rest is the same gap, opened up to r
-abbrev pub Raised : (i n : ℕ) (ds : List DownloadingPiece) (r : ℕ) (es : List DownloadingPiece) → Type 0
-Raised i n ds r es = (i ≤ r) × (r ≤ n) × (openGap (r - i) i es ≡ openGap (n - i) i ds)
-
--- of the records after i, up to n, those up to r went down: the rest is the same gap, closed from r on
-abbrev pub Lowered : (i n : ℕ) (ds : List DownloadingPiece) (r : ℕ) (es : List DownloadingPiece) → Type 0
-Lowered i n ds r es = (i ≤ r) × (r ≤ n) × (closeGap (n - r) r es ≡ closeGap (n - i) i ds)
 
 -- d at place q of the first n, those from q on one place up
 abbrev pub insertedAt : (q n : ℕ) (d : DownloadingPiece) (ds : List DownloadingPiece) → List DownloadingPiece

@@ -1,15 +1,12 @@
-// The lent slice of partial records: searches, edits by piece, and the records as rows of numbers, which is how code without slices of
-// structs sees them. Every public call over words, cells and partials stands on it (`memory_walks`).
+// The lent slice of partial records: the record at a place, and the records as rows of numbers, which is how code without slices of
+// structs sees them; what searches and edits by piece come to (the code is `memory_edits`). Every public call over words, cells and
+// partials stands on it (`memory_walks`).
 mod edits;
 mod record;
 mod rows;
 mod search;
 
 pub use edits::Edit;
-pub use edits::apply;
-pub use edits::insert;
-pub use edits::remove;
-pub use edits::replace;
 pub use record::DownloadingPiece;
 pub use record::get;
 pub use record::put;
@@ -19,4 +16,3 @@ pub use rows::row;
 pub use rows::set_row;
 pub use rows::unpack;
 pub use search::Found;
-pub use search::find;

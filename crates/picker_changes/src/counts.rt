@@ -1,9 +1,9 @@
 // A peer counted in or out.
 use ask_piece::get_availability;
+use memory_edits::apply;
 use memory_layout::Shape;
 use memory_records::DownloadingPiece;
 use memory_records::Edit;
-use memory_records::apply;
 use memory_records::live_records;
 use memory_records::unpack;
 use picker_calls::Admission;

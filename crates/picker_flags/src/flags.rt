@@ -1,7 +1,7 @@
 // A piece locked or passed: calls that look at its partial's flags and draw nothing.
+use memory_edits::apply;
 use memory_layout::Shape;
 use memory_records::DownloadingPiece;
-use memory_records::apply;
 use memory_records::live_records;
 use memory_records::unpack;
 use picker_calls::Admission;

@@ -1,8 +1,8 @@
 // A piece's priority, which document 01 calls its wish.
+use memory_edits::apply;
 use memory_layout::Shape;
 use memory_records::DownloadingPiece;
 use memory_records::Edit;
-use memory_records::apply;
 use memory_records::live_records;
 use memory_records::unpack;
 use picker_calls::Admission;

@@ -1,10 +1,10 @@
 // A seed counted in or out: a call that looks at every piece and draws nothing.
+use memory_edits::apply;
 use memory_fields::seeds;
 use memory_layout::Shape;
 use memory_layout::piece_column;
 use memory_records::DownloadingPiece;
 use memory_records::Edit;
-use memory_records::apply;
 use memory_records::live_records;
 use memory_records::unpack;
 use picker_calls::Admission;

@@ -65,16 +65,16 @@ use Rattle.memory_records.proofs.unpack.Symbol.{name as #unpack}
 use Rattle.memory_records.specs.declared.edits.Edit.{Edit}
 use Rattle.memory_records.proofs.edits.Edit as Ed
 use Rattle.memory_records.proofs.edits.Edit.Laws as Ed′
-use Rattle.memory_records.proofs.apply as apply
-use Rattle.memory_records.proofs.apply.Symbol.{name as #apply}
+use Rattle.memory_edits.proofs.apply as apply
+use Rattle.memory_edits.proofs.apply.Symbol.{name as #apply}
 use Rattle.memory_records.proofs.steps.UnpackSteps.{big, values, zeros-values, zeros-are, zeros-are′, cells-ty, Rows, apart, together}
 use Rattle.memory_records.proofs.steps.UnpackSteps.{Unpack, unpack-call}
 use contract.Running.{GhostRules, Running, MachineTables, givenOf, tables, tablesOf}
 use denote.Triple.Table.{entered, cited}
 use Rattle.memory_records.proofs.unpack.Symbol as unpack-def
 use Rattle.memory_records.proofs.unpack.Met as unpack-thm
-use Rattle.memory_records.proofs.apply.Symbol as apply-def
-use Rattle.memory_records.proofs.apply.Met as apply-thm
+use Rattle.memory_edits.proofs.apply.Symbol as apply-def
+use Rattle.memory_edits.proofs.apply.Met as apply-thm
 use Rattle.memory_records.proofs.steps.Values.{Value, Stepped}
 use denote.Enum.Laws as EL
 use Rattle.memory_records.proofs.laws.LiveLaws.{live-most}

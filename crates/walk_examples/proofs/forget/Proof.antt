@@ -50,5 +50,5 @@ forget-spec 𝓤 H 𝓜 𝓖 𝓡 =
       fits = λ a r w′ c′ h. gone-fits r _ (a .1 .1 .0 .now) h;
       ends = λ κs a g r w′ c′ zs h e. factI 𝓤 _ _ (h .0, e ∙ gone r _ (a .1 .1 .0 .now) h);
     })
-    (code.unfolded 𝓤 H 𝓜 𝓡) code.calls-memory-records·live-records code.calls-memory-records·unpack code.calls-memory-records·apply
+    (code.unfolded 𝓤 H 𝓜 𝓡) code.calls-memory-records·live-records code.calls-memory-records·unpack code.calls-memory-edits·apply
     code.calls-walk-examples·forget-core (core-thm.met 𝓤 H 𝓜 𝓖 𝓡)
