@@ -17,7 +17,7 @@ use Rattle.memory_records.specs.declared.record.DownloadingPiece.{DownloadingPi
 use Rattle.memory_records.specs.declared.search.Found.the-variants.{At}
 use Rattle.memory_records.specs.declared.edits.Edit.{Edit}
 use Rattle.memory_records.specs.declared.edits.Edit.the-variants.{Keep, Replace, Remove}
-use Rattle.memory_records.specs.Records.{EditFits, edited, risingFrom, withoutRecord}
+use Rattle.memory_records.specs.Records.{HasRoom, edited, risingFrom, withoutRecord}
 use Rattle.memory_records.specs.Rows.{rowAt, recordsIn}
 use Rattle.memory_records.proofs.laws.RowLaws.{length-records, records-at}
 use Rattle.memory_layout.specs.declared.shape.Shape.{Shape}
@@ -68,7 +68,7 @@ module _ (s : Shape) (live : ℕ) (rows words cells : List ℕ) (g : Stands s (r
       omega (arith, many, b .partials, b .spans .inWords .sizes .places ∙ places-min (s .pieces))
 
   -- ---- from the lent records to the live ones
-  pub rows-edited : (change : Picker → Picker) (edit : Edit) → EditFits (headWord words 7) edit rs → (words′ cells′ : List ℕ)
+  pub rows-edited : (change : Picker → Picker) (edit : Edit) → HasRoom (headWord words 7) edit rs → (words′ cells′ : List ℕ)
       → headWord words′ 7 ≤ length (editRecords edit rs)
       → Changed s (change d) words cells (edited (headWord words 7) edit rs) words′ cells′
       → RowsChanged s change live rows words cells edit words′ cells′

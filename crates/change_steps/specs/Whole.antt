@@ -6,7 +6,7 @@ use lib.ListN.{length}
 use Rattle.model.specs.list.Order.{Drawing, drawing}
 use Rattle.memory_records.specs.declared.record.DownloadingPiece.{DownloadingPiece as Record}
 use Rattle.memory_records.specs.declared.edits.Edit.{Edit}
-use Rattle.memory_records.specs.Records.{EditFits}
+use Rattle.memory_records.specs.Records.{HasRoom}
 use Rattle.memory_layout.specs.declared.shape.Shape.{Shape}
 use Rattle.memory_layout.specs.Decode.{decode}
 use Rattle.memory_layout.specs.Standing.{Stands, Changed}
@@ -20,7 +20,7 @@ pub record Done (s : Shape) (step : Drawing → Drawing) (records : List Record)
 
 -- the one edit of the live records that goes with it can be made in as many lent records as there are places
 pub record EditRoom (s : Shape) (live : ℕ) (edit : Edit) : Type 0 where
-  pub fits : (lent : List Record) → s .places ≤ length lent → EditFits live edit lent
+  pub fits : (lent : List Record) → s .places ≤ length lent → HasRoom live edit lent
 
 -- and that with whichever records make a picker stand, which stay
 pub record ChangedBy (s : Shape) (step : Drawing → Drawing) (words cells : List ℕ) (words′ cells′ : List ℕ) (used : ℕ) : Type 0 where

@@ -1,4 +1,4 @@
--- How far steps of four records come: in a search, and in a gap that is opened or closed. Assumes nothing.
+-- How far steps of several records come: in a search, and in a gap that is opened or closed. Assumes nothing.
 use mathlib.Core.Path.{_≡_}
 use Prim.Native.Nat.{ℕ, _-_, _<_, _≤_}
 use mathlib.Core.List.{List}

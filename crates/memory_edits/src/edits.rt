@@ -2,7 +2,7 @@
 ghost use mathlib.Core.Path.{_≡_};
 ghost use Prim.Native.Nat.{_+_, _-_, _<_, _≤_};
 ghost use lib.ListN.{length};
-ghost use Rattle.memory_records.specs.Records.{openGap, closeGap, inserted, removed, replaced, EditFits, edited};
+ghost use Rattle.memory_records.specs.Records.{Rising, openGap, closeGap, inserted, removed, replaced, EditFits, edited};
 ghost use Rattle.memory_edits.specs.Partway.{Raised, Lowered};
 use crate::search::position;
 use crate::search::seek;
@@ -101,7 +101,7 @@ pub fn close_gap(partials: &mut [DownloadingPiece], i: usize, last: usize)
 
 // d among the first n, before those of higher pieces.
 pub fn insert(partials: &mut [DownloadingPiece], n: usize, d: DownloadingPiece)
-    requires { ⌜ n < length (now partials) ⌝ }
+    requires { ⌜ (n < length (now partials)) × Rising n (now partials) ⌝ }
     ensures { λ _. ⌜ now (partials .exit) ≡ inserted n d (now (partials .entry)) ⌝ }
 {
     let q = position(partials, n, d.index);
@@ -111,7 +111,7 @@ pub fn insert(partials: &mut [DownloadingPiece], n: usize, d: DownloadingPiece)
 
 // The piece's record out of the first n: those after it go down by one place.
 pub fn remove(partials: &mut [DownloadingPiece], n: usize, piece: u32)
-    requires { ⌜ n ≤ length (now partials) ⌝ }
+    requires { ⌜ Rising n (now partials) ⌝ }
     ensures { λ _. ⌜ now (partials .exit) ≡ removed n piece (now (partials .entry)) ⌝ }
 {
     let q = seek(partials, n, piece);
@@ -124,7 +124,7 @@ pub fn remove(partials: &mut [DownloadingPiece], n: usize, piece: u32)
 
 // d in the place of its piece's record among the first n.
 pub fn replace(partials: &mut [DownloadingPiece], n: usize, d: DownloadingPiece)
-    requires { ⌜ n ≤ length (now partials) ⌝ }
+    requires { ⌜ Rising n (now partials) ⌝ }
     ensures { λ _. ⌜ now (partials .exit) ≡ replaced n d (now (partials .entry)) ⌝ }
 {
     let q = seek(partials, n, d.index);

@@ -16,7 +16,7 @@ use Rattle.model.proofs.sound.SoundLaws.{wellFormed-sound}
 use Rattle.memory_records.specs.declared.record.DownloadingPiece.{DownloadingPiece as Record}
 use Rattle.memory_records.specs.declared.edits.Edit.{Edit}
 use Rattle.memory_records.specs.declared.edits.Edit.the-variants.{Keep, Replace, Insert, Remove}
-use Rattle.memory_records.specs.Records.{noRecord, EditFits, inserted, removed, replaced, edited, risingFrom, hasRecord, withoutRecord}
+use Rattle.memory_records.specs.Records.{noRecord, HasRoom, inserted, removed, replaced, edited, risingFrom, hasRecord, withoutRecord}
 use Rattle.memory_records.proofs.laws.EditLaws.{length-inserted, length-removed, length-replaced, inserted-live, removed-live, removed-absent}
 use Rattle.memory_records.proofs.laws.EditLaws.{replaced-live}
 use Rattle.memory_layout.specs.declared.shape.Shape.{Shape}
@@ -146,7 +146,7 @@ module _ (n : ℕ) (ds : List Record) (rises : risingFrom 0 (take n ds) ≡ true
       go false e = (n, ap (take n) (removed-absent n piece ds h e) ∙ sym (without-absent piece (take n ds) e))
 
   -- the live records after an edit are the edited live records
-  pub edited-front : (edit : Edit) → EditFits n edit ds → (m : ℕ) × (take m (edited n edit ds) ≡ editRecords edit (take n ds))
+  pub edited-front : (edit : Edit) → HasRoom n edit ds → (m : ℕ) × (take m (edited n edit ds) ≡ editRecords edit (take n ds))
   unfolding editRecords
   edited-front Keep h = (n, refl)
   edited-front (Replace d) h = (n, replaced-live n d ds h rises)
@@ -173,7 +173,7 @@ module _ (n : ℕ) (ds : List Record) (rises : risingFrom 0 (take n ds) ≡ true
       ap length (sym (removed-live n piece ds h rises e))
       ∙ length-take-le (n - 1) (removed n piece ds) (omega (arith, length-removed n piece ds))
 
-  module _ (s : Shape) (edit : Edit) (fits : EditFits n edit ds) (words cells : List ℕ)
+  module _ (s : Shape) (edit : Edit) (fits : HasRoom n edit ds) (words cells : List ℕ)
       (few : headWord words 7 ≤ length (editRecords edit (take n ds))) where
     -- record by record, as far as they are live
     pub edited-at : (k : ℕ) → k < headWord words 7 → recordAt (edited n edit ds) k ≡ recordAt (editRecords edit (take n ds)) k
@@ -192,7 +192,7 @@ module _ (n : ℕ) (ds : List Record) (rises : risingFrom 0 (take n ds) ≡ true
     decode-edited = decode-live s (editRecords edit (take n ds)) (edited n edit ds) words cells edited-at
 
   -- a change with an edit of the live records is one with that edit of all lent ones
-  pub changed-edited : (s : Shape) (edit : Edit) → EditFits n edit ds → (after : Picker) (words cells words′ cells′ : List ℕ)
+  pub changed-edited : (s : Shape) (edit : Edit) → HasRoom n edit ds → (after : Picker) (words cells words′ cells′ : List ℕ)
       → Changed s after words cells (editRecords edit (take n ds)) words′ cells′
       → Changed s after words cells (edited n edit ds) words′ cells′
   changed-edited s edit h after words cells words′ cells′ c =

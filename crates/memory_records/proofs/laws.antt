@@ -2,3 +2,4 @@ pub mod SearchLaws
 pub mod LiveLaws
 pub mod EditLaws
 pub mod RowLaws
+pub mod RisingLaws

@@ -1,9 +1,10 @@
 -- The lent records by place and by piece: searches, and one put in, taken out or replaced. Assumes nothing.
+use mathlib.Core.Path.{_≡_}
 use mathlib.Core.Bool.{Bool, true, false, cond, not, _&&_, _||_}
 use Prim.Native.Nat.{ℕ, zero, suc, _+_, _-_, _<_, _≤_}
 use lib.Dec.{ltb, leb, eqb}
 use mathlib.Core.List.{List, [], _∷_}
-use lib.ListN.{length, getD, set}
+use lib.ListN.{length, getD, set, take}
 use Rattle.memory_records.specs.declared.record.DownloadingPiece.{DownloadingPiece}
 use Rattle.memory_records.specs.declared.edits.Edit.{Edit}
 use Rattle.memory_records.specs.declared.edits.Edit.the-variants.{Keep, Replace, Insert, Remove}
@@ -13,6 +14,15 @@ use Rattle.memory_records.specs.declared.search.Found.the-variants.{At, 
 -- what stands past the last record
 abbrev pub noRecord : DownloadingPiece
 noRecord = record { index = 0; «info_idx» = 0; flags = 0 }
+
+-- by rising piece, none below `low`
+unfoldable pub risingFrom : (low : ℕ) (ds : List DownloadingPiece) → Bool
+risingFrom low [] = true
+risingFrom low (d ∷ ds) = ltb low (suc (d .index)) && risingFrom (suc (d .index)) ds
+
+-- the first n are lent, and rise
+abbrev pub Rising : (n : ℕ) (ds : List DownloadingPiece) → Type 0
+Rising n ds = (n ≤ length ds) × (risingFrom 0 (take n ds) ≡ true)
 
 -- a choice by a truth value, of answers
 abbrev pub choiceOf : (test : Bool) (a b : Found) → Found
@@ -72,11 +82,18 @@ abbrev pub replaced : (n : ℕ) (d : DownloadingPiece) (ds : List DownloadingPie
 replaced n d ds = cond (leb n (seekFrom n 0 ds (d .index))) ds (set ds (seekFrom n 0 ds (d .index)) d)
 
 -- the first n are lent, and one more where a record is put in
+abbrev pub HasRoom : (n : ℕ) (edit : Edit) (ds : List DownloadingPiece) → Type 0
+HasRoom n Keep ds = n ≤ length ds
+HasRoom n (Replace d) ds = n ≤ length ds
+HasRoom n (Insert d) ds = n < length ds
+HasRoom n (Remove piece) ds = n ≤ length ds
+
+-- what an edit relies on: there is room, and the first n rise, by which it finds its place
 abbrev pub EditFits : (n : ℕ) (edit : Edit) (ds : List DownloadingPiece) → Type 0
 EditFits n Keep ds = n ≤ length ds
-EditFits n (Replace d) ds = n ≤ length ds
-EditFits n (Insert d) ds = n < length ds
-EditFits n (Remove piece) ds = n ≤ length ds
+EditFits n (Replace d) ds = Rising n ds
+EditFits n (Insert d) ds = (n < length ds) × Rising n ds
+EditFits n (Remove piece) ds = Rising n ds
 
 -- one edit of the first n
 abbrev pub edited : (n : ℕ) (edit : Edit) (ds : List DownloadingPiece) → List DownloadingPiece
@@ -86,11 +103,6 @@ edited n (Insert d) ds = inserted n d ds
 edited n (Remove piece) ds = removed n piece ds
 
 -- ---- what the edits come to, on the live records alone
--- by rising piece, none below `low`
-unfoldable pub risingFrom : (low : ℕ) (ds : List DownloadingPiece) → Bool
-risingFrom low [] = true
-risingFrom low (d ∷ ds) = ltb low (suc (d .index)) && risingFrom (suc (d .index)) ds
-
 -- one is of the piece
 unfoldable pub hasRecord : (piece : ℕ) (ds : List DownloadingPiece) → Bool
 hasRecord piece [] = false

@@ -17,7 +17,7 @@ use Rattle.memory_records.specs.declared.record.DownloadingPiece.{DownloadingPi
 use Rattle.memory_records.specs.Records.{noRecord, risingFrom}
 use Rattle.memory_records.specs.Rows.{rowAt, recordsIn}
 use Rattle.memory_records.proofs.laws.RowLaws.{length-records, records-at}
-use Rattle.memory_records.proofs.laws.EditLaws.{RisesBy, rises}
+use Rattle.memory_records.proofs.laws.RisingLaws.{index-rises}
 use Rattle.memory_layout.specs.declared.shape.Shape.{Shape}
 use Rattle.memory_layout.specs.Decode.{recordAt, partialFrom, partialHeld}
 use Rattle.memory_layout.specs.Changes.{partialIn}
@@ -25,23 +25,6 @@ use Rattle.memory_layout.proofs.Meanings.{partials-number, partial-nth}
 use Rattle.memory_rows.specs.Lookup.{LiveRows, pickerIn}
 
 -- ---- records
-index-above : (low : ℕ) (rs : List Record) (k : ℕ) → risingFrom low rs ≡ true → k < length rs → low ≤ getD rs k noRecord .index
-unfolding RisesBy
-index-above low [] k r h = absurd (not-suc-le-zero h)
-index-above low (x ∷ xs) zero r h = rises low x xs r .0
-index-above low (x ∷ xs) (suc k) r h =
-    let e = rises low x xs r in
-    omega (arith, e .0, index-above (suc (x .index)) xs k (e .1) (le-of-suc-le-suc h))
-
-index-rises : (low : ℕ) (rs : List Record) (k l : ℕ) → risingFrom low rs ≡ true → k < l → l < length rs
-    → getD rs k noRecord .index < getD rs l noRecord .index
-unfolding RisesBy
-index-rises low [] k l r e h = absurd (not-suc-le-zero h)
-index-rises low (x ∷ xs) k zero r e h = absurd (not-suc-le-zero e)
-index-rises low (x ∷ xs) zero (suc l) r e h = index-above (suc (x .index)) xs l (rises low x xs r .1) (le-of-suc-le-suc h)
-index-rises low (x ∷ xs) (suc k) (suc l) r e h =
-    index-rises (suc (x .index)) xs k l (rises low x xs r .1) (le-of-suc-le-suc e) (le-of-suc-le-suc h)
-
 -- records of the same pieces as partials rise where they do
 rise-same : (low : ℕ) (rs : List Record) (ds : List DownloadingPiece) → length rs ≡ len ds
     → ((k : ℕ) → k < length rs → getD rs k noRecord .index ≡ nth noPartial ds k .piece) → risingFrom low rs ≡ partialsFrom low ds

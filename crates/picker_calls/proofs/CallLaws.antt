@@ -18,7 +18,7 @@ use Rattle.model.proofs.keep.KeepCalls.{act-keeps}
 use Rattle.memory_records.specs.declared.record.DownloadingPiece.{DownloadingPiece as Record}
 use Rattle.memory_records.specs.declared.edits.Edit.{Edit}
 use Rattle.memory_records.specs.declared.edits.Edit.the-variants.{Keep, Replace, Insert, Remove}
-use Rattle.memory_records.specs.Records.{noRecord, EditFits, edited, risingFrom}
+use Rattle.memory_records.specs.Records.{noRecord, HasRoom, EditFits, edited, risingFrom}
 use Rattle.memory_records.specs.Rows.{liveRecords, rowsOf, recordsIn}
 use Rattle.memory_records.proofs.laws.EditLaws.{length-edited, inserted-behind, removed-behind, replaced-behind}
 use Rattle.memory_records.proofs.laws.RowLaws.{records-of}
@@ -76,7 +76,7 @@ behind n k ds es e h =
     (sym (getD-drop n ds (k - n) noRecord) ∙ (ap (λ (l : List Record). getD l (k - n) noRecord) e ∙ getD-drop n es (k - n) noRecord))
 
 -- an edit that has room below place m moves nothing from there on
-pub edited-behind : (n m : ℕ) (edit : Edit) (ds : List Record) → n ≤ m → ((d : Record) → edit ≡ Insert d → n < m) → EditFits n edit ds
+pub edited-behind : (n m : ℕ) (edit : Edit) (ds : List Record) → n ≤ m → ((d : Record) → edit ≡ Insert d → n < m) → HasRoom n edit ds
     → (k : ℕ) → m ≤ k → getD (edited n edit ds) k noRecord ≡ getD ds k noRecord
 edited-behind n m Keep ds l i f k h = refl
 edited-behind n m (Replace d) ds l i f k h = behind n k (edited n (Replace d) ds) ds (replaced-behind n d ds f) (omega arith)
@@ -84,11 +84,17 @@ edited-behind n m (Insert d) ds l i f k h = let j = i d refl in behind (suc n) k
     (omega arith)
 edited-behind n m (Remove piece) ds l i f k h = behind n k (edited n (Remove piece) ds) ds (removed-behind n piece ds f) (omega arith)
 
-fits : (n m : ℕ) (edit : Edit) (ds : List Record) → n ≤ m → ((d : Record) → edit ≡ Insert d → n < m) → m ≤ length ds → EditFits n edit ds
+fits : (n m : ℕ) (edit : Edit) (ds : List Record) → n ≤ m → ((d : Record) → edit ≡ Insert d → n < m) → m ≤ length ds → HasRoom n edit ds
 fits n m Keep ds l i h = omega arith
 fits n m (Replace d) ds l i h = omega arith
 fits n m (Insert d) ds l i h = let j = i d refl in omega arith
 fits n m (Remove piece) ds l i h = omega arith
+
+rising-fits : (n : ℕ) (edit : Edit) (ds : List Record) → HasRoom n edit ds → risingFrom 0 (take n ds) ≡ true → EditFits n edit ds
+rising-fits n Keep ds h r = h
+rising-fits n (Replace d) ds h r = (h, r)
+rising-fits n (Insert d) ds h r = (h, (omega (arith, h), r))
+rising-fits n (Remove piece) ds h r = (h, r)
 
 -- ---- admitted
 module _ (s : Shape) (live lent : ℕ) (rows counts words cells : List ℕ) (t : Stood s live lent rows counts words cells)
@@ -149,8 +155,8 @@ module _ (s : Shape) (live lent : ℕ) (rows counts words cells : List ℕ) (t :
 
     module _ (edit : Edit) (room : (d : Record) → edit ≡ Insert d → live < s .places) (words′ cells′ : List ℕ)
         (c : Changed s after words cells (editRecords edit (recordsIn live rows)) words′ cells′) where
-      edit-fits : EditFits live edit partials
-      edit-fits = fits live (s .places) edit partials few room places-lent
+      has-room : HasRoom live edit partials
+      has-room = fits live (s .places) edit partials few room places-lent
 
       rises : risingFrom 0 (take live partials) ≡ true
       rises =
@@ -158,9 +164,12 @@ module _ (s : Shape) (live lent : ℕ) (rows counts words cells : List ℕ) (t :
           (live-rise s partials words cells
           (stands-live s (recordsIn live rows) partials words cells same (omega (arith, t .many, few, places-lent)) (t .stands)))
 
+      edit-fits : EditFits live edit partials
+      edit-fits = rising-fits live edit partials has-room rises
+
       changed : Changed s after words cells (edited live edit partials) words′ cells′
       changed =
-          changed-edited live partials rises s edit edit-fits after words cells words′ cells′
+          changed-edited live partials rises s edit has-room after words cells words′ cells′
           (subst (λ (l : List Record). Changed s after words cells (editRecords edit l) words′ cells′) front c)
 
       kept : LentKept m (lending words′ cells′ (edited live edit partials))
@@ -176,7 +185,7 @@ module _ (s : Shape) (live lent : ℕ) (rows counts words cells : List ℕ) (t :
             cells = λ k h. changed .cellsKept .beyond k
                 (subst (λ (n : ℕ). cellsFor n (s .blocks) ≤ k) (sym (b .pieces)) (subst (λ (w : ℕ). cellsFor (piecesOn words) w ≤ k)
                 (sym (b .blocks)) h));
-            partials = λ k h. edited-behind live (s .places) edit partials few room edit-fits k
+            partials = λ k h. edited-behind live (s .places) edit partials few room has-room k
                 (omega (arith, h, b .spans .inWords .sizes .places, ap placesFor (b .pieces)));
           }
 

@@ -15,7 +15,7 @@ use Rattle.model.specs.Calls.{Action, Answer, refused, done, said, answering, c
 use Rattle.memory_records.specs.declared.record.DownloadingPiece.{DownloadingPiece as Record}
 use Rattle.memory_records.specs.declared.edits.Edit.{Edit}
 use Rattle.memory_records.specs.declared.edits.Edit.the-variants.{Keep, Replace, Insert, Remove}
-use Rattle.memory_records.specs.Records.{noRecord, EditFits, edited}
+use Rattle.memory_records.specs.Records.{noRecord, HasRoom, edited}
 use Rattle.memory_records.specs.Rows.{liveRecords, rowsOf, recordsIn}
 use Rattle.memory_layout.specs.declared.shape.Shape.{Shape}
 use Rattle.memory_layout.specs.Decode.{headWord}
@@ -34,11 +34,11 @@ use Rattle.picker_calls.proofs.CallLaws.{core-refused, core-refuses, co
 
 -- ---- the edit
 -- one that fits wherever all places are lent puts a record in only where a place is left
-pub place-left : (live places : ℕ) (edit : Edit) → ((lent : List Record) → places ≤ length lent → EditFits live edit lent)
+pub place-left : (live places : ℕ) (edit : Edit) → ((lent : List Record) → places ≤ length lent → HasRoom live edit lent)
     → (x : Record) → edit ≡ Insert x → live < places
 place-left live places edit fits x e =
     let lent = replicate places noRecord in
-    let h = subst (λ (y : Edit). EditFits live y lent) e (fits lent (omega (arith, length-replicate places noRecord))) in
+    let h = subst (λ (y : Edit). HasRoom live y lent) e (fits lent (omega (arith, length-replicate places noRecord))) in
     omega (arith, h, length-replicate places noRecord)
 
 Keeps : Edit → Type 0

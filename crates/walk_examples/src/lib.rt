@@ -1,8 +1,7 @@
 // Calls of three shapes, to show that a walk of `memory_walks` can be used as it stands. The cores are as small as can be.
 ghost use mathlib.Core.Path.{_≡_};
 ghost use lib.ListN.{length};
-ghost use Rattle.memory_records.specs.declared.edits.Edit.the-variants.{Remove};
-ghost use Rattle.memory_records.specs.Records.{removed};
+ghost use Rattle.walk_examples.specs.Starting.{startEdit, started};
 use memory_edits::apply;
 use memory_records::DownloadingPiece;
 use memory_records::Edit;
@@ -30,31 +29,43 @@ pub struct Ask {
     pub block: i32,
 }
 
-// ---- a change: the record of a piece taken out
-fn forget_core(words: &mut [u64], cells: &mut [u16], rows: &[u32], lent: usize, a: u32) -> Step
+// ---- a change: the record of a piece, put in where none is live
+fn start_core(words: &mut [u64], cells: &mut [u16], rows: &[u32], lent: usize, a: u32) -> Step
     requires { ⌜ length (now rows) ≡ 1536 ⌝ }
-    ensures { λ r. ⌜ (r .out ≡ 0) × (r .count ≡ lent) × (r .edit ≡ Remove a) ⌝ }
+    ensures { λ r. ⌜ (r .out ≡ 0) × (r .count ≡ 0) × (r .edit ≡ startEdit lent a) ⌝ }
 {
+    if lent == 0 {
+        return Step {
+            out: 0,
+            count: 0,
+            edit: Edit::Keep,
+        };
+    }
+    let d = DownloadingPiece {
+        index: a,
+        info_idx: 0,
+        flags: 0,
+    };
     Step {
         out: 0,
-        count: lent,
-        edit: Edit::Remove(a),
+        count: 0,
+        edit: Edit::Insert(d),
     }
 }
 
 #[no_mangle]
-pub extern "C" fn forget(
+pub extern "C" fn start(
     words: &mut [u64],
     cells: &mut [u16],
     partials: &mut [DownloadingPiece],
     a: u32,
 ) -> u64
-    ensures { λ r. ⌜ (r ≡ 0) × (now (partials .exit) ≡ removed (length (now (partials .entry))) a (now (partials .entry))) ⌝ }
+    ensures { λ r. ⌜ (r ≡ 0) × (now (partials .exit) ≡ started a (now (partials .entry))) ⌝ }
 {
     let mut rows = [0; 1536];
     let live = live_records(words);
     let lent = unpack(partials, live, &mut rows);
-    let r = forget_core(words, cells, &rows, lent, a);
+    let r = start_core(words, cells, &rows, lent, a);
     apply(partials, r.count, r.edit);
     r.out
 }

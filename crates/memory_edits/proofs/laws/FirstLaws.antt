@@ -82,25 +82,3 @@ skips-seek n p ys k h =
   where
     other : (j : ℕ) → getD ys j noRecord .index < p → getD ys j noRecord .index ≡ p → ⊥
     other j a b = omega (arith, a, b)
-
--- four more, of which the highest is lower
-pub lower-more : (p : ℕ) (ys : List DownloadingPiece) (k : ℕ) → ((j : ℕ) → j < k → getD ys j noRecord .index < p) → (a b c : ℕ)
-    → (getD ys k noRecord .index ≤ a) × (getD ys (k + 1) noRecord .index ≤ a)
-    → (getD ys (k + 2) noRecord .index ≤ b) × (getD ys (k + 3) noRecord .index ≤ b) → (a ≤ c) × (b ≤ c) → c < p
-    → (j : ℕ) → j < k + 4 → getD ys j noRecord .index < p
-lower-more p ys k h a b c ea eb ec l j m = elim (decLe (suc j) k) [
-  | yes y ↦ h j y
-  | no n ↦ elim (ℕ-discrete j k) [
-    | yes y ↦ at-place k y (omega (arith, ea .0, ec .0, l))
-    | no n₀ ↦ elim (ℕ-discrete j (k + 1)) [
-      | yes y ↦ at-place (k + 1) y (omega (arith, ea .1, ec .0, l))
-      | no n₁ ↦ elim (ℕ-discrete j (k + 2)) [
-        | yes y ↦ at-place (k + 2) y (omega (arith, eb .0, ec .1, l))
-        | no n₂ ↦ at-place (k + 3) (omega (arith, n, n₀, n₁, n₂, m)) (omega (arith, eb .1, ec .1, l))
-      ]
-    ]
-  ]
-]
-  where
-    at-place : (i : ℕ) → j ≡ i → getD ys i noRecord .index < p → getD ys j noRecord .index < p
-    at-place i e q = subst (λ (m : ℕ). getD ys m noRecord .index < p) (sym e) q

@@ -46,7 +46,7 @@ use Rattle.memory_edits.proofs.laws.FirstLaws.{first-within}
 use Rattle.memory_records.proofs.steps.Code.{rec}
 use Rattle.memory_records.proofs.steps.RecordSteps.{Piece-is}
 use Rattle.memory_records.proofs.steps.CallSteps.{call-mut-again, call-shr}
-use Rattle.memory_records.specs.Records.{aboveFrom, openGap, inserted, insertedAt}
+use Rattle.memory_records.specs.Records.{Rising, aboveFrom, openGap, inserted, insertedAt}
 use Rattle.memory_edits.proofs.search.position as position
 use Rattle.memory_edits.proofs.search.position.Symbol as position-def
 use Rattle.memory_edits.proofs.search.position.Symbol.{name as #position}
@@ -72,9 +72,6 @@ slice = sliceTy (tyRef (named 0) mut rec)
 
 index-is : (d : DownloadingPiece) → Piece-is d → Is u32 (d .index) (vint w32 (d .index) ∷ [])
 index-is d g = LL.owed T.the-type T′.the-laws d _ g .0
-
-le-of : {n m : ℕ} → n < m → n ≤ m
-le-of h = omega (arith, h)
 
 module _ {M : Type 1} (𝓤 : URA M) (H : Heap 𝓤) (A : Atoms 𝓤) (W : Given 𝓤 H A) (mem : Memory → SProp 𝓤) (run : Routine → Fun 𝓤) (κ : Lft)
     (q : Share) (b o : ℕ) (γ : GName) (ys : List DownloadingPiece) (n : ℕ) (gn : n < 2 ^ 64) (a₂ : DownloadingPiece)
@@ -115,7 +112,7 @@ module _ {M : Type 1} (𝓤 : URA M) (H : Heap 𝓤) (A : Atoms 𝓤) (W : Given
       (tripleOf 𝓤 H A position.signature (position.spec 𝓤 H A mem run)))
       (known-open-gap : Triple 𝓤 (C #open-gap) (tripleOf 𝓤 H A open-gap.signature (open-gap.spec 𝓤 H A mem run)))
       (known-put : Triple 𝓤 (C #put) (tripleOf 𝓤 H A put.signature (put.spec 𝓤 H A mem run))) where
-    walk : Room T.the-row (length ys) → n < length ys → ent 𝓤 (onEntry 𝓤 H A insert.signature (κ, tt) (q, tt) x at)
+    walk : Room T.the-row (length ys) → (n < length ys) × Rising n ys → ent 𝓤 (onEntry 𝓤 H A insert.signature (κ, tt) (q, tt) x at)
         (WpFn 𝓤 H C Λ code.function (s (length ys) ∷ vint w64 n ∷ T′.lowered a₂ ∷ []) Post)
     walk room within =
         qed W ((‵ (flft κ q) ⊛ ‵ ftrue) ∷ ‵ (owns (MutSlice (named 0) κ T.the-row ∷ usize ∷ T.the-row ∷ []) x at) ∷ [])
@@ -135,7 +132,7 @@ module _ {M : Type 1} (𝓤 : URA M) (H : Heap 𝓤) (A : Atoms 𝓤) (W : Given
         call-shr T.the-row usize u32 usize 𝓤 H A W (uint-makes 𝓤 H A W w64) (uint-makes 𝓤 H A W w32) (vint w64) (uint-tells w64)
         (position.clauses 𝓤 H A mem run) b o ys n (a₂ .index) (vint w64 n) (vint w32 (a₂ .index)) ! fm
         (λ r. r ≡ aboveFrom n 0 ys (a₂ .index)) known-position (named 0) κ q γ room (λ _ _. tt) (refl, gn) (index-is a₂ g₂)
-        (λ _ _ _. factI 𝓤 _ _ (le-of within)) (λ _ _ _ r ws. id⊢ 𝓤 _)
+        (λ _ _ _. factI 𝓤 _ _ (within .1)) (λ _ _ _ r ws. id⊢ 𝓤 _)
         (λ u v. and-then ! (load ! (from ! (stop !)) (look ! 14 refl))
         (and-then ! (load ! (from ! (stop !)) (look ! 22 refl)) (and-then !
         (load ! (from ! (fld ! refl (stop !))) (look-in ! 20 (sub ! 0 refl (whole !)))) (no-more !)))) (λ k is e.
@@ -147,7 +144,7 @@ module _ {M : Type 1} (𝓤 : URA M) (H : Heap 𝓤) (A : Atoms 𝓤) (W : Given
         (init ! 8 refl (tt, (tt, (record { fits = room .0 }, tt)))) $
         call-mut-again T.the-row usize usize unit 𝓤 H A W (uint-makes 𝓤 H A W w64) (uint-makes 𝓤 H A W w64) (λ r. vunit) (λ r vs p. p)
         (open-gap.clauses 𝓤 H A mem run) b o ys k n (vint w64 k) (vint w64 n) ! fm (λ r zs. zs ≡ openGap (n - k) k ys) known-open-gap
-        (named 0) κ q γ room (λ _ _. tt) (refl, is .1) (refl, gn) (λ _ _ _. factI 𝓤 _ _ (below k e, within)) (λ _ _ _ r ws. id⊢ 𝓤 _)
+        (named 0) κ q γ room (λ _ _. tt) (refl, is .1) (refl, gn) (λ _ _ _. factI 𝓤 _ _ (below k e, within .0)) (λ _ _ _ r ws. id⊢ 𝓤 _)
         (λ u v. and-then ! (load ! (from ! (stop !)) (look ! 8 refl))
         (and-then ! (load ! (from ! (stop !)) (look ! 18 refl)) (and-then ! (load ! (from ! (stop !)) (look ! 22 refl)) (no-more !))))
         (λ _ zs _ ez lz.
@@ -182,7 +179,7 @@ module _ {M : Type 1} (𝓤 : URA M) (H : Heap 𝓤) (A : Atoms 𝓤) (W : Given
         room-at zs l = subst (Room T.the-row) (sym l) room
 
         inside : (k : ℕ) (zs : List DownloadingPiece) → k ≡ aboveFrom n 0 ys (a₂ .index) → length zs ≡ length ys → k < length zs
-        inside k zs e l = omega (arith, below k e, within, l)
+        inside k zs e l = omega (arith, below k e, within .0, l)
 
         ends : (k : ℕ) (zs us : List DownloadingPiece) → k ≡ aboveFrom n 0 ys (a₂ .index) → zs ≡ openGap (n - k) k ys → set zs k a₂
             ≡ inserted n a₂ ys
@@ -197,7 +194,7 @@ module _ {M : Type 1} (𝓤 : URA M) (H : Heap 𝓤) (A : Atoms 𝓤) (W : Given
   insert-walks C Λ fm k0 k1 k2 = walked 𝓤 H A insert.ended stayed (insert.clauses 𝓤 H A mem run) (WpFn 𝓤 H C Λ code.function)
       (λ κs. (slice-vals, (uint-vals w64, (LL.vals T.the-type T′.the-laws, tt))))
       (λ κs. (mut-slice-tells (named 0) (κs .0) T.the-row, (uint-tells w64, (LL.tells T.the-type T′.the-laws, tt))))
-      (λ κs qs bounds a g are. needs 𝓤 (a .1 .0 < length (now (a .0))) _
+      (λ κs qs bounds a g are. needs 𝓤 ((a .1 .0 < length (now (a .0))) × Rising (a .1 .0) (now (a .0))) _
       (walk 𝓤 H A W mem run (κs .0) (qs .0) (a .0 .ptr .0) (a .0 .ptr .1) (a .0 .name) (a .0 .now) (a .1 .0) (are .1 .0 .1) (a .1 .1 .0)
       (are .1 .1 .0) C Λ fm k0 k1 k2 (are .0 .0 .1)))
 

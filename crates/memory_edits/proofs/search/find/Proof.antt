@@ -36,7 +36,7 @@ use denote.Exit.{yes}
 use Rattle.memory_records.specs.declared.record.DownloadingPiece.{DownloadingPiece}
 use Rattle.memory_records.proofs.record.DownloadingPiece as T
 use Rattle.memory_records.proofs.steps.CallSteps.{call-plain, call-shr-given}
-use Rattle.memory_records.specs.Records.{answerOf, seekFrom}
+use Rattle.memory_records.specs.Records.{answerOf, seekFrom, Rising}
 use Rattle.memory_edits.proofs.search.seek as seek
 use Rattle.memory_edits.proofs.search.seek.Symbol as seek-def
 use Rattle.memory_edits.proofs.search.seek.Symbol.{name as #seek}
@@ -86,7 +86,7 @@ module _ {M : Type 1} (𝓤 : URA M) (H : Heap 𝓤) (A : Atoms 𝓤) (W : Given
   module _ (C : Calls 𝓤 H) (Λ : Loops 𝓤 H) (fm : FmC 𝓤 H (W .laws) C) (known-seek : Triple 𝓤 (C #seek)
       (tripleOf 𝓤 H A seek.signature (seek.spec 𝓤 H A mem run))) (known-answer : Triple 𝓤 (C answer-def.name)
       (tripleOf 𝓤 H A answer.signature (answer.spec 𝓤 H A mem run))) where
-    walk : Room T.the-row (length ys) → n ≤ length ys → ent 𝓤 (onEntry 𝓤 H A this.signature (κ, tt) (q, tt) x at)
+    walk : Room T.the-row (length ys) → Rising n ys → ent 𝓤 (onEntry 𝓤 H A this.signature (κ, tt) (q, tt) x at)
         (WpFn 𝓤 H C Λ code.function (s ∷ vint w64 n ∷ vint w32 p ∷ []) Post)
     walk room within =
         qed W ((‵ (flft κ q) ⊛ ‵ ftrue) ∷ ‵ (owns (ShrSlice (named 0) κ T.the-row ∷ usize ∷ u32 ∷ []) x at) ∷ [])
@@ -128,7 +128,7 @@ find-spec 𝓤 H 𝓜 𝓖 𝓡 =
     (walked 𝓤 H (𝓖 .A) this.ended stayed (this.clauses 𝓤 H (𝓖 .A) (𝓜 .mem) (𝓡 .run)) (WpFn 𝓤 H (𝓣 .C) (𝓣 .Λ) code.function)
     (λ κs. (slice-vals, (uint-vals w64, (uint-vals w32, tt)))) (λ κs.
     (shr-slice-tells (named 0) (κs .0) T.the-row, (uint-tells w64, (uint-tells w32, tt))))
-    (λ κs qs bounds a g are. needs 𝓤 (a .1 .0 ≤ length (now (a .0))) _
+    (λ κs qs bounds a g are. needs 𝓤 (Rising (a .1 .0) (now (a .0))) _
     (walk 𝓤 H (𝓖 .A) W (𝓜 .mem) (𝓡 .run) (κs .0) (qs .0) (a .0 .ptr .0) (a .0 .ptr .1) (a .0 .name) (a .0 .now) (a .1 .0) (are .1 .0 .1)
     (a .1 .1 .0) (are .1 .1 .0) (𝓣 .C) (𝓣 .Λ) (fmOf 𝓤 H (W .laws) 𝓣)
     (cited 𝓤 H (tripleOf 𝓤 H (𝓖 .A) seek.signature (seek.spec 𝓤 H (𝓖 .A) (𝓜 .mem) (𝓡 .run))) 𝓜 𝓡 code.env #seek seek-def.routine

@@ -45,7 +45,7 @@ use denote.Triple.Walked.{says, needs, Stays, stay-none-slice, stay-none, walkOf
 use denote.Triple.Walked.{walk-meets}
 use denote.Exit.{yes}
 use Rattle.memory_records.specs.declared.record.DownloadingPiece.{DownloadingPiece}
-use Rattle.memory_records.specs.Records.{noRecord, seekFrom}
+use Rattle.memory_records.specs.Records.{noRecord, seekFrom, Rising}
 use Rattle.memory_edits.specs.Partway.{Skipped}
 use Rattle.memory_records.proofs.record.DownloadingPiece as P
 use Rattle.memory_records.proofs.record.DownloadingPiece.Laws as P′
@@ -119,7 +119,7 @@ module _ {M : Type 1} (𝓤 : URA M) (H : Heap 𝓤) (A : Atoms 𝓤) (W : Given
       owned ! usize (Is usize) (uint-makes 𝓤 H A W w64) k _ (refl, gk) $ done !
 
   module _ (𝓣 : Tables 𝓤 H) (known-get : Triple 𝓤 (𝓣 .C #get) (Get 𝓤 H A mem run)) (room : Room P.the-row (length ys))
-      (bound : n ≤ length ys) (l₀ l₁ l₂ l₃ l₄ l₅ l₆ : ℕ) where
+      (bound : Rising n ys) (l₀ l₁ l₂ l₃ l₄ l₅ l₆ : ℕ) where
     abbrev C : Calls 𝓤 H
     C = 𝓣 .C
 
@@ -207,7 +207,7 @@ module _ {M : Type 1} (𝓤 : URA M) (H : Heap 𝓤) (A : Atoms 𝓤) (W : Given
         next-fits k e = omega (arith, e, gn)
 
         within : (k : ℕ) → k + suc t ≡ n → k < length ys
-        within k e = omega (arith, e, bound)
+        within k e = omega (arith, e, bound .0)
 
         moved : (k : ℕ) → k + suc t ≡ n → suc k + t ≡ n
         moved k e = omega (arith, e)
@@ -228,7 +228,7 @@ module _ {M : Type 1} (𝓤 : URA M) (H : Heap 𝓤) (A : Atoms 𝓤) (W : Given
         whole = omega (arith, e .0)
 
   walk : (𝓣 : Tables 𝓤 H) → Triple 𝓤 (𝓣 .C #get) (Get 𝓤 H A mem run) → Triple 𝓤 (𝓣 .C #skip) (Skip 𝓤 H A mem run)
-      → Room P.the-row (length ys) → n ≤ length ys
+      → Room P.the-row (length ys) → Rising n ys
       → ent 𝓤 (onEntry 𝓤 H A seek.signature (κ, tt) (q, tt) x at) (WpFn 𝓤 H (𝓣 .C) (𝓣 .Λ) code.function
       (s ∷ vint w64 n ∷ vint w32 p ∷ []) Post)
   walk 𝓣 kg ks room bound =
@@ -255,7 +255,7 @@ module _ {M : Type 1} (𝓤 : URA M) (H : Heap 𝓤) (A : Atoms 𝓤) (W : Given
   seek-walks 𝓣 kg ks = walked 𝓤 H A seek.ended stayed (seek.clauses 𝓤 H A mem run) (WpFn 𝓤 H (𝓣 .C) (𝓣 .Λ) code.function)
       (λ κs. (slice-vals, (uint-vals w64, (uint-vals w32, tt)))) (λ κs.
       (shr-slice-tells (named 0) (κs .0) P.the-row, (uint-tells w64, (uint-tells w32, tt))))
-      (λ κs qs bounds a g are. needs 𝓤 (a .1 .0 ≤ length (now (a .0))) _
+      (λ κs qs bounds a g are. needs 𝓤 (Rising (a .1 .0) (now (a .0))) _
       (walk 𝓤 H A W mem run (κs .0) (qs .0) (a .0 .ptr .0) (a .0 .ptr .1) (a .0 .name) (a .0 .now) (a .1 .0) (a .1 .1 .0) (are .1 .0 .1)
       (are .1 .1 .0 .1) 𝓣 kg ks (are .0 .0 .1)))
 
