@@ -103,17 +103,14 @@ fn seek(live: &[DownloadingPiece], piece: u32, passes: impl Fn(DownloadingPiece)
     k
 }
 
-/// A place before which all records are of lower pieces.
+/// A place before which all records are of lower pieces. They rise, so that one tells of sixteen.
 fn skip_lower(live: &[DownloadingPiece], piece: u32) -> usize {
-    let higher = |a: u32, b: u32| if a < b { b } else { a };
     let mut k = 0;
-    while k + 4 <= live.len() {
-        let [a, b, c, d] = read_four(live, k);
-        let (low, high) = (higher(a.index, b.index), higher(c.index, d.index));
-        if piece <= higher(low, high) {
+    while k + 16 <= live.len() {
+        if piece <= get(live, k + 15).index {
             break;
         }
-        k += 4;
+        k += 16;
     }
     k
 }
