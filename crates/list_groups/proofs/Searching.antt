@@ -1,6 +1,7 @@
 -- One turn of the loops of `gallop` and `halve`, and what a search tells of ranks. Assumes nothing.
-use mathlib.Core.Path.{_≡_, sym, ap, _∙_}
+use mathlib.Core.Path.{_≡_, refl, sym, ap, _∙_, subst}
 use mathlib.Core.Logic.{_≢_}
+use mathlib.Core.Bool.{Bool, true, false, _||_}
 use mathlib.Core.List.{List, [], _∷_}
 use Prim.Native.Nat.{ℕ, zero, suc, _+_, _*_, _-_, _/_, _≤_, _<_}
 use native.Mathlib.Nat.{le-of-suc-le-suc}
@@ -8,7 +9,8 @@ use native.Mathlib.Decide.{decLe, ℕ-discrete}
 use native.Mathlib.Omega.{arith}
 use lib.ListN.{length, getD, take}
 use lib.Seq.{getD-take, length-take-le}
-use borrow.Author.Tests.{eq-eqb, ne-eqb}
+use lib.Dec.{eqb}
+use borrow.Author.Tests.{eq-eqb, ne-eqb, eqb-false}
 use Rattle.model.specs.Lists.{placeOf}
 use Rattle.list_groups.specs.Words.{listedRank, topOf}
 use Rattle.list_groups.specs.Places.{Rises, NoLower, Splits, Parted, IsGroup}
@@ -186,6 +188,13 @@ place-first w (suc k) (v ∷ l) h e = elim (ℕ-discrete w v) [
   | no q ↦ place-first w k l (le-of-suc-le-suc (rw (ne-eqb w v q) at h)) e
 ]
 
+-- none of four tests that are joined
+none-of-four : (a b c d : Bool) → (((a || b) || c) || d) ≡ false → (a ≡ false) × (b ≡ false) × (c ≡ false) × (d ≡ false)
+none-of-four false false false d h = (refl, refl, refl, h)
+none-of-four false false true d h = let z : _≡_ {A = ℕ} 0 1 = cc in absurd (omega arith)
+none-of-four false true c d h = let z : _≡_ {A = ℕ} 0 1 = cc in absurd (omega arith)
+none-of-four true b c d h = let z : _≡_ {A = ℕ} 0 1 = cc in absurd (omega arith)
+
 -- what holds at the head of the loop: the word does not stand before k
 pub record Seeks (w end : ℕ) (l : List ℕ) (k : ℕ) : Type 0 where
   pub ahead : k ≤ placeOf w (take end l)
@@ -219,6 +228,22 @@ module _ (w end : ℕ) (l : List ℕ) (le : end ≤ length l) where
     ];
     inside = s .inside;
   }
+
+  -- none of four is the word
+  pub seeks-fours : {k : ℕ} → Seeks w end l k
+      → (((eqb (getD l k 0) w || eqb (getD l (k + 1) 0) w) || eqb (getD l (k + 2) 0) w) || eqb (getD l (k + 3) 0) w) ≡ false
+      → Seeks w end l (k + 4)
+  seeks-fours {k} s h =
+      let is : (m : ℕ) → Bool = λ m. eqb (getD l m 0) w in
+      let n = none-of-four (is k) (is (k + 1)) (is (k + 2)) (is (k + 3)) h in
+      let other : (m : ℕ) → eqb (getD l m 0) w ≡ false → getD l m 0 ≢ w = λ m e. eqb-false (getD l m 0) w e in
+      let a = seeks-next s (other k (n .0)) in
+      let b = seeks-next a (other (k + 1) (n .1)) in
+      let c = seeks-next (at-sum b (omega arith)) (other (k + 2) (n .2)) in
+      at-sum (seeks-next (at-sum c (omega arith)) (other (k + 3) (n .3))) (omega arith)
+    where
+      at-sum : {i j : ℕ} → Seeks w end l i → i ≡ j → Seeks w end l j
+      at-sum x e = subst (Seeks w end l) e x
 
   -- the word stands at k
   pub seeks-found : {k : ℕ} → Seeks w end l k → getD l k 0 ≡ w → k ≡ placeOf w (take end l)

@@ -95,6 +95,23 @@ pub fn group_of(list: &[u64], from: usize, end: usize, w: u64) -> Span
     Span { low, high }
 }
 
+// A place from `from` on before which w does not stand: four words are looked at in a turn.
+fn pass_fours(list: &[u64], from: usize, end: usize, w: u64) -> usize
+    requires { ⌜ end ≤ length (now list) ⌝ }
+    requires { ⌜ from ≤ placeOf w (take end (now list)) ⌝ }
+    requires { ⌜ placeOf w (take end (now list)) < end ⌝ }
+    ensures { λ r. ⌜ r ≤ placeOf w (take end (now (list .entry))) ⌝ }
+{
+    let mut k = from;
+    while 4 <= end - k {
+        if (list[k] == w) | (list[k + 1] == w) | (list[k + 2] == w) | (list[k + 3] == w) {
+            return k;
+        }
+        k += 4;
+    }
+    k
+}
+
 // Where the word w stands, which is among the first. Its group is scanned.
 pub fn place_of(list: &[u64], end: usize, w: u64) -> usize
     requires { ⌜ end ≤ length (now list) ⌝ }
@@ -104,7 +121,8 @@ pub fn place_of(list: &[u64], end: usize, w: u64) -> usize
     ensures { λ r. ⌜ r ≡ placeOf w (take end (now (list .entry))) ⌝ }
 {
     let top = top_of(w);
-    let mut k = halve(list, 0, end, top - 65536);
+    let low = halve(list, 0, end, top - 65536);
+    let mut k = pass_fours(list, low, end, w);
     while list[k] != w {
         k += 1;
     }

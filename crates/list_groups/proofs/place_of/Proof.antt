@@ -9,10 +9,10 @@ use Rattle.list_groups.proofs.place_of.Statement.{statement}
 use Rattle.list_groups.proofs.place_of.Tie as tie
 
 abbrev Inv-loop : tie.InvT-loop
-Inv-loop list end w top k₀ k = Seeks w end list k
+Inv-loop list end w top low k₀ k = Seeks w end list k
 
 abbrev μ-loop : tie.MeasureT-loop
-μ-loop list end w top k₀ k = end - k
+μ-loop list end w top low k₀ k = end - k
 
 top-of-requires : tie.Need-top-of-requires Inv-loop μ-loop
 top-of-requires c κs = tt
@@ -27,38 +27,42 @@ halve-requires c κs =
       (t .pre .0, rises-splits _ _ _ _ (t .args .list .now) (top-below (c .top-of .ensures) (t .pre .1 .1 .0)) (t .pre .1 .0)),
     )
 
-loop-holds : tie.Need-loop-holds Inv-loop μ-loop
-loop-holds c =
+pass-fours-requires : tie.Need-pass-fours-requires Inv-loop μ-loop
+pass-fours-requires c κs =
     let t = c .before .before .before in
-    seeks-start (t .args .w) (t .args .end) (t .args .list .now) (t .pre .0) (t .pre .1 .1 .0) (t .pre .1 .1 .1)
-    (c .before .top-of .ensures) (c .halve .ensures)
+    let s = seeks-start (t .args .w) (t .args .end) (t .args .list .now) (t .pre .0) (t .pre .1 .1 .0) (t .pre .1 .1 .1)
+    (c .before .top-of .ensures) (c .halve .ensures) in
+    (t .pre .0, (s .ahead, s .inside))
+
+loop-holds : tie.Need-loop-holds Inv-loop μ-loop
+loop-holds c = record { ahead = c .pass-fours .ensures; inside = c .before .before .before .before .pre .1 .1 .1 }
 
 mul-if1 : tie.Need-mul-if1 Inv-loop μ-loop
 mul-if1 c =
-    let s = c .loop .inv in let a = s .ahead in let b = s .inside in let d = c .before .before .before .before .pre .0 in
-    search needs
+    let s = c .loop .inv in let a = s .ahead in let b = s .inside in
+    let d = c .before .before .before .before .before .pre .0 in search needs
 
 shared-slice-read-if1 : tie.Need-shared-slice-read-if1 Inv-loop μ-loop
 shared-slice-read-if1 c =
     let s = c .before .loop .inv in
-    omega (arith, s .ahead, s .inside, c .before .before .before .before .before .pre .0)
+    omega (arith, s .ahead, s .inside, c .before .before .before .before .before .before .pre .0)
 
 add-k : tie.Need-add-k Inv-loop μ-loop
 add-k c =
     let s = c .before .before .loop .inv in let a = s .ahead in let b = s .inside in
-    let d = c .before .before .before .before .before .before .pre .0 in search needs
+    let d = c .before .before .before .before .before .before .before .pre .0 in search needs
 
 loop-less : tie.Need-loop-less Inv-loop μ-loop
 loop-less c = let s = c .before .before .loop .inv in omega (arith, s .ahead, s .inside)
 
 loop-again : tie.Need-loop-again Inv-loop μ-loop
 loop-again c =
-    let t = c .before .before .before .before .before .before in
+    let t = c .before .before .before .before .before .before .before in
     seeks-next (t .args .w) (t .args .end) (t .args .list .now) (t .pre .0) (c .before .before .loop .inv) (c .if1 .taken)
 
 returns : tie.Need-returns Inv-loop μ-loop
 returns c =
-    let t = c .before .before .before .before .before .before in
+    let t = c .before .before .before .before .before .before .before in
     seeks-found (t .args .w) (t .args .end) (t .args .list .now) (t .pre .0) (c .before .before .loop .inv) (c .if1 .left)
 
 pub place-of-spec : {M : Type 1} → statement M
@@ -70,6 +74,7 @@ place-of-spec =
     top-of-requires
     sub-halve
     halve-requires
+    pass-fours-requires
     loop-holds
     mul-if1
     shared-slice-read-if1
