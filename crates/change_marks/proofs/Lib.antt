@@ -1,3 +1,4 @@
+pub mod LookupLaws
 pub mod RoomLaws
 pub mod OpenedLaws
 pub mod WholeLaws

@@ -16,8 +16,15 @@ use Rattle.memory_layout.specs.declared.shape.Shape.{Shape}
 use Rattle.memory_layout.specs.Decode.{headWord, decode}
 use Rattle.memory_layout.specs.Standing.{Stands}
 use Rattle.change_steps.specs.Whole.{Done}
+use Rattle.change_tally.specs.RowsStanding.{RowsStand}
 
 -- ---- before
+-- a picker stands with the live rows for its records beside these cells
+pub record RowsBeside (s : Shape) (live : ℕ) (rows cells : List ℕ) : Type 0 where
+  pub words : List ℕ
+  pub counts : List ℕ
+  pub stand : RowsStand s live rows counts words cells
+
 -- a picker stands with the live rows for its records, and none of them is of piece i
 pub record RowsVacant (s : Shape) (live : ℕ) (rows words cells : List ℕ) (i : ℕ) : Type 0 where
   pub stands : Stands s (recordsIn live rows) words cells

@@ -1,5 +1,6 @@
 // A block asked for.
 use crate::answers::Marking;
+use crate::lookup::partial_of;
 use crate::openings::first_state;
 use crate::openings::open_mark;
 use change_marking::request_block;
@@ -8,7 +9,6 @@ use memory_blocks::BlockInfo;
 use memory_layout::Shape;
 use memory_records::Edit;
 use memory_records::Found;
-use memory_rows::find;
 use types::PickerOptions;
 ghost use mathlib.Core.Path.{_≡_};
 ghost use mathlib.Core.Bool.{false};
@@ -53,7 +53,7 @@ pub fn mark_as_downloading(
 {
     let back = options.contains(PickerOptions::REVERSE);
     let affinity = options.contains(PickerOptions::PIECE_EXTENT_AFFINITY);
-    let Found::At(k) = find(rows, live, i) else {
+    let Found::At(k) = partial_of(cells, rows, live, s, i) else {
         let q = first_state(back);
         let x = BlockInfo {
             state: 1,

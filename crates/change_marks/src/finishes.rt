@@ -1,4 +1,5 @@
 // A block on disk.
+use crate::lookup::partial_of;
 use crate::openings::open_arrived;
 use change_marking::finish_block;
 use change_returns::Given;
@@ -6,7 +7,6 @@ use change_tally::standing_in;
 use memory_blocks::BlockInfo;
 use memory_layout::Shape;
 use memory_records::Found;
-use memory_rows::find;
 ghost use mathlib.Core.Path.{_≡_};
 ghost use mathlib.Core.Bool.{false};
 ghost use Prim.Native.Nat.{_≤_, _<_};
@@ -45,7 +45,7 @@ pub fn mark_as_finished(
         (editRecords (r .edit) (recordsIn live (now (rows .entry)))) (now (words .exit)) (now (cells .exit)) (r .used) ⌝ }
     ensures room { λ r. ⌜ EditRoom s live (r .edit) ⌝ }
 {
-    let Found::At(k) = find(rows, live, i) else {
+    let Found::At(k) = partial_of(cells, rows, live, s, i) else {
         let x = BlockInfo {
             state: 3,
             num_peers: 0,

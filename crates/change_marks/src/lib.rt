@@ -2,6 +2,7 @@
 mod answers;
 mod downloads;
 mod finishes;
+mod lookup;
 mod openings;
 mod receipts;
 

@@ -1,5 +1,6 @@
 // A block brought.
 use crate::answers::Marking;
+use crate::lookup::partial_of;
 use crate::openings::open_arrived;
 use change_marking::write_block;
 use change_tally::standing_in;
@@ -7,7 +8,6 @@ use memory_blocks::BlockInfo;
 use memory_layout::Shape;
 use memory_records::Edit;
 use memory_records::Found;
-use memory_rows::find;
 ghost use mathlib.Core.Path.{_≡_};
 ghost use mathlib.Core.Bool.{false};
 ghost use Prim.Native.Nat.{_≤_, _<_};
@@ -47,7 +47,7 @@ pub fn mark_as_writing(
         (editRecords (r .edit) (recordsIn live (now (rows .entry)))) (now (words .exit)) (now (cells .exit)) (r .answer) (r .used) ⌝ }
     ensures room { λ r. ⌜ EditRoom s live (r .edit) ⌝ }
 {
-    let Found::At(k) = find(rows, live, i) else {
+    let Found::At(k) = partial_of(cells, rows, live, s, i) else {
         let x = BlockInfo {
             state: 2,
             num_peers: 0,

@@ -3,7 +3,7 @@ use native.Mathlib.Omega.{arith}
 use borrow.Author.Needs.{needs}
 use Rattle.model.specs.change.Changes.{reverseAsked, affinityAsked, markDownloadingIn, markAsDownloading}
 use Rattle.change_blocks.specs.Replacing.{namedPeer}
-use Rattle.change_returns.proofs.WholeLaws.{find-asks, kept-room, standing-asks}
+use Rattle.change_returns.proofs.WholeLaws.{kept-room, standing-asks}
 use Rattle.change_marks.proofs.WholeLaws.{vacant-room, rows-vacant, downloading-opened, request-beside, marked-found}
 use Rattle.change_marks.proofs.downloads.mark_as_downloading.Statement.{statement}
 use Rattle.change_marks.proofs.downloads.mark_as_downloading.Tie as tie
@@ -14,11 +14,11 @@ contains-requires c κs = search needs
 contains-requires-2 : tie.Need-contains-requires-2
 contains-requires-2 c κs = search needs
 
-find-requires : tie.Need-find-requires
-find-requires c κs =
-    let o = c .before .before .before .before .before .before .before in
+partial-of-requires : tie.Need-partial-of-requires
+partial-of-requires c κs =
+    let o = c .before .before .before .before .before .before .before .before in
     let a = o .args in
-    find-asks (a .s) (a .live) (a .rows .now) (a .counts .now) (a .words .now) (a .cells .now) (o .pre .0)
+    (record { words = a .words .now; counts = a .counts .now; stand = o .pre .0 }, o .pre .1 .0 .0)
 
 enum-known-k : tie.Need-enum-known-k
 enum-known-k c = search needs
@@ -33,11 +33,11 @@ open-mark-requires : tie.Need-open-mark-requires
 open-mark-requires c κs =
     let n = c .before .before .before in
     let f = n .before .before in
-    let o = f .before .before .before .before .before .before .before .before in
+    let o = f .before .before .before .before .before .before .before .before .before in
     let a = o .args in
     let p = o .pre in
     let v = rows-vacant (a .s) (a .live) (a .rows .now) (a .counts .now) (a .words .now) (a .cells .now) (o .pre .0) (a .i)
-    (f .find .result) (n .enum-told .given .1) (f .find .ensures .1) in
+    (f .partial-of .result) (n .enum-told .given .1) (f .partial-of .ensures) in
     let room = vacant-room (a .s) (a .live) (a .rows .now) (a .words .now) (a .cells .now) (a .i) v (p .1 .0 .0) (p .1 .1 .0)
     (p .1 .1 .1 .0) in
     (v, ((p .1 .0 .0, (p .1 .0 .1, room)), (omega arith, p .1 .1 .1 .1)))
@@ -55,12 +55,12 @@ returns c =
     let q = m .before .before .before in
     let n = q .before in
     let f = n .before .before in
-    let t = f .before in
+    let t = f .before .before in
     let b = t .before in
     let o = b .before .before .before .before .before .before in
     let a = o .args in
     let v = rows-vacant (a .s) (a .live) (a .rows .now) (a .counts .now) (a .words .now) (a .cells .now) (o .pre .0) (a .i)
-    (f .find .result) (n .enum-told .given .1) (f .find .ensures .1) in
+    (f .partial-of .result) (n .enum-told .given .1) (f .partial-of .ensures) in
     let r = downloading-opened (a .s) (a .live) (a .rows .now) (a .words .now) (a .cells .now) (a .i) v (a .draws .now) (a .j) (a .has-peer)
     (a .peer) _ _ _ _ _ (a .options .0) (b .contains .result) (t .contains2 .result) (q .first-state .result)
     (b .contains .ensures) (t .contains2 .ensures) (q .first-state .ensures) (m .open-mark .ensures .0) in
@@ -70,20 +70,20 @@ standing-in-requires : tie.Need-standing-in-requires
 standing-in-requires c κs =
     let e = c .before .before in
     let f = e .before .before in
-    let o = f .before .before .before .before .before .before .before .before in
+    let o = f .before .before .before .before .before .before .before .before .before in
     let a = o .args in
     standing-asks (a .s) (a .live) (a .rows .now) (a .counts .now) (a .words .now) (a .cells .now) (o .pre .0) (a .i) _
-    (f .find .result) (e .k .given .1) (f .find .ensures .1) (o .pre .1 .0 .0)
+    (f .partial-of .result) (e .k .given .1) (f .partial-of .ensures) (o .pre .1 .0 .0)
 
 request-block-requires : tie.Need-request-block-requires
 request-block-requires c κs =
     let d = c .before .before in
     let e = d .before .before .before in
     let f = e .before .before in
-    let o = f .before .before .before .before .before .before .before .before in
+    let o = f .before .before .before .before .before .before .before .before .before in
     let a = o .args in
     let b = request-beside (a .s) (a .live) (a .rows .now) (a .counts .now) (a .words .now) (a .cells .now) (o .pre .0) (a .i) _
-    (f .find .result) (e .k .given .1) (f .find .ensures .1) (d .standing-in .result) (d .standing-in .ensures) (a .j) (o .pre .1 .0 .1) in
+    (f .partial-of .result) (e .k .given .1) (f .partial-of .ensures) (d .standing-in .result) (d .standing-in .ensures) (a .j) (o .pre .1 .0 .1) in
     (b, (o .pre .1 .0 .0, omega (arith, o .pre .1 .1 .1 .1)))
 
 same-length-3 : tie.Need-same-length-3
@@ -99,11 +99,11 @@ returns-2 c =
     let d = u .before .before .before in
     let e = d .before .before .before in
     let f = e .before .before in
-    let b = f .before .before in
+    let b = f .before .before .before in
     let o = b .before .before .before .before .before .before in
     let a = o .args in
     let r = marked-found (a .s) (a .live) (a .rows .now) (a .counts .now) (a .words .now) (a .cells .now) (o .pre .0) (a .i) _
-    (f .find .result) (e .k .given .1) (f .find .ensures .1) (d .standing-in .result) (d .standing-in .ensures) (a .j) (o .pre .1 .0 .1)
+    (f .partial-of .result) (e .k .given .1) (f .partial-of .ensures) (d .standing-in .result) (d .standing-in .ensures) (a .j) (o .pre .1 .0 .1)
     (λ found w. markDownloadingIn (a .draws .now) (a .i) found (a .j) (namedPeer (a .has-peer) (a .peer)) (a .options .0) w) _ _
     (u .request-block .result) (u .request-block .ensures .marks (a .options .0) (b .contains .ensures)) in
     (r, kept-room (a .s) (a .live) (a .rows .now) (a .counts .now) (a .words .now) (a .cells .now) (o .pre .0))
@@ -114,7 +114,7 @@ mark-as-downloading-spec =
     (tie.spec
     contains-requires
     contains-requires-2
-    find-requires
+    partial-of-requires
     enum-known-k
     enum-told
     first-state-requires
