@@ -8,3 +8,4 @@ mod rows;
 pub use extents::extents_ok;
 pub use head::head_ok;
 pub use pieces::pieces_ok;
+pub use pieces::rows_pass;

@@ -19,7 +19,7 @@ ghost use Rattle.check_pieces.specs.Rows.{Level, Passed, rowIn, rankIn};
 
 // Each row of four columns. What is wrong is joined and judged once, so that rows are tested many at a time; where nothing is, the first
 // ranks are those of the rows.
-fn rows_pass(
+pub fn rows_pass(
     counts: &[u16],
     states: &[u16],
     priorities: &[u16],

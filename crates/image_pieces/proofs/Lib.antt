@@ -1,4 +1,5 @@
 pub mod NextLaws
 pub mod HeadLaws
 pub mod PieceLaws
+pub mod StretchLaws
 pub mod PassLaws

@@ -47,7 +47,7 @@ piece-test count state priority flushed pad seeds long =
 
 -- ---- what its reader answers
 -- a state's number that is one says whether the state is Open
-open-number : (w : ℕ) → w ≤ lastQueue → isOpen (nth Open queues w) ≡ eqb w 4
+pub open-number : (w : ℕ) → w ≤ lastQueue → isOpen (nth Open queues w) ≡ eqb w 4
 unfolding isOpen sameQueue queueFrom
 open-number w h = ap (λ (x : ℕ). eqb x 4) (queue-number w (omega arith))
 

@@ -1,14 +1,14 @@
 -- The pieces of an image by their numbers; piece i stands at 24 + 10 * i. Assumes nothing.
-use Prim.Native.Nat.{ℕ, _+_, _*_, _≤_, _<_}
+use Prim.Native.Nat.{ℕ, _+_, _*_, _-_, _≤_, _<_}
 use mathlib.Core.Path.{_≡_}
 use mathlib.Core.Bool.{Bool, not, _&&_, _||_}
-use mathlib.Core.List.{List}
+use mathlib.Core.List.{List, _++_}
 use lib.Dec.{eqb, leb}
 use lib.ListN.{length, getD, drop}
 use Rattle.types.specs.Queue.{queueNumber}
 use Rattle.model.specs.State.{Piece as PieceRecord, Picker, maxPeers, maxPriority, pieceSizeAt}
 use Rattle.model.specs.list.Order.{bucket, rankOf}
-use Rattle.model.specs.image.Image.{pieceKind, Got, got, fault, field, judged, lastQueue, pieceOf, readPiece, getPieces}
+use Rattle.model.specs.image.Image.{pieceKind, Got, got, fault, ret, next, field, judged, lastQueue, pieceOf, readPiece, getPieces}
 use Rattle.memory_layout.specs.Tables.{tabulate}
 use Rattle.image_records.specs.Records.{bodyAt}
 use Rattle.image_pieces.specs.declared.head.Head.{Head}
@@ -81,6 +81,21 @@ pub record PiecesStand (head : Head) (n : ℕ) (bytes ranks : List ℕ) : Type 0
   pub is : getPieces (headPicker head) 0 n (drop 24 bytes) ≡ got (firstPieces bytes n) (drop (piecePlace n) bytes)
   pub room : piecePlace n ≤ length bytes
   pub ranked : (k : ℕ) → k < n → PieceRanked (head .seeds) bytes ranks k
+
+-- the first i are read, and what is left decides
+abbrev pub LeftDecides : (head : Head) (n : ℕ) (bytes : List ℕ) (i : ℕ) → Type 0
+LeftDecides head n bytes i =
+    getPieces (headPicker head) 0 n (drop 24 bytes)
+    ≡ next (getPieces (headPicker head) i (n - i) (drop (piecePlace i) bytes)) (λ ps. ret (firstPieces bytes i ++ ps))
+
+-- and each of them has its rank; of w ranks
+pub record Reading (head : Head) (n w : ℕ) (bytes ranks : List ℕ) (i : ℕ) : Type 0 where
+  pub within : i ≤ n
+  pub room : piecePlace i ≤ length bytes
+  pub left : LeftDecides head n bytes i
+  pub ranked : (k : ℕ) → k < i → PieceRanked (head .seeds) bytes ranks k
+  pub long : n ≤ w
+  pub wide : length ranks ≡ w
 
 -- they do, or one is at fault
 unfoldable pub PiecesRead : (head : Head) (n : ℕ) (bytes ranks : List ℕ) (r : Place) → Type 0

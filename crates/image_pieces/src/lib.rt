@@ -1,8 +1,9 @@
-// The head and the pieces of an image, judged record by record; the rank of each piece is kept for the list.
+// The head and the pieces of an image, judged record by record behind a quick pass; the rank of each piece is kept for the list.
 mod head;
 mod piece;
 mod pieces;
 mod place;
+mod stretch;
 
 pub use head::Head;
 pub use head::HeadRead;

@@ -4,6 +4,7 @@ use crate::piece::Piece;
 use crate::piece::PieceRead;
 use crate::piece::read_piece;
 use crate::place::Place;
+use crate::stretch::pass_pieces;
 use geometry::piece_length;
 use list_rank::rank;
 use types::u64_to_u16;
@@ -23,13 +24,14 @@ fn rank_of(seeds: u64, p: Piece) -> u16
     u64_to_u16(rank(seeds, p.peer_count, p.state, p.priority, p.flushed))
 }
 
+// Piece by piece from the first one on that the quick pass leaves.
 pub fn read_pieces(bytes: &[u8], head: Head, n: usize, ranks: &mut [u16]) -> Place
     requires { ⌜ Headed head (now bytes) ⌝ }
     requires { ⌜ (n ≡ numPieces (head .total) (head .size)) × (n ≤ length (now ranks)) ⌝ }
     ensures { λ r. ⌜ PiecesRead head n (now (bytes .entry)) (now (ranks .exit)) r ⌝ }
     ensures { λ r. ⌜ length (now (ranks .exit)) ≡ length (now (ranks .entry)) ⌝ }
 {
-    let mut i = 0;
+    let mut i = pass_pieces(bytes, head, n, ranks);
     while i < n {
         let at = 24 + 10 * i;
         let long = piece_length(head.total, head.size, usize_to_u64(i));
