@@ -149,6 +149,16 @@ module _ {top from end : ℕ} {l : List ℕ} (split : Splits top from end l) {lo
 pub halves-end : {top from end low size : ℕ} {l : List ℕ} → Halves top from end l low size → size ≤ 0 → Parted top from end l low low
 halves-end {top} {from} {end} {low} {size} {l} s h = let e : low + size ≡ low = omega arith in rw e at (s .seen)
 
+-- the last word is up to `top`, and so are all
+pub parted-all : {top from end : ℕ} {l : List ℕ} → Splits top from end l → from < end → getD l (end - 1) 0 ≤ top → Parted top from end l end end
+parted-all {top} {from} {end} {l} split lt q = record {
+  starts = omega arith;
+  rises = omega arith;
+  ends = omega arith;
+  under = λ k a c. split k (end - 1) a (omega arith) (omega arith) q;
+  over = λ k a c. absurd (omega arith);
+}
+
 -- ---- `group_of`
 -- from a rank's first place to its last
 pub grouped : {rank from end : ℕ} {l : List ℕ} {top low high : ℕ} → 0 < rank → top ≡ topOf rank
@@ -167,6 +177,12 @@ grouped {rank} {from} {end} {l} {top} {low} {high} h et s t =
       );
       higher = λ k a c. over-top rank (getD l k 0) (omega (arith, et, t .over k a c));
     }
+
+-- what stands at the first place of a rank is of no lower one
+pub start-rank : {rank from end : ℕ} {l : List ℕ} {top low : ℕ} → 0 < rank → top ≡ topOf rank → Parted (top - 65536) from end l low low
+    → low < end → rank ≤ listedRank (getD l low 0)
+start-rank {rank} {from} {end} {l} {top} {low} h et s lt =
+    omega (arith, over-top (rank - 1) (getD l low 0) (omega (arith, top-below et h, s .over low (omega arith) lt)))
 
 -- ---- `place_of`
 -- a word of the list stands at its place

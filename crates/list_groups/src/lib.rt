@@ -3,7 +3,7 @@
 // halving; words are compared with the highest word of a rank, and nothing is divided.
 ghost use mathlib.Core.Path.{_≡_};
 ghost use Prim.Native.Nat.{suc, _≤_, _<_};
-ghost use lib.ListN.{length, take};
+ghost use lib.ListN.{length, getD, take};
 ghost use Rattle.model.specs.Lists.{placeOf};
 ghost use Rattle.list_groups.specs.Words.{listedRank, topOf};
 ghost use Rattle.list_groups.specs.Places.{Rises, NoLower, Splits, Parted, IsGroup, carried, pushed, pulled};
@@ -81,7 +81,23 @@ pub fn group_end(list: &[u64], from: usize, end: usize, near: usize, top: u64) -
     halve(list, within.low, within.high, top)
 }
 
-// Where the group of w's rank stands, or would: its start may be anywhere and is found by halving, its end is near.
+// The same where the words up to `end` may all be up to `top`: the last of them is looked at first.
+pub fn end_within(list: &[u64], from: usize, end: usize, near: usize, top: u64) -> usize
+    requires { ⌜ from ≤ end ⌝ }
+    requires { ⌜ end ≤ length (now list) ⌝ }
+    requires { ⌜ Splits top from end (now list) ⌝ }
+    requires { ⌜ 0 < near ⌝ }
+    ensures { λ r. ⌜ Parted top from end (now (list .entry)) r r ⌝ }
+{
+    if from < end {
+        if list[end - 1] <= top {
+            return end;
+        }
+    }
+    group_end(list, from, end, near, top)
+}
+
+// Where the group of w's rank stands, or would: its start may be anywhere and is found by halving, its end is near or behind all.
 pub fn group_of(list: &[u64], from: usize, end: usize, w: u64) -> Span
     requires { ⌜ from ≤ end ⌝ }
     requires { ⌜ end ≤ length (now list) ⌝ }
@@ -91,7 +107,21 @@ pub fn group_of(list: &[u64], from: usize, end: usize, w: u64) -> Span
 {
     let top = top_of(w);
     let low = halve(list, from, end, top - 65536);
-    let high = group_end(list, low, end, 1, top);
+    let high = end_within(list, low, end, 1, top);
+    Span { low, high }
+}
+
+// The same where the group stands not far behind `from`, as the next one of a list does.
+pub fn group_ahead(list: &[u64], from: usize, end: usize, w: u64) -> Span
+    requires { ⌜ from ≤ end ⌝ }
+    requires { ⌜ end ≤ length (now list) ⌝ }
+    requires { ⌜ Rises from end (now list) ⌝ }
+    requires { ⌜ 0 < listedRank w ⌝ }
+    ensures { λ r. ⌜ IsGroup (listedRank w) from end (now (list .entry)) (r .low) (r .high) ⌝ }
+{
+    let top = top_of(w);
+    let low = group_end(list, from, end, 1, top - 65536);
+    let high = group_end(list, low, end, 64, top);
     Span { low, high }
 }
 
@@ -112,6 +142,32 @@ fn pass_fours(list: &[u64], from: usize, end: usize, w: u64) -> usize
     k
 }
 
+// The start of the group of w, a word that is among the first.
+pub fn start_of(list: &[u64], end: usize, w: u64) -> usize
+    requires { ⌜ end ≤ length (now list) ⌝ }
+    requires { ⌜ Rises 0 end (now list) ⌝ }
+    requires { ⌜ 0 < listedRank w ⌝ }
+    requires { ⌜ placeOf w (take end (now list)) < end ⌝ }
+    ensures { λ r. ⌜ (r ≤ placeOf w (take end (now (list .entry)))) × (listedRank w ≤ listedRank (getD (now (list .entry)) r 0)) ⌝ }
+{
+    let top = top_of(w);
+    halve(list, 0, end, top - 65536)
+}
+
+// Where the word w stands, which is among the first and not before `from`.
+pub fn place_from(list: &[u64], from: usize, end: usize, w: u64) -> usize
+    requires { ⌜ end ≤ length (now list) ⌝ }
+    requires { ⌜ from ≤ placeOf w (take end (now list)) ⌝ }
+    requires { ⌜ placeOf w (take end (now list)) < end ⌝ }
+    ensures { λ r. ⌜ r ≡ placeOf w (take end (now (list .entry))) ⌝ }
+{
+    let mut k = pass_fours(list, from, end, w);
+    while list[k] != w {
+        k += 1;
+    }
+    k
+}
+
 // Where the word w stands, which is among the first. Its group is scanned.
 pub fn place_of(list: &[u64], end: usize, w: u64) -> usize
     requires { ⌜ end ≤ length (now list) ⌝ }
@@ -120,13 +176,8 @@ pub fn place_of(list: &[u64], end: usize, w: u64) -> usize
     requires { ⌜ placeOf w (take end (now list)) < end ⌝ }
     ensures { λ r. ⌜ r ≡ placeOf w (take end (now (list .entry))) ⌝ }
 {
-    let top = top_of(w);
-    let low = halve(list, 0, end, top - 65536);
-    let mut k = pass_fours(list, low, end, w);
-    while list[k] != w {
-        k += 1;
-    }
-    k
+    let low = start_of(list, end, w);
+    place_from(list, low, end, w)
 }
 
 // `first` goes to the end of its group; from there the next group's first is held, up to place `end`. A group may be about as long as the
@@ -140,7 +191,7 @@ pub fn carry(list: &mut [u64], from: usize, end: usize, first: u64)
 {
     let mut held = first;
     let mut near = 1;
-    let mut k = group_end(list, from, end, near, top_of(first));
+    let mut k = end_within(list, from, end, near, top_of(first));
     while k < end {
         let next = list[k];
         list[k] = held;

@@ -133,13 +133,14 @@ pub fn change(list: &mut [u64], n: usize, v: u64, w: u64, draws: &[u32], used: u
         ++ drop n (now (list .entry)) ⌝ }
     ensures { λ r. ⌜ r ≡ used + changeDraws listedRank w (replaced v w (take n (now (list .entry)))) ⌝ }
 {
-    let k = list_groups::place_of(list, n, v);
+    let low = list_groups::start_of(list, n, v);
+    let k = list_groups::place_from(list, low, n, v);
     if w < v {
-        let g = list_groups::group_of(list, 0, k, w);
+        let g = list_groups::group_of(list, 0, low, w);
         to_earlier(list, k, g.low, g.high, w, draws, used);
         return used + some(g.high - g.low);
     }
-    let g = list_groups::group_of(list, k + 1, n, w);
+    let g = list_groups::group_ahead(list, k + 1, n, w);
     to_later(list, k, g.low, g.high, w, draws, used);
     used + some(g.high - g.low)
 }
