@@ -9,3 +9,4 @@ pub use extents::extents_ok;
 pub use head::head_ok;
 pub use pieces::pieces_ok;
 pub use pieces::rows_pass;
+pub use rows::rank_in;

@@ -3,4 +3,5 @@ pub mod HeldLaws
 pub mod StoreLaws
 pub mod PartLaws
 pub mod TailLaws
+pub mod RankLaws
 pub mod StandLaws

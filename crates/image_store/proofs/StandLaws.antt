@@ -173,7 +173,8 @@ module _ (bytes words cells : List ℕ) (p : Picker) (e : readImage bytes ≡ ac
           tail-room = omega (arith, words-wide, ps .wordsLong, ds .moved .wordsLong)
 
           -- ---- all is stored
-          module _ (words₄ : List ℕ) (t : TailStored (head .seeds) (s .pieces) (w .at) (w .many) bytes words₃ words₄) where
+          module _ (ranks words₄ : List ℕ) (known : (i : ℕ) → i < s .pieces → getD ranks i 0 ≡ rankIn (head .seeds) bytes i)
+              (t : TailStored (s .pieces) (w .at) (w .many) ranks bytes words₃ words₄) where
             extents-same : found .extents ≡ t .extents
             extents-same = extents-one (w .at) bytes (found .extents) (t .extents) (found .are) (t .are)
 
@@ -299,16 +300,16 @@ module _ (bytes words cells : List ℕ) (p : Picker) (e : readImage bytes ≡ ac
               listed-piece : (k : ℕ) → k < t .places → listedPiece (pieceWord words₄ (s .pieces) 1 k) ≡ extentAt start bytes k
               unfolding placeWord
               listed-piece k h =
-                  ap listedPiece (t .word k h) ∙ piece-of-word (rankIn (head .seeds) bytes (extentAt start bytes k))
-                  (extentAt start bytes k)
-                  (low k h)
+                  ap listedPiece (t .word k h)
+                  ∙ piece-of-word (getD ranks (extentAt start bytes k) 0) (extentAt start bytes k) (low k h)
 
               listed-rank : (k : ℕ) → k < t .places
                   → listedRank (pieceWord words₄ (s .pieces) 1 k) ≡ rankIn (head .seeds) bytes (extentAt start bytes k)
               unfolding placeWord
               listed-rank k h =
-                  ap listedRank (t .word k h) ∙ rank-of-word (rankIn (head .seeds) bytes (extentAt start bytes k)) (extentAt start bytes k)
-                  (low k h)
+                  ap listedRank (t .word k h)
+                  ∙ rank-of-word (getD ranks (extentAt start bytes k) 0) (extentAt start bytes k) (low k h)
+                  ∙ known (extentAt start bytes k) (t .list .low k h)
 
               list-held : listHeld words₄ (piecesOn words₄) ≡ extentsBefore (w .at + 5 * found .extents) (found .places) bytes
               unfolding listHeld extentsBefore
@@ -399,8 +400,8 @@ module _ (bytes words cells : List ℕ) (p : Picker) (e : readImage bytes ≡ ac
                   first-piece : (i : ℕ) → i < s .pieces → nth noPiece (firstPieces bytes (s .pieces)) i ≡ pieceIn bytes i
                   first-piece i h = tabulate-nth (s .pieces) (pieceIn bytes) i noPiece h
 
-              ranks : RanksHeld (s .pieces) words₄ (rank (decode records words₄ cells₃))
-              ranks k h =
+              ranks-beside : RanksHeld (s .pieces) words₄ (rank (decode records words₄ cells₃))
+              ranks-beside k h =
                   let l : k < t .places = omega (arith, t .listLength) in
                   listed-rank k l ∙ sym (rank-is (extentAt start bytes k) (t .list .low k l))
                   ∙ ap (rank (decode records words₄ cells₃)) (sym (listed-piece k l))
@@ -409,7 +410,7 @@ module _ (bytes words cells : List ℕ) (p : Picker) (e : readImage bytes ≡ ac
               stands = record {
                 bounds = bounds;
                 plain = plain;
-                ranks = ranks;
+                ranks = ranks-beside;
                 sound = ap wellFormed made ∙ accepted-image bytes p e .1;
               }
 

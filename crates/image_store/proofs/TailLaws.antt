@@ -1,30 +1,24 @@
 -- Extents and list as they are stored: counts, words of list places, and what the words hold behind them. Assumes nothing.
-use mathlib.Core.Path.{_≡_, sym, ap, _∙_, subst}
+use mathlib.Core.Path.{_≡_, ap, ap₂, _∙_, subst}
 use mathlib.Core.Bool.{true, false}
 use mathlib.Core.List.{List}
 use Prim.Native.Nat.{ℕ, _+_, _*_, _-_, _/_, _≤_, _<_}
 use native.Mathlib.Omega.{arith}
 use native.Mathlib.Decide.{ℕ-discrete}
-use lib.Dec.{eqb}
 use lib.ListN.{length, getD, set, drop, length-set}
 use lib.Seq.{getD-set-same, getD-set-other}
-use Rattle.types.specs.Queue.{queueNumber}
 use Rattle.model.specs.Lists.{nth}
 use Rattle.model.specs.State.{maxExtents}
-use Rattle.model.specs.image.Image.{bodyLength, extentKind, startsWith, field, pieceOf}
-use Rattle.list_rank.specs.Ranks.{IsRank}
+use Rattle.model.specs.image.Image.{bodyLength, extentKind, startsWith, field}
 use Rattle.list_groups.specs.Words.{listWord}
 use Rattle.memory_layout.specs.Offsets.{cell, pieceWordAt}
-use Rattle.memory_layout.specs.Decode.{headWord, pieceWord, queueFrom}
-use Rattle.memory_layout.proofs.Numbers.{queue-number}
+use Rattle.memory_layout.specs.Decode.{headWord, pieceWord}
 use Rattle.image_bytes.specs.Put.{FieldRead}
 use Rattle.image_lay.specs.Laid.{fieldsAt, Laid}
 use Rattle.image_lay.proofs.LaidLaws.{below-column, behind-column}
 use Rattle.image_records.proofs.FrontLaws.{stands-within}
-use Rattle.image_pieces.specs.Pieces.{piecePlace, pieceBody, pieceIn}
-use Rattle.image_partials.proofs.WalkLaws.{piece-field}
 use Rattle.image_tail.specs.Extents.{extentAt}
-use Rattle.image_store.specs.Given.{PieceTold, rankIn, Extents, placeWord, Places, Tail}
+use Rattle.image_store.specs.Given.{Extents, placeWord, Places, Tail}
 use Rattle.image_store.specs.Stored.{TailStored}
 use Rattle.image_store.proofs.PartLaws.{extents-one}
 
@@ -53,43 +47,17 @@ module _ (at : ℕ) (bytes : List ℕ) (k : ℕ) (p : Counting at bytes k) where
   counting-full h = record { most = p .most; room = p .room; come = p .come; stop = λ l. absurd (omega arith) }
 
 -- ---- the word of a list place
-pub word-of : (seeds : ℕ) (bytes : List ℕ) (i place count state priority flushed r : ℕ) → place ≡ piecePlace i → PieceTold bytes i
-    → FieldRead (place + 1) 2 bytes count → FieldRead (place + 3) 1 bytes state → FieldRead (place + 4) 1 bytes priority
-    → FieldRead (place + 5) 1 bytes flushed → IsRank seeds count state priority (eqb flushed 1) r
-    → r * 65536 + i ≡ listWord (rankIn seeds bytes i) i
-unfolding listWord rankIn pieceIn pieceOf queueFrom
-word-of seeds bytes i place count state priority flushed r ea t fc fs fp ff k =
-    let ec = piece-field bytes i 0 2 (place + 1) count (omega arith) (omega arith) fc in
-    let es = piece-field bytes i 2 1 (place + 3) state (omega arith) (omega arith) fs in
-    let ep = piece-field bytes i 3 1 (place + 4) priority (omega arith) (omega arith) fp in
-    let ef = piece-field bytes i 4 1 (place + 5) flushed (omega arith) (omega arith) ff in
-    let q : queueNumber (queueFrom (field 2 1 (pieceBody bytes i))) ≡ field 2 1 (pieceBody bytes i)
-    = queue-number (field 2 1 (pieceBody bytes i)) (omega (arith, t .state)) in
-    ap (λ (x : ℕ). x * 65536 + i) (k .is (pieceOf (pieceBody bytes i)) (record {
-      peerCount-is = sym ec;
-      state-is = q ∙ sym es;
-      priority-is = sym ep;
-      flushed-is = ap (λ (x : ℕ). eqb x 1) (sym ef);
-    }))
-
--- its numbers are in range
-pub count-read : (bytes : List ℕ) (i place count : ℕ) → place ≡ piecePlace i → FieldRead (place + 1) 2 bytes count → count
-    ≡ field 0 2 (pieceBody bytes i)
-count-read bytes i place count e f = piece-field bytes i 0 2 (place + 1) count (omega arith) (omega arith) f
-
-pub priority-read : (bytes : List ℕ) (i place priority : ℕ) → place ≡ piecePlace i → FieldRead (place + 4) 1 bytes priority → priority
-    ≡ field 3 1 (pieceBody bytes i)
-priority-read bytes i place priority e f = piece-field bytes i 3 1 (place + 4) priority (omega arith) (omega arith) f
-
 -- the piece of a place
 pub place-read : (at : ℕ) (bytes : List ℕ) (j x : ℕ) → FieldRead (at + 5 * j + 1) 4 bytes x → x ≡ extentAt at bytes j
 unfolding extentAt
 place-read at bytes j x f = f .is
 
-pub word-at : (seeds at : ℕ) (bytes : List ℕ) (j x v : ℕ) → FieldRead (at + 5 * j + 1) 4 bytes x → v ≡ listWord (rankIn seeds bytes x) x
-    → v ≡ placeWord seeds at bytes j
+pub word-at : (ranks : List ℕ) (at : ℕ) (bytes : List ℕ) (j x k v : ℕ) → FieldRead (at + 5 * j + 1) 4 bytes x → k ≡ x
+    → v ≡ listWord (getD ranks k 0) x → v ≡ placeWord ranks at bytes j
 unfolding placeWord
-word-at seeds at bytes j x v f e = e ∙ ap (λ (i : ℕ). listWord (rankIn seeds bytes i) i) (place-read at bytes j x f)
+word-at ranks at bytes j x k v f e h =
+    let p = place-read at bytes j x f in
+    h ∙ ap₂ (λ (l i : ℕ). listWord (getD ranks l 0) i) (e ∙ p) p
 
 -- ---- the list ends the bytes
 pub places-of : (at n : ℕ) (bytes : List ℕ) (t : Tail at n bytes) (extents start places : ℕ) → Extents at bytes extents
@@ -129,16 +97,16 @@ module _ (l : List ℕ) (x y z : ℕ) (h : 16 ≤ length l) where
   sets-other : (q : ℕ) → (q ≡ 6 → ⊥) → (q ≡ 7 → ⊥) → (q ≡ 8 → ⊥) → getD all q 0 ≡ getD l q 0
   sets-other q a b c = getD-set-other two 8 q z 0 c ∙ getD-set-other one 7 q y 0 b ∙ getD-set-other l 6 q x 0 a
 
-  pub tail-stored : (seeds n at live extents places start : ℕ) (bytes words a : List ℕ) → Extents at bytes extents → start
+  pub tail-stored : (n at live extents places start : ℕ) (ranks bytes words a : List ℕ) → Extents at bytes extents → start
       ≡ at + 5 * extents
       → Places start n bytes places → Laid 9 extents (fieldsAt (at + 1) 5 4 bytes) words a
-      → Laid (16 + n) places (placeWord seeds start bytes) a l → x ≡ places → y ≡ live → z ≡ extents
-      → TailStored seeds n at live bytes words all
+      → Laid (16 + n) places (placeWord ranks start bytes) a l → x ≡ places → y ≡ live → z ≡ extents
+      → TailStored n at live ranks bytes words all
   unfolding headWord pieceWord pieceWordAt cell fieldsAt extentAt
-  tail-stored seeds n at live extents places start bytes words a e es p la lb ex ey ez =
+  tail-stored n at live extents places start ranks bytes words a e es p la lb ex ey ez =
       let f = subst (λ (k : ℕ). Places k n bytes places) es p in
-      let g : Laid (16 + n) places (placeWord seeds (at + 5 * extents) bytes) a l
-      = subst (λ (k : ℕ). Laid (16 + n) places (placeWord seeds k bytes) a l) es lb in
+      let g : Laid (16 + n) places (placeWord ranks (at + 5 * extents) bytes) a l
+      = subst (λ (k : ℕ). Laid (16 + n) places (placeWord ranks k bytes) a l) es lb in
       record {
         extents = extents;
         are = e;

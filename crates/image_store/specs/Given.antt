@@ -3,7 +3,7 @@ use Prim.Native.Nat.{ℕ, _+_, _*_, _≤_, _<_}
 use mathlib.Core.Path.{_≡_}
 use mathlib.Core.Bool.{true, false}
 use mathlib.Core.List.{List}
-use lib.ListN.{length, drop}
+use lib.ListN.{length, getD, drop}
 use Rattle.model.specs.State.{DownloadingPiece, Picker, maxPeers, maxPriority, maxExtents}
 use Rattle.model.specs.list.Order.{bucket, rankOf}
 use Rattle.model.specs.image.Image.{extentKind, got, startsWith, field, lastQueue, getPartials, accepted, readImage}
@@ -52,8 +52,8 @@ pub record Extents (at : ℕ) (bytes : List ℕ) (many : ℕ) : Type 0 where
   pub stop : many < maxExtents → startsWith extentKind (drop (at + 5 * many) bytes) ≡ false
 
 -- the word of place j of a list that stands from `at` on: the piece and its rank
-unfoldable pub placeWord : (seeds at : ℕ) (bytes : List ℕ) (j : ℕ) → ℕ
-placeWord seeds at bytes j = listWord (rankIn seeds bytes (extentAt at bytes j)) (extentAt at bytes j)
+unfoldable pub placeWord : (ranks : List ℕ) (at : ℕ) (bytes : List ℕ) (j : ℕ) → ℕ
+placeWord ranks at bytes j = listWord (getD ranks (extentAt at bytes j) 0) (extentAt at bytes j)
 
 -- a list of so many places of n pieces ends the bytes
 pub record Places (at n : ℕ) (bytes : List ℕ) (many : ℕ) : Type 0 where

@@ -1,3 +1,4 @@
 pub mod Given
+pub mod Ranks
 pub mod Storing
 pub mod Stored

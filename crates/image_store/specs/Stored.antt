@@ -18,7 +18,7 @@ use Rattle.image_store.specs.Given.{Extents, Places, placeWord}
 
 -- ---- extents and list
 -- `live` partials, extents and a list stand in the words of n pieces; every other word is as it was
-pub record TailStored (seeds n at live : ℕ) (bytes words words′ : List ℕ) : Type 0 where
+pub record TailStored (n at live : ℕ) (ranks bytes words words′ : List ℕ) : Type 0 where
   pub extents : ℕ
   pub are : Extents at bytes extents
   pub places : ℕ
@@ -28,7 +28,7 @@ pub record TailStored (seeds n at live : ℕ) (bytes words words′ : List ℕ) 
   pub partials : headWord words′ 7 ≡ live
   pub extentCount : headWord words′ 8 ≡ extents
   pub extent : (j : ℕ) → j < extents → headWord words′ (9 + j) ≡ extentAt at bytes j
-  pub word : (j : ℕ) → j < places → pieceWord words′ n 1 j ≡ placeWord seeds (at + 5 * extents) bytes j
+  pub word : (j : ℕ) → j < places → pieceWord words′ n 1 j ≡ placeWord ranks (at + 5 * extents) bytes j
   pub below : (q : ℕ) → q < 6 → getD words′ q 0 ≡ getD words q 0
   pub pads : (q : ℕ) → 16 ≤ q → q < 16 + n → getD words′ q 0 ≡ getD words q 0
   pub behind : (q : ℕ) → 16 + 2 * n ≤ q → getD words′ q 0 ≡ getD words q 0

@@ -1,6 +1,7 @@
 // An accepted image stored into lent words, cells and rows: one pass over its bytes, and nothing is judged again.
 mod list;
 mod partials;
+mod ranks;
 mod tail;
 mod whole;
 

@@ -1,5 +1,6 @@
 // The whole image.
 use crate::partials::store_partials;
+use crate::ranks::rank_pieces;
 use crate::tail::store_tail;
 use image_columns::store_head;
 use image_columns::store_pieces;
@@ -24,7 +25,9 @@ pub fn store_image(bytes: &[u8], words: &mut [u64], cells: &mut [u16], rows: &mu
     store_head(words, head);
     let s = shape_of(words);
     store_pieces(bytes, s.pieces, words, cells);
+    let mut ranks = [0u16; 4096];
+    rank_pieces(cells, s, head.seeds, &mut ranks);
     let w = store_partials(bytes, head, s, words, cells, rows);
-    store_tail(bytes, w.at, w.many, head.seeds, s.pieces, words);
+    store_tail(bytes, w.at, w.many, &ranks, s.pieces, words);
     w.many
 }
