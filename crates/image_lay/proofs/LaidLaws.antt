@@ -1,15 +1,23 @@
 -- A column laid number by number. Assumes nothing.
-use mathlib.Core.Path.{_≡_, refl, sym, ap, _∙_}
+use mathlib.Core.Path.{_≡_, refl, ap, _∙_, subst}
 use mathlib.Core.List.{List}
-use Prim.Native.Nat.{ℕ, _+_, _*_, _≤_, _<_}
-use native.Mathlib.Decide.{ℕ-discrete}
+use Prim.Native.Nat.{ℕ, _+_, _*_, _-_, _≤_, _<_}
+use native.Mathlib.Decide.{ℕ-discrete, decLt}
 use native.Mathlib.Omega.{arith}
 use lib.ListN.{length, getD, set, length-set}
 use lib.Seq.{getD-set-same, getD-set-other}
 use Rattle.model.specs.image.Image.{field}
 use Rattle.image_bytes.specs.Put.{FieldRead}
-use Rattle.image_lay.specs.Laid.{fieldsAt, Within, Elsewhere, Laid, LaidThree, LaidFour}
+use Rattle.image_lay.specs.Laid.{fieldsAt, Elsewhere, Laid, LaidThree, LaidFour}
 
+-- ---- frames
+pub below-column : (start many q : ℕ) → q < start → Elsewhere start many q
+below-column start many q h j l e = omega arith
+
+pub behind-column : (start many q : ℕ) → start + many ≤ q → Elsewhere start many q
+behind-column start many q h j l e = omega arith
+
+-- ---- one column
 pub laid-start : (start : ℕ) (f : ℕ → ℕ) (l : List ℕ) → Laid start 0 f l l
 laid-start start f l = record { long = refl; inside = λ j h. absurd (omega arith); other = λ q e. refl }
 
@@ -29,6 +37,17 @@ laid-next start j f a b p h v e =
 
 pub laid-end : (start j many : ℕ) (f : ℕ → ℕ) (a b : List ℕ) → Laid start j f a b → j ≡ many → Laid start many f a b
 laid-end start j many f a b p e = rw e at p
+
+-- at the front of a buffer
+pub front-next : (j : ℕ) (f : ℕ → ℕ) (a b : List ℕ) → Laid 0 j f a b → j < length a → (r : ℕ) → r ≡ f j → Laid 0 (j + 1) f a (set b j r)
+front-next j f a b p h r e =
+    let z : 0 + j ≡ j = omega arith in
+    subst (λ (k : ℕ). Laid 0 (j + 1) f a (set b k r)) z (laid-next 0 j f a b p (omega arith) r e)
+
+-- the same numbers by another rule
+pub laid-same : (start many : ℕ) (f g : ℕ → ℕ) (a b : List ℕ) → Laid start many f a b → ((j : ℕ) → j < many → f j ≡ g j)
+    → Laid start many g a b
+laid-same start many f g a b p e = record { long = p .long; inside = λ j h. p .inside j h ∙ e j h; other = p .other }
 
 -- a number that was read is the field's
 pub field-is : (first step w : ℕ) (bytes : List ℕ) (j r : ℕ) → FieldRead (first + step * j) w bytes r → r ≡ fieldsAt first step w bytes j
@@ -160,9 +179,62 @@ pub four-end : (x y z t j many : ℕ) (f g h i : ℕ → ℕ) (a b : List ℕ) �
     → LaidFour x y z t many f g h i a b
 four-end x y z t j many f g h i a b p e = rw e at p
 
--- ---- frames
-pub below-column : (start many q : ℕ) → q < start → Elsewhere start many q
-below-column start many q h j l e = omega arith
+-- ---- more of a column behind the first of it
+module _ (start j k : ℕ) (f g : ℕ → ℕ) (c : List ℕ) (same : (i : ℕ) → i < k → g i ≡ f (j + i)) where
+  column-on : ((i : ℕ) → i < j → getD c (start + i) 0 ≡ f i) → ((i : ℕ) → i < k → getD c (start + j + i) 0 ≡ g i)
+      → (i : ℕ) → i < j + k → getD c (start + i) 0 ≡ f i
+  column-on p q i l = elim (decLt i j) [
+    | yes h ↦ p i h
+    | no h ↦ let e : start + i ≡ start + j + (i - j) = omega arith in
+        let u : j + (i - j) ≡ i = omega arith in
+        ap (λ (x : ℕ). getD c x 0) e ∙ q (i - j) (omega arith) ∙ same (i - j) (omega arith) ∙ ap f u
+  ]
 
-pub behind-column : (start many q : ℕ) → start + many ≤ q → Elsewhere start many q
-behind-column start many q h j l e = omega arith
+  pub laid-on : (a b : List ℕ) → Laid start j f a b → Laid (start + j) k g b c → Laid start (j + k) f a c
+  laid-on a b p q = record {
+    long = q .long ∙ p .long;
+    inside = column-on (λ i h. q .other (start + i) (below-column _ _ _ (omega arith)) ∙ p .inside i h) (q .inside);
+    other = λ x n. q .other x (λ i l e. n (j + i) (omega arith) (omega arith)) ∙ p .other x (λ i l e. n i (omega arith) e);
+  }
+
+module _ (x y z t j k many : ℕ) (f g h i f′ g′ h′ i′ : ℕ → ℕ) (a b c : List ℕ) (hj : j + k ≤ many) (hx : x + many ≤ y) (hy : y + many ≤ z)
+    (hz : z + many ≤ t) where
+  pub four-on : LaidFour x y z t j f g h i a b → LaidFour (x + j) (y + j) (z + j) (t + j) k f′ g′ h′ i′ b c
+      → ((n : ℕ) → n < k → f′ n ≡ f (j + n)) → ((n : ℕ) → n < k → g′ n ≡ g (j + n)) → ((n : ℕ) → n < k → h′ n ≡ h (j + n))
+      → ((n : ℕ) → n < k → i′ n ≡ i (j + n)) → LaidFour x y z t (j + k) f g h i a c
+  four-on p q ef eg eh ei = record {
+    long = q .long ∙ p .long;
+    first = column-on x j k f f′ c ef
+        (λ n l.
+        q .other (x + n) (below-column _ _ _ (omega arith)) (below-column _ _ _ (omega arith)) (below-column _ _ _ (omega arith))
+        (below-column _ _ _ (omega arith))
+        ∙ p .first n l) (q .first);
+    second = column-on y j k g g′ c eg
+        (λ n l.
+        q .other (y + n) (behind-column _ _ _ (omega arith)) (below-column _ _ _ (omega arith)) (below-column _ _ _ (omega arith))
+        (below-column _ _ _ (omega arith))
+        ∙ p .second n l) (q .second);
+    third = column-on z j k h h′ c eh
+        (λ n l.
+        q .other (z + n) (behind-column _ _ _ (omega arith)) (behind-column _ _ _ (omega arith)) (below-column _ _ _ (omega arith))
+        (below-column _ _ _ (omega arith))
+        ∙ p .third n l) (q .third);
+    fourth = column-on t j k i i′ c ei
+        (λ n l.
+        q .other (t + n) (behind-column _ _ _ (omega arith)) (behind-column _ _ _ (omega arith)) (behind-column _ _ _ (omega arith))
+        (below-column _ _ _ (omega arith))
+        ∙ p .fourth n l) (q .fourth);
+    other = λ w d e u o.
+        q .other w (λ n l r. d (j + n) (omega arith) (omega arith)) (λ n l r. e (j + n) (omega arith) (omega arith))
+        (λ n l r. u (j + n) (omega arith) (omega arith)) (λ n l r. o (j + n) (omega arith) (omega arith))
+        ∙ p .other w (λ n l r. d n (omega arith) r) (λ n l r. e n (omega arith) r) (λ n l r. u n (omega arith) r)
+        (λ n l r. o n (omega arith) r);
+  }
+
+-- the fields of pieces behind the first j
+pub fields-on : (start k w : ℕ) (bytes : List ℕ) (j n : ℕ)
+    → fieldsAt (start + 10 * j + k) 10 w bytes n ≡ fieldsAt (start + k) 10 w bytes (j + n)
+unfolding fieldsAt
+fields-on start k w bytes j n =
+    let e : start + 10 * j + k + 10 * n ≡ start + k + 10 * (j + n) = omega arith in
+    ap (λ (p : ℕ). field p w bytes) e

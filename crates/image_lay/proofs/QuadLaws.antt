@@ -1,71 +1,63 @@
--- Three numbers of a block put into one and taken out again. Assumes nothing.
-use mathlib.Core.Path.{_≡_, ap, subst, _∙_}
+-- Several numbers of a record put into one and taken out again. Assumes nothing.
+use mathlib.Core.Path.{_≡_, refl, ap, _∙_}
 use mathlib.Core.List.{List}
 use Prim.Native.Nat.{ℕ, _+_, _*_, _/_, _%_, _≤_, _<_}
 use native.Mathlib.Decide.{ℕ-discrete}
 use native.Mathlib.Omega.{arith}
-use lib.ListN.{length, getD, set}
-use Rattle.image_lay.specs.Laid.{fieldsAt, Laid, LaidThree}
-use Rattle.image_lay.specs.Quads.{quadAt, Narrow, highOf, middleOf, lowOf}
-use Rattle.image_lay.proofs.LaidLaws.{laid-next, below-column}
+use lib.ListN.{length, getD, set, length-set}
+use lib.Seq.{getD-set-same, getD-set-other}
+use Rattle.model.specs.image.Image.{field}
+use Rattle.image_bytes.specs.Put.{FieldRead}
+use Rattle.image_lay.specs.Laid.{fieldsAt, Laid, LaidThree, LaidFour}
+use Rattle.image_lay.specs.Quads.{BlockQuad, PieceQuad, Filled, partOf}
+use Rattle.image_lay.proofs.LaidLaws.{below-column}
 
 -- ---- put in
-pub narrow-start : (start : ℕ) (bytes : List ℕ) → Narrow start 0 bytes
-narrow-start start bytes = record { counts = λ j h. absurd (omega arith); has = λ j h. absurd (omega arith) }
+pub block-quad : (at : ℕ) (bytes : List ℕ) (s n h r : ℕ) → FieldRead (at + 1) 1 bytes s → FieldRead (at + 2) 2 bytes n
+    → FieldRead (at + 4) 1 bytes h → r ≡ s * 16777216 + (n * 256 + h) → BlockQuad at bytes r
+block-quad at bytes s n h r fs fn fh e =
+    let es : r / 16777216 % 256 ≡ s = omega (arith, fs .small, fn .small, fh .small) in
+    let en : r / 256 % 65536 ≡ n = omega (arith, fs .small, fn .small, fh .small) in
+    let eh : r / 1 % 256 ≡ h = omega (arith, fs .small, fn .small, fh .small) in
+    record { state = es ∙ fs .is; numPeers = en ∙ fn .is; has = eh ∙ fh .is }
 
-pub narrow-next : (start j : ℕ) (bytes : List ℕ) → Narrow start j bytes → fieldsAt (start + 2) 13 2 bytes j < 65536
-    → fieldsAt (start + 4) 13 1 bytes j < 256 → Narrow start (j + 1) bytes
-narrow-next start j bytes p c h = record {
-  counts = λ i l. elim (ℕ-discrete i j) [
-    | yes q ↦ rw q c
-    | no q ↦ p .counts i (omega (arith, q))
-  ];
-  has = λ i l. elim (ℕ-discrete i j) [
-    | yes q ↦ rw q h
-    | no q ↦ p .has i (omega (arith, q))
-  ];
-}
+pub piece-quad : (at : ℕ) (bytes : List ℕ) (c s p f r : ℕ) → FieldRead (at + 3) 1 bytes s → FieldRead (at + 4) 1 bytes p
+    → FieldRead (at + 5) 1 bytes f → r ≡ (c * 256 + s) * 65536 + (p * 256 + f) → PieceQuad at bytes r
+piece-quad at bytes c s p f r fs fp ff e =
+    let es : r / 65536 % 256 ≡ s = omega (arith, fs .small, fp .small, ff .small) in
+    let ep : r / 256 % 256 ≡ p = omega (arith, fs .small, fp .small, ff .small) in
+    let ef : r / 1 % 256 ≡ f = omega (arith, fs .small, fp .small, ff .small) in
+    record { state = es ∙ fs .is; priority = ep ∙ fp .is; flushed = ef ∙ ff .is }
 
-pub narrow-end : (start j many : ℕ) (bytes : List ℕ) → Narrow start j bytes → j ≡ many → Narrow start many bytes
-narrow-end start j many bytes p e = rw e at p
+-- one after another
+module _ (such : ℕ → ℕ → Type 0) (a : List ℕ) where
+  pub filled-start : Filled 0 such a a
+  filled-start = record { long = refl; each = λ j h. absurd (omega arith) }
 
-pub quad-is : (start : ℕ) (bytes : List ℕ) (j s n h r : ℕ) → s ≡ fieldsAt (start + 1) 13 1 bytes j → n ≡ fieldsAt (start + 2) 13 2 bytes j
-    → h ≡ fieldsAt (start + 4) 13 1 bytes j → r ≡ s * 16777216 + (n * 256 + h) → r ≡ quadAt start bytes j
-unfolding quadAt
-quad-is start bytes j s n h r es en eh e = e ∙ rw (es, en, eh)
+  module _ (j : ℕ) (b : List ℕ) (p : Filled j such a b) where
+    pub filled-next : j < length a → (r : ℕ) → such j r → Filled (j + 1) such a (set b j r)
+    filled-next h r s =
+        let room : j < length b = omega (arith, p .long) in
+        record {
+          long = length-set b j r ∙ p .long;
+          each = λ i l. elim (ℕ-discrete i j) [
+            | yes q ↦ rw (q, getD-set-same b j r 0 room) s
+            | no q ↦ rw (getD-set-other b j i r 0 q) (p .each i (omega (arith, q)))
+          ];
+        }
 
-pub quads-next : (j : ℕ) (f : ℕ → ℕ) (a b : List ℕ) → Laid 0 j f a b → j < length a → (r : ℕ) → r ≡ f j → Laid 0 (j + 1) f a (set b j r)
-quads-next j f a b p h r e =
-    let z : 0 + j ≡ j = omega arith in
-    subst (λ (k : ℕ). Laid 0 (j + 1) f a (set b k r)) z (laid-next 0 j f a b p (omega arith) r e)
+    pub filled-end : (many : ℕ) → j ≡ many → Filled many such a b
+    filled-end many e = rw e at p
 
 -- ---- taken out
-module _ (start many : ℕ) (bytes quads quads′ : List ℕ) (l : Laid 0 many (quadAt start bytes) quads quads′) (n : Narrow start many bytes)
-  where
-    whole : (j : ℕ) → j < many
-        → getD quads′ j 0 ≡ fieldsAt (start + 1) 13 1 bytes j * 16777216 +
-        (fieldsAt (start + 2) 13 2 bytes j * 256 + fieldsAt (start + 4) 13 1 bytes j)
-    unfolding quadAt
-    whole j h = let e : j ≡ 0 + j = omega arith in ap (λ (k : ℕ). getD quads′ k 0) e ∙ l .inside j h
+pub part-is : (below size start k step w : ℕ) (bytes quads : List ℕ) (j : ℕ)
+    → getD quads j 0 / below % size ≡ field (start + step * j + k) w bytes → partOf below size quads j ≡ fieldsAt (start + k) step w bytes j
+unfolding partOf fieldsAt
+part-is below size start k step w bytes quads j h =
+    let e : start + step * j + k ≡ start + k + step * j = omega arith in
+    h ∙ ap (λ (p : ℕ). field p w bytes) e
 
-    pub high-is : (j : ℕ) → j < many → highOf quads′ j ≡ fieldsAt (start + 1) 13 1 bytes j
-    unfolding highOf
-    high-is j h = omega (arith, whole j h, n .counts j h, n .has j h)
-
-    pub middle-is : (j : ℕ) → j < many → middleOf quads′ j ≡ fieldsAt (start + 2) 13 2 bytes j
-    unfolding middleOf
-    middle-is j h = omega (arith, whole j h, n .counts j h, n .has j h)
-
-    pub low-is : (j : ℕ) → j < many → lowOf quads′ j ≡ fieldsAt (start + 4) 13 1 bytes j
-    unfolding lowOf
-    low-is j h = omega (arith, whole j h, n .counts j h, n .has j h)
-
--- ---- columns
-pub laid-same : (start many : ℕ) (f g : ℕ → ℕ) (a b : List ℕ) → Laid start many f a b → ((j : ℕ) → j < many → f j ≡ g j)
-    → Laid start many g a b
-laid-same start many f g a b p e = record { long = p .long; inside = λ j h. p .inside j h ∙ e j h; other = p .other }
-
--- one behind another
+-- ---- columns one behind another
 pub three-columns : (x y z many : ℕ) (f g h : ℕ → ℕ) (a b c d : List ℕ) → x + many ≤ y → y + many ≤ z → Laid x many f a b
     → Laid y many g b c → Laid z many h c d → LaidThree x y z many f g h a d
 three-columns x y z many f g h a b c d hx hy p q r = record {
@@ -75,4 +67,17 @@ three-columns x y z many f g h a b c d hx hy p q r = record {
   second = λ j l. r .other (y + j) (below-column _ _ _ (omega arith)) ∙ q .inside j l;
   third = λ j l. r .inside j l;
   other = λ k u v w. r .other k w ∙ q .other k v ∙ p .other k u;
+}
+
+pub four-columns : (x y z t many : ℕ) (f g h i : ℕ → ℕ) (a b c : List ℕ) → x + many ≤ y → y + many ≤ z → z + many ≤ t → Laid x many f a b
+    → LaidThree y z t many g h i b c → LaidFour x y z t many f g h i a c
+four-columns x y z t many f g h i a b c hx hy hz p q = record {
+  long = q .long ∙ p .long;
+  first = λ j l.
+      q .other (x + j) (below-column _ _ _ (omega arith)) (below-column _ _ _ (omega arith)) (below-column _ _ _ (omega arith))
+      ∙ p .inside j l;
+  second = q .first;
+  third = q .second;
+  fourth = q .third;
+  other = λ k u v w o. q .other k v w o ∙ p .other k u;
 }

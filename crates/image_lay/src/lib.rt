@@ -1,4 +1,5 @@
 // Fields of records that stand one after another in bytes, laid out as columns of buffers: number j is read at `first` + `step` * j.
+mod parts;
 mod pieces;
 mod quads;
 

@@ -1,34 +1,26 @@
 // Many blocks: state, num_peers and has-peer of each are first put into one number, of which the compiler then takes many at once.
+use crate::parts::lay_part;
 use image_bytes::read1;
 use image_bytes::read2;
 use image_bytes::read8;
 use types::u64_to_usize;
 use types::usize_to_u32;
-ghost use mathlib.Core.Path.{_≡_};
-ghost use Prim.Native.Nat.{_+_, _*_, _/_, _%_, _≤_};
+ghost use Prim.Native.Nat.{_+_, _*_, _≤_};
 ghost use lib.ListN.{length};
 ghost use Rattle.image_lay.specs.Laid.{fieldsAt, Laid, LaidThree};
-ghost use Rattle.image_lay.specs.Quads.{quadAt, Narrow, highOf, middleOf, lowOf};
+ghost use Rattle.image_lay.specs.Quads.{Filled, BlockQuad, blockQuads};
 
-fn high(q: u32) -> u16
-    ensures { λ r. ⌜ r ≡ q / 16777216 ⌝ }
+// Those numbers of the block at `at`.
+fn block_quad(bytes: &[u8], at: usize) -> u32
+    requires { ⌜ at + 5 ≤ length (now bytes) ⌝ }
+    ensures { λ r. ⌜ BlockQuad at (now (bytes .entry)) r ⌝ }
 {
-    (q / 16777216) as u16
+    let quad = read1(bytes, at + 1) * 16777216
+        + (read2(bytes, at + 2) * 256 + read1(bytes, at + 4));
+    usize_to_u32(u64_to_usize(quad))
 }
 
-fn middle(q: u32) -> u16
-    ensures { λ r. ⌜ r ≡ q / 256 % 65536 ⌝ }
-{
-    (q / 256 % 65536) as u16
-}
-
-fn low(q: u32) -> u16
-    ensures { λ r. ⌜ r ≡ q % 256 ⌝ }
-{
-    (q % 256) as u16
-}
-
-// The other numbers of each block as one, and the peers as words from v on.
+// Those of each block, and the peers as words from v on.
 fn take_blocks(
     bytes: &[u8],
     start: usize,
@@ -39,49 +31,13 @@ fn take_blocks(
 )
     requires { ⌜ (start + 13 * many ≤ length (now bytes)) × (v + many ≤ length (now words)) × (many ≤ length (now quads)) ⌝ }
     ensures peers { λ _. ⌜ Laid v many (fieldsAt (start + 5) 13 8 (now (bytes .entry))) (now (words .entry)) (now (words .exit)) ⌝ }
-    ensures others { λ _. ⌜ Laid 0 many (quadAt start (now (bytes .entry))) (now (quads .entry)) (now (quads .exit)) ⌝ }
-    ensures narrow { λ _. ⌜ Narrow start many (now (bytes .entry)) ⌝ }
+    ensures others { λ _. ⌜ Filled many (blockQuads start (now (bytes .entry))) (now (quads .entry)) (now (quads .exit)) ⌝ }
 {
     let mut j = 0;
     while j < many {
         let at = start + 13 * j;
         words[v + j] = read8(bytes, at + 5);
-        let quad = read1(bytes, at + 1) * 16777216
-            + (read2(bytes, at + 2) * 256 + read1(bytes, at + 4));
-        quads[j] = usize_to_u32(u64_to_usize(quad));
-        j += 1;
-    }
-}
-
-fn lay_high(quads: &[u32], many: usize, cells: &mut [u16], start: usize)
-    requires { ⌜ (many ≤ length (now quads)) × (start + many ≤ length (now cells)) ⌝ }
-    ensures { λ _. ⌜ Laid start many (highOf (now (quads .entry))) (now (cells .entry)) (now (cells .exit)) ⌝ }
-{
-    let mut j = 0;
-    while j < many {
-        cells[start + j] = high(quads[j]);
-        j += 1;
-    }
-}
-
-fn lay_middle(quads: &[u32], many: usize, cells: &mut [u16], start: usize)
-    requires { ⌜ (many ≤ length (now quads)) × (start + many ≤ length (now cells)) ⌝ }
-    ensures { λ _. ⌜ Laid start many (middleOf (now (quads .entry))) (now (cells .entry)) (now (cells .exit)) ⌝ }
-{
-    let mut j = 0;
-    while j < many {
-        cells[start + j] = middle(quads[j]);
-        j += 1;
-    }
-}
-
-fn lay_low(quads: &[u32], many: usize, cells: &mut [u16], start: usize)
-    requires { ⌜ (many ≤ length (now quads)) × (start + many ≤ length (now cells)) ⌝ }
-    ensures { λ _. ⌜ Laid start many (lowOf (now (quads .entry))) (now (cells .entry)) (now (cells .exit)) ⌝ }
-{
-    let mut j = 0;
-    while j < many {
-        cells[start + j] = low(quads[j]);
+        quads[j] = block_quad(bytes, at);
         j += 1;
     }
 }
@@ -107,7 +63,7 @@ pub fn lay_many(
 {
     let mut quads = [0u32; 256];
     take_blocks(bytes, start, many, words, v, &mut quads);
-    lay_high(&quads, many, cells, x);
-    lay_middle(&quads, many, cells, y);
-    lay_low(&quads, many, cells, z);
+    lay_part(&quads, many, 16777216, 256, cells, x);
+    lay_part(&quads, many, 256, 65536, cells, y);
+    lay_part(&quads, many, 1, 256, cells, z);
 }

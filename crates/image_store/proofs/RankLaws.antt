@@ -11,8 +11,7 @@ use Rattle.memory_layout.specs.Bounds.{CellsSpan, CellColumn}
 use Rattle.check_pieces.specs.Rows.{pieceFrom, rankFrom, Level, rankIn as rankInRow}
 use Rattle.check_pieces.proofs.RowLaws.{rank-pad}
 use Rattle.image_lay.specs.Laid.{Laid}
-use Rattle.image_lay.proofs.QuadLaws.{laid-same}
-use Rattle.image_lay.proofs.LaidLaws.{laid-end}
+use Rattle.image_lay.proofs.LaidLaws.{laid-end, laid-same}
 use Rattle.image_pieces.specs.Pieces.{pieceBody, pieceIn}
 use Rattle.image_columns.specs.Columns.{PiecesStored}
 use Rattle.image_store.specs.Given.{PiecesTold, rankIn}

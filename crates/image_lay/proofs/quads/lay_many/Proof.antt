@@ -1,5 +1,6 @@
 -- `lay_many` meets its contract: what is taken out again is what was put in. Assumes nothing.
-use Rattle.image_lay.proofs.QuadLaws.{high-is, middle-is, low-is, laid-same, three-columns}
+use Rattle.image_lay.proofs.LaidLaws.{laid-same}
+use Rattle.image_lay.proofs.QuadLaws.{part-is, three-columns}
 use borrow.Author.Needs.{needs}
 use Rattle.image_lay.proofs.quads.lay_many.Statement.{statement}
 use Rattle.image_lay.proofs.quads.lay_many.Tie as tie
@@ -10,23 +11,23 @@ slice-aggregate-take-blocks c = search needs
 take-blocks-requires : tie.Need-take-blocks-requires
 take-blocks-requires c κs = search needs
 
-slice-aggregate-lay-high : tie.Need-slice-aggregate-lay-high
-slice-aggregate-lay-high c = search needs
+slice-aggregate-lay-part : tie.Need-slice-aggregate-lay-part
+slice-aggregate-lay-part c = search needs
 
-lay-high-requires : tie.Need-lay-high-requires
-lay-high-requires c κs = search needs
+lay-part-requires : tie.Need-lay-part-requires
+lay-part-requires c κs = search needs
 
-slice-aggregate-lay-middle : tie.Need-slice-aggregate-lay-middle
-slice-aggregate-lay-middle c = search needs
+slice-aggregate-lay-part-2 : tie.Need-slice-aggregate-lay-part-2
+slice-aggregate-lay-part-2 c = search needs
 
-lay-middle-requires : tie.Need-lay-middle-requires
-lay-middle-requires c κs = search needs
+lay-part-requires-2 : tie.Need-lay-part-requires-2
+lay-part-requires-2 c κs = search needs
 
-slice-aggregate-lay-low : tie.Need-slice-aggregate-lay-low
-slice-aggregate-lay-low c = search needs
+slice-aggregate-lay-part-3 : tie.Need-slice-aggregate-lay-part-3
+slice-aggregate-lay-part-3 c = search needs
 
-lay-low-requires : tie.Need-lay-low-requires
-lay-low-requires c κs = search needs
+lay-part-requires-3 : tie.Need-lay-part-requires-3
+lay-part-requires-3 c κs = search needs
 
 same-length : tie.Need-same-length
 same-length c = search needs
@@ -43,13 +44,12 @@ returns c =
     let c24 = c18 .before .before .before .before .before .before in
     let p = c24 .pre in
     let e = c18 .take-blocks .ensures in
-    let l = e .1 .0 in
-    let n = e .1 .1 in (
+    let f = e .1 .each in (
       e .0,
       three-columns _ _ _ _ _ _ _ _ _ _ _ (p .1 .1 .0) (p .1 .1 .1)
-          (laid-same _ _ _ _ _ _ (c12 .lay-high .ensures) (high-is _ _ _ _ _ l n))
-          (laid-same _ _ _ _ _ _ (c7 .lay-middle .ensures) (middle-is _ _ _ _ _ l n))
-          (laid-same _ _ _ _ _ _ (c2 .lay-low .ensures) (low-is _ _ _ _ _ l n)),
+          (laid-same _ _ _ _ _ _ (c12 .lay-part .ensures) (λ j h. part-is _ _ _ _ _ _ _ _ _ (f j h .state)))
+          (laid-same _ _ _ _ _ _ (c7 .lay-part2 .ensures) (λ j h. part-is _ _ _ _ _ _ _ _ _ (f j h .numPeers)))
+          (laid-same _ _ _ _ _ _ (c2 .lay-part3 .ensures) (λ j h. part-is _ _ _ _ _ _ _ _ _ (f j h .has))),
     )
 
 pub lay-many-spec : {M : Type 1} → statement M
@@ -58,12 +58,12 @@ lay-many-spec =
     (tie.spec
     slice-aggregate-take-blocks
     take-blocks-requires
-    slice-aggregate-lay-high
-    lay-high-requires
-    slice-aggregate-lay-middle
-    lay-middle-requires
-    slice-aggregate-lay-low
-    lay-low-requires
+    slice-aggregate-lay-part
+    lay-part-requires
+    slice-aggregate-lay-part-2
+    lay-part-requires-2
+    slice-aggregate-lay-part-3
+    lay-part-requires-3
     same-length
     same-length-2
     returns)

@@ -4,8 +4,7 @@ use native.Mathlib.Omega.{arith}
 use lib.ListN.{length}
 use Rattle.check_pieces.specs.Rows.{rankIn}
 use Rattle.image_lay.specs.Laid.{Laid}
-use Rattle.image_lay.proofs.LaidLaws.{laid-start, laid-end}
-use Rattle.image_lay.proofs.QuadLaws.{quads-next}
+use Rattle.image_lay.proofs.LaidLaws.{laid-start, front-next, laid-end}
 use borrow.Author.Needs.{needs}
 use Rattle.image_store.proofs.ranks.rank_rows.Statement.{statement}
 use Rattle.image_store.proofs.ranks.rank_rows.Tie as tie
@@ -66,7 +65,7 @@ loop-again c =
     let c12 = c6 .before .before .before .before .before .before in
     let i = c6 .loop .i in (
       omega arith,
-      quads-next i _ _ _ (c6 .loop .inv .1) (omega (arith, c12 .pre .1 .1)) _ (c .rank-in .ensures (c12 .pre .1 .0 i (omega arith))),
+      front-next i _ _ _ (c6 .loop .inv .1) (omega (arith, c12 .pre .1 .1)) _ (c .rank-in .ensures (c12 .pre .1 .0 i (omega arith))),
     )
 
 same-length : tie.Need-same-length Inv-loop μ-loop
