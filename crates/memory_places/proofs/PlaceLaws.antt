@@ -68,7 +68,7 @@ module _ (test : ℕ → Bool) where
   from-next t k e = ap (λ (b : Bool). placeOf b k (firstFrom test t (suc k))) e
 
   -- where it stops before the end, the test holds
-  pub first-holds : (t k : ℕ) → firstFrom test t k < k + t → test (firstFrom test t k) ≡ true
+  first-holds : (t k : ℕ) → firstFrom test t k < k + t → test (firstFrom test t k) ≡ true
   first-holds zero k h = absurd (omega arith)
   first-holds (suc t) k h = go (test k) refl (first-holds t (suc k))
     where
@@ -78,7 +78,7 @@ module _ (test : ℕ → Bool) where
       go false e again = ap test (from-next t k e) ∙ again (omega (arith, h, from-next t k e))
 
   -- where it ends, the test holds nowhere
-  pub first-none : (t k : ℕ) → k + t ≤ firstFrom test t k → (p : ℕ) → k ≤ p → p < k + t → test p ≡ false
+  first-none : (t k : ℕ) → k + t ≤ firstFrom test t k → (p : ℕ) → k ≤ p → p < k + t → test p ≡ false
   first-none zero k h p l m = absurd (omega arith)
   first-none (suc t) k h p l m = go (test k) refl (λ a b c. first-none t (suc k) a p b c)
     where
@@ -200,7 +200,7 @@ module _ (x : ℕ) where
       go true m again = refl
       go false m again = again m
 
-pub pigeonhole : (n : ℕ) (l : List ℕ) → ((p : ℕ) → p < n → member p l ≡ true) → n ≤ length l
+pigeonhole : (n : ℕ) (l : List ℕ) → ((p : ℕ) → p < n → member p l ≡ true) → n ≤ length l
 pigeonhole zero l h = omega arith
 pigeonhole (suc n) l h =
     omega (

@@ -3,8 +3,8 @@ use Prim.Native.Nat.{ℕ, zero, suc, _+_, _<_}
 use mathlib.Core.Path.{_≡_}
 use mathlib.Core.Bool.{Bool, true, false, not, _&&_}
 use mathlib.Core.List.{List}
-use lib.Dec.{ltb}
 use lib.ListN.{length, getD}
+use Rattle.model.specs.Bep3.{sumTo}
 use Rattle.model.specs.Lists.{member}
 use Rattle.memory_records.specs.Records.{firstFrom}
 use Rattle.memory_records.specs.Rows.{rowAt}
@@ -22,10 +22,9 @@ PlacesBelow most live rows = (k : ℕ) → k < live → rowAt rows k .«info_idx
 abbrev pub PlacesApart : (live : ℕ) (rows : List ℕ) → Type 0
 PlacesApart live rows = (k l : ℕ) → k < live → l < live → rowAt rows k .«info_idx» ≡ rowAt rows l .«info_idx» → k ≡ l
 
--- those of the first k rows are all below n
-unfoldable pub lowPlaces : (n k : ℕ) (rows : List ℕ) → Bool
-lowPlaces n zero rows = true
-lowPlaces n (suc k) rows = lowPlaces n k rows && ltb (rowAt rows k .«info_idx») n
+-- what those of the first k rows add up to
+unfoldable pub placesSum : (k : ℕ) (rows : List ℕ) → ℕ
+placesSum k rows = sumTo k (λ l. rowAt rows l .«info_idx»)
 
 -- the lowest of so many places that is not taken, or their number
 unfoldable pub lowestFree : (places : ℕ) (taken : List ℕ) → ℕ

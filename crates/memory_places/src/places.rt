@@ -2,13 +2,13 @@
 use memory_layout::Shape;
 use memory_records::row;
 use types::u32_to_usize;
-use types::usize_to_u32;
 ghost use mathlib.Core.Path.{_≡_};
 ghost use mathlib.Core.List.{[]};
-ghost use Prim.Native.Nat.{_+_, _-_, _<_, _≤_};
+ghost use Prim.Native.Nat.{_+_, _-_, _*_, _<_, _≤_};
+ghost use lib.Dec.{eqb};
 ghost use lib.ListN.{length};
 ghost use Rattle.memory_layout.specs.Bounds.{Sizes};
-ghost use Rattle.memory_places.specs.Places.{placesTaken, PlacesBelow, PlacesApart, lowPlaces, lowestFree};
+ghost use Rattle.memory_places.specs.Places.{placesTaken, PlacesBelow, PlacesApart, placesSum, lowestFree};
 ghost use Rattle.memory_places.specs.Places.{Marked, unmarkedFrom, markedThrough};
 
 // A mark for each place that one of the first `live` rows has.
@@ -71,19 +71,20 @@ fn first_unmarked(marks: &[bool; 512], places: usize) -> usize
     p
 }
 
-// Whether the first `live` rows have places below their number. The loop has no way out, so that many rows are taken at a time.
+// Whether the first `live` rows have places below their number: different places add up to as much as 0 to live - 1 only where they are
+// these. The loop has no way out, so that many rows are taken at a time.
 fn places_low(rows: &[u32], live: usize) -> bool
     requires { ⌜ (live ≤ 512) × (length (now rows) ≡ 1536) ⌝ }
-    ensures { λ r. ⌜ r ≡ lowPlaces live live (now (rows .entry)) ⌝ }
+    requires { ⌜ PlacesBelow 512 live (now rows) ⌝ }
+    ensures { λ r. ⌜ r ≡ eqb (2 * placesSum live (now (rows .entry)) + live) (live * live) ⌝ }
 {
-    let most = usize_to_u32(live);
-    let mut all = true;
+    let mut sum: u32 = 0;
     let mut k = 0;
     while k < live {
-        all = all & (rows[512 + k] < most);
+        sum += rows[512 + k];
         k += 1;
     }
-    all
+    2 * u32_to_usize(sum) + live == live * live
 }
 
 // The first place without a mark, where each live row has marked its own.

@@ -2,6 +2,7 @@
 use mathlib.Core.Path.{subst, sym, _∙_}
 use Prim.Native.Nat.{ℕ, _<_}
 use native.Mathlib.Omega.{arith}
+use borrow.Author.Tests.{eqb-true}
 use Rattle.memory_layout.proofs.OffsetLaws.{places-min}
 use Rattle.memory_places.proofs.PlaceLaws.{place-there}
 use Rattle.memory_places.proofs.LowLaws.{low-lowest}
@@ -11,12 +12,13 @@ use Rattle.memory_places.proofs.places.free_place.Tie as tie
 places-low-requires : tie.Need-places-low-requires
 places-low-requires c κs =
     let q = c .before .pre in
-    (omega (arith, q .1 .0 .0, q .0 .places, places-min (c .before .args .s .pieces)), q .1 .0 .1)
+    let few = q .0 .places ∙ places-min (c .before .args .s .pieces) in
+    ((omega (arith, few, q .1 .0 .0), q .1 .0 .1), λ k h. omega (arith, few, q .1 .1 .0 k h))
 
 returns : tie.Need-returns
 returns c =
     let q = c .before .before .before .pre in
-    (low-lowest _ _ _ (q .1 .0 .0) (q .1 .1 .1) (sym (c .before .places-low .ensures) ∙ c .if1 .taken), q .1 .0 .0)
+    (low-lowest _ _ _ (q .1 .0 .0) (q .1 .1 .1) (eqb-true _ _ (sym (c .before .places-low .ensures) ∙ c .if1 .taken)), q .1 .0 .0)
 
 first-free-requires : tie.Need-first-free-requires
 first-free-requires c κs =
