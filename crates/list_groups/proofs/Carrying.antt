@@ -11,6 +11,7 @@ use Rattle.model.specs.list.Order.{carry, turnLeft}
 use Rattle.list_groups.specs.Words.{listedRank, topOf}
 use Rattle.list_groups.specs.Places.{Rises, NoLower, Parted, carried, pushed}
 use Rattle.list_groups.proofs.WordLaws.{under-top, over-top}
+use Rattle.list_groups.proofs.Searching.{rises-splits, parted-all}
 
 -- ---- ranks after a store
 -- a store before the places that are looked at
@@ -151,3 +152,15 @@ module _ (k end w : ℕ) (l : List ℕ) where
   pub pushed-end : k ≤ end → end ≤ k → end < length l → set l k w ≡ pushed k end w l
   unfolding pushed turnLeft
   pushed-end a c h = let q : end ≡ k = omega arith in let lk : k < length l = omega arith in rw (q, slice-empty k l, set-split l k w)
+
+  -- the words from k on are one group, as its last one tells
+  pub pushed-whole : {top : ℕ} → k + 1 < end → end < length l → Rises k end l → top ≡ topOf (listedRank (getD l k 0)) → getD l (end - 1) 0 ≤ top
+      → set (set l k w) end (getD l k 0) ≡ pushed k end w l
+  pushed-whole {top} lt le rises et q =
+      let n : end - 1 ≡ k → ⊥ = λ e. absurd (omega arith) in
+      let long : length (set l k w) ≡ length l = length-set l k w in
+      let behind = rises-behind k w end l rises in
+      let far : getD (set l k w) (end - 1) 0 ≤ top = rw (getD-set-other l k (end - 1) w 0 n) q in
+      let all = parted-all (rises-splits top (listedRank (getD l k 0)) (k + 1) end (set l k w) et behind) lt far in
+      carries-end (carries-come top (k + 1) end (getD l k 0) end 1 (pushed k end w l) l (set l k w) (omega arith) et (omega arith) long
+      (pushed-carried (omega arith) le) behind (lower-behind k w end l rises) all) le (omega arith)

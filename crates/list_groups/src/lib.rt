@@ -81,12 +81,11 @@ pub fn group_end(list: &[u64], from: usize, end: usize, near: usize, top: u64) -
     halve(list, within.low, within.high, top)
 }
 
-// The same where the words up to `end` may all be up to `top`: the last of them is looked at first.
-pub fn end_within(list: &[u64], from: usize, end: usize, near: usize, top: u64) -> usize
+// The same where the words up to `end` may well all be up to `top`: the last of them is looked at first.
+fn end_within(list: &[u64], from: usize, end: usize, top: u64) -> usize
     requires { ⌜ from ≤ end ⌝ }
     requires { ⌜ end ≤ length (now list) ⌝ }
     requires { ⌜ Splits top from end (now list) ⌝ }
-    requires { ⌜ 0 < near ⌝ }
     ensures { λ r. ⌜ Parted top from end (now (list .entry)) r r ⌝ }
 {
     if from < end {
@@ -94,10 +93,10 @@ pub fn end_within(list: &[u64], from: usize, end: usize, near: usize, top: u64) 
             return end;
         }
     }
-    group_end(list, from, end, near, top)
+    group_end(list, from, end, 1, top)
 }
 
-// Where the group of w's rank stands, or would: its start may be anywhere and is found by halving, its end is near or behind all.
+// Where the group of w's rank stands, or would: its start may be anywhere and is found by halving, its end is near.
 pub fn group_of(list: &[u64], from: usize, end: usize, w: u64) -> Span
     requires { ⌜ from ≤ end ⌝ }
     requires { ⌜ end ≤ length (now list) ⌝ }
@@ -107,11 +106,24 @@ pub fn group_of(list: &[u64], from: usize, end: usize, w: u64) -> Span
 {
     let top = top_of(w);
     let low = halve(list, from, end, top - 65536);
-    let high = end_within(list, low, end, 1, top);
+    let high = group_end(list, low, end, 1, top);
     Span { low, high }
 }
 
-// The same where the group stands not far behind `from`, as the next one of a list does.
+// The same in front of `end`, where the group mostly ends.
+pub fn group_before(list: &[u64], end: usize, w: u64) -> Span
+    requires { ⌜ end ≤ length (now list) ⌝ }
+    requires { ⌜ Rises 0 end (now list) ⌝ }
+    requires { ⌜ 0 < listedRank w ⌝ }
+    ensures { λ r. ⌜ IsGroup (listedRank w) 0 end (now (list .entry)) (r .low) (r .high) ⌝ }
+{
+    let top = top_of(w);
+    let low = halve(list, 0, end, top - 65536);
+    let high = end_within(list, low, end, top);
+    Span { low, high }
+}
+
+// The same not far behind `from`, where the next groups stand.
 pub fn group_ahead(list: &[u64], from: usize, end: usize, w: u64) -> Span
     requires { ⌜ from ≤ end ⌝ }
     requires { ⌜ end ≤ length (now list) ⌝ }
@@ -191,7 +203,7 @@ pub fn carry(list: &mut [u64], from: usize, end: usize, first: u64)
 {
     let mut held = first;
     let mut near = 1;
-    let mut k = end_within(list, from, end, near, top_of(first));
+    let mut k = group_end(list, from, end, near, top_of(first));
     while k < end {
         let next = list[k];
         list[k] = held;
@@ -215,6 +227,24 @@ pub fn push(list: &mut [u64], k: usize, end: usize, w: u64)
     if k < end {
         carry(list, k + 1, end, first);
     }
+}
+
+// The same where the words from k on mostly are one group, whose last word tells so: its first then goes to place `end` at once.
+pub fn push_within(list: &mut [u64], k: usize, end: usize, w: u64)
+    requires { ⌜ k ≤ end ⌝ }
+    requires { ⌜ end < length (now list) ⌝ }
+    requires { ⌜ Rises k end (now list) ⌝ }
+    ensures { λ _. ⌜ now (list .exit) ≡ pushed k end w (now (list .entry)) ⌝ }
+{
+    if k + 1 < end {
+        let first = list[k];
+        if list[end - 1] <= top_of(first) {
+            list[k] = w;
+            list[end] = first;
+            return;
+        }
+    }
+    push(list, k, end, w);
 }
 
 // The groups behind place k, up to and with place `last`, move down over it: each group's last goes to where the one before it ended.

@@ -89,7 +89,7 @@ pub fn to_earlier(
         ≡ swap (earlier listedRank high k (set (now (list .entry)) k w)) high (low + draw (now (draws .entry)) used (high - low)) ⌝ }
 {
     let d = draw(draws, used, high - low);
-    list_groups::push(list, high, k, w);
+    list_groups::push_within(list, high, k, w);
     swap(list, high, low + d);
 }
 
@@ -136,7 +136,7 @@ pub fn change(list: &mut [u64], n: usize, v: u64, w: u64, draws: &[u32], used: u
     let low = list_groups::start_of(list, n, v);
     let k = list_groups::place_from(list, low, n, v);
     if w < v {
-        let g = list_groups::group_of(list, 0, low, w);
+        let g = list_groups::group_before(list, low, w);
         to_earlier(list, k, g.low, g.high, w, draws, used);
         return used + some(g.high - g.low);
     }

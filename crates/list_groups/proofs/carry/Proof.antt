@@ -19,8 +19,8 @@ abbrev μ-loop : tie.MeasureT-loop
 top-of-requires : tie.Need-top-of-requires Inv-loop μ-loop
 top-of-requires c κs = tt
 
-end-within-requires : tie.Need-end-within-requires Inv-loop μ-loop
-end-within-requires c κs =
+group-end-requires : tie.Need-group-end-requires Inv-loop μ-loop
+group-end-requires c κs =
     let t = c .before .before .before in
     let split = rises-splits _ _ _ _ (t .args .list .now) (c .top-of .ensures) (t .pre .1 .1 .0) in
     (t .pre .0, (omega (arith, t .pre .1 .0), (split, omega arith)))
@@ -30,7 +30,7 @@ loop-holds c =
     let t = c .before .before .before .before in
     let a = t .args in
     carries-come _ (a .from) (a .end) (a .first) _ _ _ (a .list .now) (a .list .now) (omega arith)
-    (c .before .top-of .ensures) (t .pre .1 .0) refl refl (t .pre .1 .1 .0) (t .pre .1 .1 .1) (c .end-within .ensures)
+    (c .before .top-of .ensures) (t .pre .1 .0) refl refl (t .pre .1 .1 .0) (t .pre .1 .1 .1) (c .group-end .ensures)
 
 mul-next : tie.Need-mul-next Inv-loop μ-loop
 mul-next c = search needs
@@ -56,8 +56,8 @@ add-start c = search needs
 top-of-requires-2 : tie.Need-top-of-requires-2 Inv-loop μ-loop
 top-of-requires-2 c κs = tt
 
-group-end-requires : tie.Need-group-end-requires Inv-loop μ-loop
-group-end-requires c κs =
+group-end-requires-2 : tie.Need-group-end-requires-2 Inv-loop μ-loop
+group-end-requires-2 c κs =
     let l = c .before .before .before .before .loop in
     let t = c .before .before .before .before .before .before .before .before .before in
     let rises = rises-behind (l .k) (l .held) (t .args .end) (l .list) (l .inv .rest) in (
@@ -69,21 +69,21 @@ group-end-requires c κs =
     )
 
 sub-near : tie.Need-sub-near Inv-loop μ-loop
-sub-near c = c .group-end .ensures .starts
+sub-near c = c .group-end2 .ensures .starts
 
 add-near : tie.Need-add-near Inv-loop μ-loop
 add-near c =
-    let h = c .group-end .ensures .ends in
+    let h = c .group-end2 .ensures .ends in
     let p = c .before .before .before .before .before .before .before .before .before .before .pre .1 .0 in search needs
 
 loop-less : tie.Need-loop-less Inv-loop μ-loop
-loop-less c = omega (arith, c .group-end .ensures .starts, c .before .before .before .before .loop-test .taken)
+loop-less c = omega (arith, c .group-end2 .ensures .starts, c .before .before .before .before .loop-test .taken)
 
 loop-again : tie.Need-loop-again Inv-loop μ-loop
 loop-again c =
     let p = c .before .before .before .before .before .before .before .before .before .before .pre in
     carries-next (c .before .before .before .before .before .loop .inv) (p .1 .0)
-    (c .before .before .before .before .loop-test .taken) _ _ _ (omega arith) (c .before .top-of2 .ensures) (c .group-end .ensures)
+    (c .before .before .before .before .loop-test .taken) _ _ _ (omega arith) (c .before .top-of2 .ensures) (c .group-end2 .ensures)
 
 mul-list-2 : tie.Need-mul-list-2 Inv-loop μ-loop
 mul-list-2 c = search needs
@@ -108,7 +108,7 @@ carry-spec =
     Inv-loop
     μ-loop
     top-of-requires
-    end-within-requires
+    group-end-requires
     loop-holds
     mul-next
     slice-read-next
@@ -116,7 +116,7 @@ carry-spec =
     slice-write-list
     add-start
     top-of-requires-2
-    group-end-requires
+    group-end-requires-2
     sub-near
     add-near
     loop-less

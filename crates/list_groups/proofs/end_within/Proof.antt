@@ -17,10 +17,10 @@ shared-slice-read-if2 c = omega (arith, c .before .before .before .pre .1 .0, c 
 returns : tie.Need-returns
 returns c =
     let t = c .before .before .before .before in
-    parted-all (t .pre .1 .1 .0) (c .before .before .if1 .taken) (c .if2 .taken)
+    parted-all (t .pre .1 .1) (c .before .before .if1 .taken) (c .if2 .taken)
 
 group-end-requires : tie.Need-group-end-requires
-group-end-requires c κs = c .before .before .pre
+group-end-requires c κs = let p = c .before .before .pre in (p .0, (p .1 .0, (p .1 .1, omega arith)))
 
 returns-2 : tie.Need-returns-2
 returns-2 c = c .group-end .ensures

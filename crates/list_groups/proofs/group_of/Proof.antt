@@ -19,8 +19,8 @@ halve-requires c κs =
     let under = top-below (c .top-of .ensures) (t .pre .1 .1 .1) in
     (t .pre .0, (t .pre .1 .0, rises-splits _ _ _ _ (t .args .list .now) under (t .pre .1 .1 .0)))
 
-end-within-requires : tie.Need-end-within-requires
-end-within-requires c κs =
+group-end-requires : tie.Need-group-end-requires
+group-end-requires c κs =
     let t = c .before .before .before in
     let a = t .args in
     let s = c .halve .ensures in
@@ -31,9 +31,9 @@ end-within-requires c κs =
 returns : tie.Need-returns
 returns c =
     grouped (c .before .before .before .before .pre .1 .1 .1) (c .before .before .top-of .ensures)
-    (c .before .halve .ensures) (c .end-within .ensures)
+    (c .before .halve .ensures) (c .group-end .ensures)
 
 pub group-of-spec : {M : Type 1} → statement M
 group-of-spec =
     tie.close
-    (tie.spec top-of-requires sub-halve halve-requires end-within-requires returns)
+    (tie.spec top-of-requires sub-halve halve-requires group-end-requires returns)

@@ -19,17 +19,17 @@ place-from-requires c κs =
     let t = c .before .before .before .before .before in
     (t .pre .0, (c .before .start-of .ensures .0, t .pre .1 .1 .1 .1 .1 .0))
 
-group-of-requires : tie.Need-group-of-requires
-group-of-requires c κs =
+group-before-requires : tie.Need-group-before-requires
+group-before-requires c κs =
     let t = c .before .before .before .before .before .before .before .before in
     let e = c .before .before .before .before .start-of .ensures .0 in
     let h = t .pre .1 .1 .1 .1 .1 .0 in
-    (omega arith, (omega (arith, e, h, t .pre .0), ((λ k m a f d. t .pre .1 .0 k m a f (omega (arith, e, h))), t .pre .1 .1 .1 .0)))
+    (omega (arith, e, h, t .pre .0), ((λ k m a f d. t .pre .1 .0 k m a f (omega (arith, e, h))), t .pre .1 .1 .1 .0))
 
 to-earlier-requires : tie.Need-to-earlier-requires
 to-earlier-requires c κs =
     let t = c .before .before .before .before .before .before .before .before .before .before in
-    let g = c .before .group-of .ensures in
+    let g = c .before .group-before .ensures in
     let s = c .before .before .before .before .before .before .start-of .ensures .0 in
     let e = c .before .before .before .before .place-from .ensures in
     let h = t .pre .1 .1 .1 .1 .1 .0 in (
@@ -38,14 +38,14 @@ to-earlier-requires c κs =
     )
 
 sub-some : tie.Need-sub-some
-sub-some c = c .before .before .before .before .before .group-of .ensures .rises
+sub-some c = c .before .before .before .before .before .group-before .ensures .rises
 
 some-requires : tie.Need-some-requires
 some-requires c κs = tt
 
 add-result : tie.Need-add-result
 add-result c =
-    let g = c .before .before .before .before .before .before .group-of .result in
+    let g = c .before .before .before .before .before .before .group-before .result in
     let t = c .before .before .before .before .before .before .before .before .before .before .before .before .before .before .before in
     omega (arith, c .some .ensures, bit-le (ltb 0 (g .high - g .low)), t .pre .1 .1 .1 .1 .1 .1 .1)
 
@@ -56,7 +56,7 @@ returns : tie.Need-returns
 returns c =
     let t = c .before .before .before .before .before .before .before .before .before .before .before .before .before .before .before in
     let a = t .args in
-    let g = c .before .before .before .before .before .before .group-of in
+    let g = c .before .before .before .before .before .before .group-before in
     let p = c .before .before .before .before .before .before .before .before .before .place-from in
     let s = c .before .before .before .before .before .before .before .before .before .before .before .start-of .ensures in
     let h = t .pre .1 .1 .1 .1 .1 .0 in
@@ -129,7 +129,7 @@ change-spec =
     (tie.spec
     start-of-requires
     place-from-requires
-    group-of-requires
+    group-before-requires
     to-earlier-requires
     sub-some
     some-requires

@@ -17,8 +17,8 @@ sub-draw c = search needs
 draw-requires : tie.Need-draw-requires
 draw-requires c κs = search needs
 
-push-requires : tie.Need-push-requires
-push-requires c κs = let t = c .before .before .before .before in t .pre .1
+push-within-requires : tie.Need-push-within-requires
+push-within-requires c κs = let t = c .before .before .before .before in t .pre .1
 
 add-swap : tie.Need-add-swap
 add-swap c =
@@ -55,11 +55,11 @@ returns c =
     let moved = earlier listedRank (t .args .high) (t .args .k) (set (t .args .list .now) (t .args .k) (t .args .w)) in
     c .before .before .swap .ensures
     ∙ ap (λ (z : List ℕ). swap z (t .args .high) (t .args .low + d .result))
-    (c .before .before .before .before .before .before .push .ensures
+    (c .before .before .before .before .before .before .push-within .ensures
     ∙ earlier-pushed (t .args .high) (t .args .k) (t .args .w) (t .args .list .now) (t .pre .1 .0) (t .pre .1 .1 .0))
     ∙ ap (λ (z : ℕ). swap moved (t .args .high) (t .args .low + z)) (d .ensures)
 
 pub to-earlier-spec : {M : Type 1} → statement M
 to-earlier-spec =
     tie.close
-    (tie.spec sub-draw draw-requires push-requires add-swap swap-requires same-length returns)
+    (tie.spec sub-draw draw-requires push-within-requires add-swap swap-requires same-length returns)
