@@ -1,4 +1,2 @@
 pub mod WordLaws
 pub mod Searching
-pub mod Carrying
-pub mod Pulling

@@ -13,7 +13,7 @@ use lib.Dec.{eqb}
 use borrow.Author.Tests.{eq-eqb, ne-eqb, eqb-false}
 use Rattle.model.specs.Lists.{placeOf}
 use Rattle.list_groups.specs.Words.{listedRank, topOf}
-use Rattle.list_groups.specs.Places.{Rises, NoLower, Splits, Parted, IsGroup}
+use Rattle.list_groups.specs.Places.{Rises, Splits, Parted, IsGroup}
 use Rattle.list_groups.proofs.WordLaws.{top-below, under-top, top-over, over-top}
 
 -- ranks that never fall are split by the highest word of a rank
@@ -21,6 +21,10 @@ pub rises-splits : (top rank from end : ℕ) (l : List ℕ) → top ≡ topOf ra
 rises-splits top rank from end l e h k m a c d g =
     let t : getD l m 0 ≤ topOf rank = omega (arith, e) in
     omega (arith, e, top-over rank (getD l k 0) (omega (arith, h k m a c d, under-top rank (getD l m 0) t)))
+
+-- on a part of the places
+pub rises-within : (from end low high : ℕ) (l : List ℕ) → from ≤ low → high ≤ end → Rises from end l → Rises low high l
+rises-within from end low high l a c s k m f g d = s k m (omega arith) g (omega arith)
 
 -- what is split is so on a part
 pub splits-within : (top from end low high : ℕ) (l : List ℕ) → from ≤ low → high ≤ end → Splits top from end l → Splits top low high l

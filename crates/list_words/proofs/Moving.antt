@@ -12,7 +12,8 @@ use Rattle.model.specs.list.Order.{draw, earlier, later, turnRight, swap, place
 use Rattle.model.proofs.list.GroupTurns.{stirred-right, length-keys}
 use Rattle.model.proofs.list.GroupMoves.{draw-le}
 use Rattle.list_groups.specs.Words.{listedRank}
-use Rattle.list_groups.specs.Places.{IsGroup, pushed, pulled}
+use Rattle.list_groups.specs.Places.{IsGroup}
+use Rattle.list_moves.specs.Moves.{pushed, pulled}
 use Rattle.list_words.proofs.Groups.{group-start, group-size}
 
 -- ---- one more, one less

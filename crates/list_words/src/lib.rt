@@ -54,7 +54,7 @@ pub fn add(list: &mut [u64], n: usize, w: u64, draws: &[u32], used: usize) -> us
     let g = list_groups::group_of(list, 0, n, w);
     let size = g.high - g.low;
     let d = draw(draws, used, size);
-    list_groups::push(list, g.low + d, n, w);
+    list_moves::push(list, g.low + d, n, w);
     used + some(size)
 }
 
@@ -68,7 +68,7 @@ pub fn remove(list: &mut [u64], n: usize, w: u64)
         ≡ removed listedRank (placeOf w (take n (now (list .entry)))) (take n (now (list .entry))) ++ drop (n - 1) (now (list .entry)) ⌝ }
 {
     let k = list_groups::place_of(list, n, w);
-    list_groups::pull(list, k, n - 1);
+    list_moves::pull(list, k, n - 1);
 }
 
 // What stands at k goes, as w, forward to the end of the group from `low` to `high`, and changes places with a drawn one of it.
@@ -89,7 +89,7 @@ pub fn to_earlier(
         ≡ swap (earlier listedRank high k (set (now (list .entry)) k w)) high (low + draw (now (draws .entry)) used (high - low)) ⌝ }
 {
     let d = draw(draws, used, high - low);
-    list_groups::push_within(list, high, k, w);
+    list_moves::push_within(list, high, k, w);
     swap(list, high, low + d);
 }
 
@@ -113,7 +113,7 @@ pub fn to_later(
 {
     let d = draw(draws, used, high - low);
     let to = low - 1;
-    list_groups::pull(list, k, to);
+    list_moves::pull(list, k, to);
     list[to] = w;
     swap(list, to, to + d);
 }

@@ -2,8 +2,7 @@
 use borrow.Author.Needs.{needs}
 use native.Mathlib.Omega.{arith}
 use Rattle.list_groups.proofs.WordLaws.{top-below, top-least}
-use Rattle.list_groups.proofs.Searching.{rises-splits, grouped}
-use Rattle.list_groups.proofs.Carrying.{rises-within}
+use Rattle.list_groups.proofs.Searching.{rises-within, rises-splits, grouped}
 use Rattle.list_groups.proofs.group_ahead.Statement.{statement}
 use Rattle.list_groups.proofs.group_ahead.Tie as tie
 
@@ -11,7 +10,7 @@ top-of-requires : tie.Need-top-of-requires
 top-of-requires c κs = search needs
 
 sub-group-end : tie.Need-sub-group-end
-sub-group-end c = top-least (c .top-of .ensures) (c .before .before .pre .1 .1 .1)
+sub-group-end c = omega (arith, top-least (c .top-of .ensures) (c .before .before .pre .1 .1 .1))
 
 group-end-requires : tie.Need-group-end-requires
 group-end-requires c κs =

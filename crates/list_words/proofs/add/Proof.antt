@@ -5,7 +5,7 @@ use Prim.Native.Nat.{ℕ, _+_, _-_}
 use native.Mathlib.Omega.{arith}
 use lib.Dec.{ltb}
 use Rattle.model.proofs.base.Counts.{bit-le}
-use Rattle.list_groups.specs.Places.{pushed}
+use Rattle.list_moves.specs.Moves.{pushed}
 use Rattle.list_words.proofs.Moving.{added-in, pushed-added, added-draws}
 use Rattle.list_words.proofs.add.Statement.{statement}
 use Rattle.list_words.proofs.add.Tie as tie

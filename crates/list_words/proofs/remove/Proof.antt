@@ -5,7 +5,7 @@ use Prim.Native.Nat.{ℕ, _-_}
 use native.Mathlib.Omega.{arith}
 use lib.ListN.{take}
 use Rattle.model.specs.Lists.{placeOf}
-use Rattle.list_groups.specs.Places.{pulled}
+use Rattle.list_moves.specs.Moves.{pulled}
 use Rattle.list_words.proofs.Moving.{removed-pulled}
 use Rattle.list_words.proofs.remove.Statement.{statement}
 use Rattle.list_words.proofs.remove.Tie as tie

@@ -8,10 +8,11 @@ use lib.ListN.{length, getD, set, take, length-set}
 use lib.Seq.{slice-cons, slice-empty, take-suc, take-suc-set, take-set-lt, drop-set-lt, append-snoc, set-split, getD-set-other}
 use borrow.Author.Tests.{eq-eqb, ne-eqb}
 use Rattle.model.specs.list.Order.{carry, turnLeft}
 use Rattle.list_groups.specs.Words.{listedRank, topOf}
-use Rattle.list_groups.specs.Places.{Rises, NoLower, Parted, carried, pushed}
+use Rattle.list_groups.specs.Places.{Rises, Parted}
+use Rattle.list_moves.specs.Moves.{NoLower, carried, pushed}
 use Rattle.list_groups.proofs.WordLaws.{under-top, over-top}
-use Rattle.list_groups.proofs.Searching.{rises-splits, parted-all}
+use Rattle.list_groups.proofs.Searching.{rises-splits, rises-within, parted-all}
 
 -- ---- ranks after a store
 -- a store before the places that are looked at
@@ -20,10 +21,6 @@ rises-set k w from end l h s a c f g d =
     let na : a ≡ k → ⊥ = λ e. absurd (omega arith) in
     let nc : c ≡ k → ⊥ = λ e. absurd (omega arith) in
     rw (getD-set-other l k a w 0 na, getD-set-other l k c w 0 nc) (s a c f g d)
-
--- on a part of the places
-pub rises-within : (from end low high : ℕ) (l : List ℕ) → from ≤ low → high ≤ end → Rises from end l → Rises low high l
-rises-within from end low high l a c s k m f g d = s k m (omega arith) g (omega arith)
 
 module _ (k w end : ℕ) (l : List ℕ) (s : Rises k end l) where
   -- what is behind place k

@@ -3,9 +3,9 @@ use borrow.Author.Needs.{needs}
 use mathlib.Core.Path.{_∙_}
 use native.Mathlib.Omega.{arith}
 use lib.ListN.{length-set}
-use Rattle.list_groups.proofs.Carrying.{rises-behind, lower-behind, pushed-carried, pushed-end}
-use Rattle.list_groups.proofs.push.Statement.{statement}
-use Rattle.list_groups.proofs.push.Tie as tie
+use Rattle.list_moves.proofs.Carrying.{rises-behind, lower-behind, pushed-carried, pushed-end}
+use Rattle.list_moves.proofs.push.Statement.{statement}
+use Rattle.list_moves.proofs.push.Tie as tie
 
 mul-first : tie.Need-mul-first
 mul-first c = search needs

@@ -3,12 +3,12 @@ use borrow.Author.Needs.{needs}
 use mathlib.Core.Path.{refl}
 use Prim.Native.Nat.{_-_, _+_, suc}
 use native.Mathlib.Omega.{arith}
-use Rattle.list_groups.specs.Places.{pulled}
+use Rattle.list_moves.specs.Moves.{pulled}
 use Rattle.list_groups.proofs.Searching.{rises-splits}
-use Rattle.list_groups.proofs.Carrying.{rises-within}
-use Rattle.list_groups.proofs.Pulling.{Pulls, pulls-next, pulls-end}
-use Rattle.list_groups.proofs.pull.Statement.{statement}
-use Rattle.list_groups.proofs.pull.Tie as tie
+use Rattle.list_groups.proofs.Searching.{rises-within}
+use Rattle.list_moves.proofs.Pulling.{Pulls, pulls-next, pulls-end}
+use Rattle.list_moves.proofs.pull.Statement.{statement}
+use Rattle.list_moves.proofs.pull.Tie as tie
 
 abbrev Inv-loop : tie.InvT-loop
 Inv-loop list₀ k last hole₀ near₀ list hole near = Pulls last (pulled k last list₀) list₀ list hole near

@@ -4,11 +4,11 @@ use mathlib.Core.Path.{refl}
 use Prim.Native.Nat.{_-_}
 use native.Mathlib.Omega.{arith}
 use lib.ListN.{set, length-set}
-use Rattle.list_groups.specs.Places.{carried}
+use Rattle.list_moves.specs.Moves.{carried}
 use Rattle.list_groups.proofs.Searching.{rises-splits}
-use Rattle.list_groups.proofs.Carrying.{Carries, rises-behind, carries-come, carries-next, carries-end}
-use Rattle.list_groups.proofs.carry.Statement.{statement}
-use Rattle.list_groups.proofs.carry.Tie as tie
+use Rattle.list_moves.proofs.Carrying.{Carries, rises-behind, carries-come, carries-next, carries-end}
+use Rattle.list_moves.proofs.carry.Statement.{statement}
+use Rattle.list_moves.proofs.carry.Tie as tie
 
 abbrev Inv-loop : tie.InvT-loop
 Inv-loop list₀ from end first held₀ near₀ k₀ list held near k = Carries end (carried from end first list₀) list₀ list held k near

@@ -1,8 +1,8 @@
 -- `push_within` meets its contract: what stands at k goes to the end of its group at once, or is pushed on. Assumes nothing.
 use borrow.Author.Needs.{needs}
-use Rattle.list_groups.proofs.Carrying.{pushed-whole}
-use Rattle.list_groups.proofs.push_within.Statement.{statement}
-use Rattle.list_groups.proofs.push_within.Tie as tie
+use Rattle.list_moves.proofs.Carrying.{pushed-whole}
+use Rattle.list_moves.proofs.push_within.Statement.{statement}
+use Rattle.list_moves.proofs.push_within.Tie as tie
 
 add-if1 : tie.Need-add-if1
 add-if1 c = search needs
