@@ -16,7 +16,7 @@ use Rattle.list_groups.specs.Words.{listedRank, topOf}
 use Rattle.list_groups.specs.Places.{Rises, Parted}
 use Rattle.list_moves.specs.Moves.{pulled}
 use Rattle.list_groups.proofs.WordLaws.{under-top, over-top}
-use Rattle.list_groups.proofs.Searching.{rises-within}
+use Rattle.list_groups.proofs.Searching.{rises-splits, rises-within, parted-all}
 use Rattle.list_moves.proofs.Carrying.{rises-set}
 
 -- ---- a group turned right
@@ -148,3 +148,16 @@ module _ {last : ℕ} {goal l₀ l : List ℕ} {hole near : ℕ} (m : Pulls last
   pulls-end q =
       let e : hole ≡ last = omega (arith, m .at) in
       sym (take-append-drop last l) ∙ (rw (e, slice-empty (suc last) l) at (m .left))
+
+-- ---- `pull_within`: the words behind k are one group, as its last one tells
+pub pulled-whole : {top : ℕ} (k last : ℕ) (l : List ℕ) → k + 1 < last → last < length l → Rises (suc k) (suc last) l
+    → top ≡ topOf (listedRank (getD l (k + 1) 0)) → getD l last 0 ≤ top → set l k (getD l last 0) ≡ pulled k last l
+pulled-whole {top} k last l lt le rises et q =
+    let rest = rises-within (suc k) (suc last) (k + 2) (last + 1) l (omega arith) (omega arith) rises in
+    let e : last + 1 - 1 ≡ last = omega arith in
+    let far : getD l (last + 1 - 1) 0 ≤ top = rw e q in
+    let all = parted-all (rises-splits top (listedRank (getD l (k + 1) 0)) (k + 2) (last + 1) l et rest) (omega arith) far in
+    let start : Pulls last (pulled k last l) l l k 1 =
+    record { left = refl; at = omega arith; rest = rises; some = omega arith; long = refl } in
+    ap (λ (m : ℕ). set l k (getD l m 0)) (sym e)
+    ∙ pulls-end (pulls-next start le (omega arith) top (last + 1) 1 (omega arith) et all) le (omega arith)

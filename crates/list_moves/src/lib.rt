@@ -79,3 +79,20 @@ pub fn pull(list: &mut [u64], k: usize, last: usize)
         hole = end - 1;
     }
 }
+
+// The same where the words behind k mostly are one group, whose last word tells so: that one then goes to place k at once.
+pub fn pull_within(list: &mut [u64], k: usize, last: usize)
+    requires { ⌜ k ≤ last ⌝ }
+    requires { ⌜ last < length (now list) ⌝ }
+    requires { ⌜ Rises (suc k) (suc last) (now list) ⌝ }
+    ensures { λ _. ⌜ now (list .exit) ≡ pulled k last (now (list .entry)) ⌝ }
+{
+    if k + 1 < last {
+        let w = list[last];
+        if w <= top_of(list[k + 1]) {
+            list[k] = w;
+            return;
+        }
+    }
+    pull(list, k, last);
+}

@@ -113,7 +113,7 @@ pub fn to_later(
 {
     let d = draw(draws, used, high - low);
     let to = low - 1;
-    list_moves::pull(list, k, to);
+    list_moves::pull_within(list, k, to);
     list[to] = w;
     swap(list, to, to + d);
 }

@@ -21,8 +21,8 @@ draw-requires c κs = search needs
 sub-to : tie.Need-sub-to
 sub-to c = search needs
 
-pull-requires : tie.Need-pull-requires
-pull-requires c κs =
+pull-within-requires : tie.Need-pull-within-requires
+pull-within-requires c κs =
     let t = c .before .before .before .before in
     let a = t .pre .0 in
     let b = t .pre .1 .0 in
@@ -51,7 +51,7 @@ add-swap c =
 swap-requires : tie.Need-swap-requires
 swap-requires c κs =
     let t = c .before .before .before .before .before .before .before .before in
-    let kept = length-set (c .before .before .before .pull .last .0) (t .args .low - 1) (t .args .w) in
+    let kept = length-set (c .before .before .before .pull-within .last .0) (t .args .low - 1) (t .args .w) in
     let a = t .pre .0 in
     let b = t .pre .1 .0 in
     let e = t .pre .1 .1 .0 in (
@@ -70,7 +70,7 @@ same-length c =
     let t = c .before .before .before .before .before .before .before .before .before .before .before in
     omega (
       arith,
-      length-set (c .before .before .before .before .before .before .pull .last .0) (t .args .low - 1)
+      length-set (c .before .before .before .before .before .before .pull-within .last .0) (t .args .low - 1)
           (t .args .w),
       c .before .before .before .before .before .list .given,
       c .before .list2 .given,
@@ -87,7 +87,7 @@ returns c =
     let e = t .pre .1 .1 .0 in
     c .before .before .swap .ensures
     ∙ ap (λ (z : List ℕ). swap (set z to (t .args .w)) to (to + d .result))
-    (c .before .before .before .before .before .before .pull .ensures)
+    (c .before .before .before .before .before .before .pull-within .ensures)
     ∙ ap (λ (z : List ℕ). swap z to (to + d .result)) (later-pulled (t .args .k) to (t .args .w) (t .args .list .now) (omega arith)
     (omega arith))
     ∙ ap (λ (z : ℕ). swap moved to (to + z)) (d .ensures)
@@ -99,7 +99,7 @@ to-later-spec =
     sub-draw
     draw-requires
     sub-to
-    pull-requires
+    pull-within-requires
     mul-list
     slice-write-list
     add-swap
