@@ -26,7 +26,7 @@ use bitdaemon_common::{DownloadPriority, PieceBlock, PieceIndex};
 use lent::Lent;
 use linked_changes::Tested;
 use list_operations::Geometry;
-use opening_parts::{counted_place, insert_rising, marked_place, remove_rising};
+use opening_parts::{summed_place, insert_rising, marked_place, remove_rising};
 use oracle::image::Fields;
 use oracle::piece_picker::{PickerOptions, PiecePicker};
 use oracle::script::Change;
@@ -54,6 +54,13 @@ fn ticks() -> u64 {
         _mm_lfence();
         now
     }
+}
+
+/// The same, and what was stored before has left the processor's buffer of stores: bringing rows up to date between two calls is no part
+/// of the second.
+fn ticks_from_here() -> u64 {
+    unsafe { std::arch::x86_64::_mm_mfence() };
+    ticks()
 }
 
 /// How many ticks a microsecond has, and how many it takes to read the clock.
@@ -85,13 +92,13 @@ impl Clock {
         let mut sum = 0;
         if O::MOVES_ROWS {
             for &at in pieces {
-                let start = ticks();
+                let start = ticks_from_here();
                 side.make::<O>(at);
                 sum += ticks() - start - self.nothing;
                 side.settle::<O>(at);
             }
         } else {
-            let start = ticks();
+            let start = ticks_from_here();
             for &at in pieces {
                 side.make::<O>(at);
                 side.settle::<O>(at);
@@ -315,7 +322,7 @@ fn parts(size: Size, clock: &Clock) -> [Best; 3] {
             let d = DownloadingPiece { index: at.piece as u32, info_idx: live as u32, flags: 0 };
             let (rows, records) = (&lent.rows, &mut lent.partials[..live + 1]);
             ticks[0][0] += clock.of(|| marked_place(black_box(rows), live));
-            ticks[0][1] += clock.of(|| counted_place(black_box(rows), live));
+            ticks[0][1] += clock.of(|| summed_place(black_box(rows), live));
             ticks[1][0] += clock.of(|| edits::insert(black_box(records), d));
             ticks[2][0] += clock.of(|| edits::remove(black_box(records), d.index));
             ticks[1][1] += clock.of(|| insert_rising(black_box(records), d));
@@ -368,7 +375,7 @@ fn main() {
         let size = Size { n, b, partials, most: 23, one_group: false };
         print(size, &marked(size, &clock));
     }
-    println!("pieces   b partials      open, the Rust, place marked, counted, put in, in a block   close, the Rust, taken out, in a block");
+    println!("pieces   b partials      open, the Rust, place marked, added up, put in, in a block   close, the Rust, taken out, in a block");
     for (n, b, partials) in SIZES {
         print_parts(Size { n, b, partials, most: 23, one_group: false }, &clock);
     }

@@ -1,5 +1,5 @@
 //! Two parts of opening and closing a partial in plain Rust, on the buffers that they are timed on: the lowest free place, and a record put
-//! in or taken out. The place is found as where nothing says that places differ, by marking each; and as where that is known, by counting.
+//! in or taken out. The place is found as where nothing says that places differ, by marking each; and as where that is known, by adding them up.
 //! The record is put in as where nothing says that they rise by piece, in `edits`; and here as where that is known, by halving.
 
 use crate::records::{DownloadingPiece, ROWS};
@@ -13,10 +13,10 @@ pub fn marked_place(rows: &[u32; ROWS], live: usize) -> usize {
     marks.iter().position(|taken| !taken).unwrap_or(512)
 }
 
-/// The same where no two rows have one place: if all are below their number, that is it.
-pub fn counted_place(rows: &[u32; ROWS], live: usize) -> usize {
-    let below = rows[512..512 + live].iter().map(|place| u32::from(*place < live as u32)).sum::<u32>();
-    if below as usize == live { live } else { marked_place(rows, live) }
+/// The same where no two rows have one place: if they add up to the sum of the numbers below theirs, they are these, and that is it.
+pub fn summed_place(rows: &[u32; ROWS], live: usize) -> usize {
+    let sum = rows[512..512 + live].iter().sum::<u32>() as usize;
+    if 2 * sum + live == live * live { live } else { marked_place(rows, live) }
 }
 
 /// A record put in among those that rise, the last place free: its place by halving, the others moved in a block.

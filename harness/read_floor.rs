@@ -138,35 +138,71 @@ unsafe fn read4(p: *const u8) -> u32 {
     (p as *const u32).read_unaligned().swap_bytes()
 }
 
-/// Pieces judged: each number in its range, and the rank by which the list is judged.
+/// Pieces that are judged or stored at a time by columns.
+const STRETCH: usize = 128;
+
+/// Their numbers as columns: peer count, state, priority and flushed.
+type Rows = [[u16; STRETCH]; 4];
+
+fn over(x: u16, most: u16) -> u16 {
+    x.saturating_sub(most)
+}
+
+/// A stretch of pieces: each number in its range, and the rank by which the list is judged. No turn over the columns has a branch.
+fn judge_rows([counts, states, priorities, flushed]: &Rows, seeds: u16, ranks: &mut [u16]) -> bool {
+    let (mut wrong, mut most, mut flags) = (0, 0, 0);
+    for i in 0..STRETCH {
+        let (count, state, priority, flush) = (counts[i], states[i], priorities[i], flushed[i]);
+        wrong |= over(count, 1000 - seeds) | over(state, 6) | if flush == 1 && state != 4 { 1 } else { 0 };
+        most |= priority;
+        flags |= flush;
+        let none = (priority == 0) | (flush == 1) | ((count == 0) & (seeds == 0)) | (state == 1) | (state == 2);
+        let rank = (count % 1024 + 1) * (24 - 3 * (priority % 8)) - over(5, state).min(2);
+        ranks[i] = if none { 0 } else { rank };
+    }
+    wrong == 0 && most < 8 && flags < 2
+}
+
+/// Pieces judged, all but those behind the last whole stretch.
 pub unsafe fn judge_pieces(p: *const u8, many: usize, seeds: u16, size: u32, ranks: &mut [u16; 4096]) -> bool {
-    // what a state takes off the rank, and whether a piece in it has one
-    let (less, listed) = ([3, 3, 3, 3, 2, 1, 1], [true, false, false, true, true, true, true]);
-    for i in 0..many {
-        let q = p.add(10 * i);
-        let (kind, count, state, priority) = (*q, read2(q.add(1)), *q.add(3), *q.add(4));
-        let (flushed, pad) = (*q.add(5), read4(q.add(6)));
-        let one_wrong = kind != 2 || state > 6 || flushed > 1 || count > 1000 - seeds || priority > 7;
-        if one_wrong || flushed == 1 && state != 4 || pad > size {
+    let mut i = 0;
+    while i + STRETCH <= many {
+        let mut rows: Rows = [[0; STRETCH]; 4];
+        for j in 0..STRETCH {
+            let q = p.add(10 * (i + j));
+            if *q != 2 || read4(q.add(6)) > size {
+                return false;
+            }
+            rows[0][j] = read2(q.add(1));
+            rows[1][j] = *q.add(3) as u16;
+            rows[2][j] = *q.add(4) as u16;
+            rows[3][j] = *q.add(5) as u16;
+        }
+        if !judge_rows(&rows, seeds, &mut ranks[i..i + STRETCH]) {
             return false;
         }
-        let state = state as usize;
-        let rank = (count + 1) * (8 - priority as u16) * 3 + 1 - less.get_unchecked(state);
-        let has = (priority != 0) & (flushed == 0) & (count | seeds != 0) & *listed.get_unchecked(state);
-        *ranks.get_unchecked_mut(i) = if has { rank } else { 0 };
+        i += STRETCH;
     }
     true
 }
 
-/// Pieces stored: pad bytes as words; peer count, state, priority and flushed as cells.
+/// Pieces stored, all but those behind the last whole stretch: pad bytes as words; peer count, state, priority and flushed as cells.
 pub unsafe fn store_pieces(p: *const u8, many: usize, pads: *mut u64, cells: *mut u16) {
-    for i in 0..many {
-        let q = p.add(10 * i);
-        *pads.add(i) = read4(q.add(6)) as u64;
-        *cells.add(i) = read2(q.add(1));
-        *cells.add(many + i) = *q.add(3) as u16;
-        *cells.add(2 * many + i) = *q.add(4) as u16;
-        *cells.add(3 * many + i) = *q.add(5) as u16;
+    let mut i = 0;
+    while i + STRETCH <= many {
+        let mut row = [0; STRETCH];
+        for j in 0..STRETCH {
+            let q = p.add(10 * (i + j));
+            *pads.add(i + j) = read4(q.add(6)) as u64;
+            *cells.add(i + j) = read2(q.add(1));
+            row[j] = read4(q.add(2));
+        }
+        for (f, low) in [16, 8, 0].into_iter().enumerate() {
+            for j in 0..STRETCH {
+                *cells.add((f + 1) * many + i + j) = (row[j] >> low) as u8 as u16;
+            }
+        }
+        i += STRETCH;
     }
 }
 
