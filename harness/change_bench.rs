@@ -375,7 +375,7 @@ fn main() {
         let size = Size { n, b, partials, most: 23, one_group: false };
         print(size, &marked(size, &clock));
     }
-    println!("pieces   b partials      open, the Rust, place marked, added up, put in, in a block   close, the Rust, taken out, in a block");
+    println!("pieces   b partials      open, the Rust, place marked, added, put in, in a block   close, the Rust, taken out, in a block");
     for (n, b, partials) in SIZES {
         print_parts(Size { n, b, partials, most: 23, one_group: false }, &clock);
     }

@@ -1,6 +1,6 @@
 //! Two parts of opening and closing a partial in plain Rust, on the buffers that they are timed on: the lowest free place, and a record put
-//! in or taken out. The place is found as where nothing says that places differ, by marking each; and as where that is known, by adding them up.
-//! The record is put in as where nothing says that they rise by piece, in `edits`; and here as where that is known, by halving.
+//! in or taken out. The place is found as where nothing says that places differ, by marking each; and as where that is known, by adding
+//! them up. The record is put in as where nothing says that they rise by piece, in `edits`; and here as where that is known, by halving.
 
 use crate::records::{DownloadingPiece, ROWS};
 

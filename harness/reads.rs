@@ -256,7 +256,8 @@ fn timed(data: &[u8]) {
         many at once {:.2} and {:.2}, {:.2}", least[3] / 1000.0, least[4] / 1000.0, least[5] / 1000.0, (least[4] + least[5]) / goal,
         least[6] / 1000.0, least[7] / 1000.0, (least[6] + least[7]) / goal);
     let rest = least[8] + least[9];
-    println!("  pieces and list by hand, judged and stored: {:.2} and {:.2} µs; with the blocks a block a turn {:.2} of that goal, many at once {:.2}",
+    println!("  pieces and list by hand, judged and stored: {:.2} and {:.2} µs; with the blocks a block a turn {:.2} of that goal, \
+        many at once {:.2}",
         least[8] / 1000.0, least[9] / 1000.0, (least[4] + least[5] + rest) / goal, (least[6] + least[7] + rest) / goal);
 }
 

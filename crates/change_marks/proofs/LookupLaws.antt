@@ -8,7 +8,8 @@ use Prim.Native.Nat.{ℕ, _<_}
 use native.Mathlib.Omega.{arith}
 use lib.ListN.{getD}
 use Rattle.types.specs.declared.queue.DownloadQueue.{DownloadQueue}
-use Rattle.types.specs.declared.queue.DownloadQueue.the-variants.{Downloading, Full, Finished, ZeroPrio, Open, DownloadingReverse, FullReverse}
+use Rattle.types.specs.declared.queue.DownloadQueue.the-variants.{Downloading, Full, Finished, ZeroPrio, Open}
+use Rattle.types.specs.declared.queue.DownloadQueue.the-variants.{DownloadingReverse, FullReverse}
 use Rattle.types.specs.Queue.{queueNumber}
 use Rattle.model.specs.Lists.{nth, len}
 use Rattle.model.specs.State.{Picker, isOpen, sameQueue, pieceAt}

@@ -154,7 +154,8 @@ pub halves-end : {top from end low size : ℕ} {l : List ℕ} → Halves top fro
 halves-end {top} {from} {end} {low} {size} {l} s h = let e : low + size ≡ low = omega arith in rw e at (s .seen)
 
 -- the last word is up to `top`, and so are all
-pub parted-all : {top from end : ℕ} {l : List ℕ} → Splits top from end l → from < end → getD l (end - 1) 0 ≤ top → Parted top from end l end end
+pub parted-all : {top from end : ℕ} {l : List ℕ} → Splits top from end l → from < end → getD l (end - 1) 0 ≤ top
+    → Parted top from end l end end
 parted-all {top} {from} {end} {l} split lt q = record {
   starts = omega arith;
   rises = omega arith;

@@ -151,7 +151,8 @@ module _ (k end w : ℕ) (l : List ℕ) where
   pushed-end a c h = let q : end ≡ k = omega arith in let lk : k < length l = omega arith in rw (q, slice-empty k l, set-split l k w)
 
   -- the words from k on are one group, as its last one tells
-  pub pushed-whole : {top : ℕ} → k + 1 < end → end < length l → Rises k end l → top ≡ topOf (listedRank (getD l k 0)) → getD l (end - 1) 0 ≤ top
+  pub pushed-whole : {top : ℕ} → k + 1 < end → end < length l → Rises k end l → top ≡ topOf (listedRank (getD l k 0))
+      → getD l (end - 1) 0 ≤ top
       → set (set l k w) end (getD l k 0) ≡ pushed k end w l
   pushed-whole {top} lt le rises et q =
       let n : end - 1 ≡ k → ⊥ = λ e. absurd (omega arith) in

@@ -43,8 +43,8 @@ same-length c = search needs
 returns : tie.Need-returns
 returns c =
     let t = c .before .before .before .before .before .before in
-    pushed-whole (t .args .k) (t .args .end) (t .args .w) (t .args .list .now) (c .before .before .before .before .if1 .taken) (t .pre .1 .0)
-    (t .pre .1 .1) (c .before .top-of .ensures) (c .if2 .taken)
+    pushed-whole (t .args .k) (t .args .end) (t .args .w) (t .args .list .now) (c .before .before .before .before .if1 .taken)
+    (t .pre .1 .0) (t .pre .1 .1) (c .before .top-of .ensures) (c .if2 .taken)
 
 push-requires : tie.Need-push-requires
 push-requires c κs = search needs

@@ -61,7 +61,8 @@ returns c =
     let s = c .before .before .before .before .before .before .before .before .before .before .before .start-of .ensures in
     let h = t .pre .1 .1 .1 .1 .1 .0 in
     let none = t .pre .1 .1 .1 .1 .1 .1 .0 in
-    let q = rank-fell (a .v) (a .w) (t .pre .1 .1 .1 .1 .0) (c .before .before .before .before .before .before .before .before .if1 .taken) in
+    let f = c .before .before .before .before .before .before .before .before .if1 .taken in
+    let q = rank-fell (a .v) (a .w) (t .pre .1 .1 .1 .1 .0) f in
     let group = group-before (a .list .now) (t .pre .1 .0) (omega (arith, s .0, h)) (g .ensures) (omega (arith, q, s .1)) in (
       c .before .before .before .before .to-earlier .ensures
           ∙ goes-earlier (a .v) (a .w) (a .n) (a .list .now) (t .pre .0) h none group (a .draws .now) (a .used) q
@@ -113,7 +114,8 @@ returns-2 c =
     let p = c .before .before .before .before .before .before .before .before .before .place-from in
     let h = t .pre .1 .1 .1 .1 .1 .0 in
     let none = t .pre .1 .1 .1 .1 .1 .1 .0 in
-    let q = rank-rose (a .v) (a .w) (t .pre .1 .1 .1 .1 .0) (c .before .before .before .before .before .before .before .before .if1 .left) in
+    let f = c .before .before .before .before .before .before .before .before .if1 .left in
+    let q = rank-rose (a .v) (a .w) (t .pre .1 .1 .1 .1 .0) f in
     let group = group-behind (a .list .now) (t .pre .1 .0) (omega (arith, p .ensures, h)) (g .ensures)
     (old-rank (a .v) (a .n) (p .result) (a .list .now) (λ (rank : ℕ). rank < listedRank (a .w)) (t .pre .0) h (p .ensures) q) in (
       c .before .before .before .before .to-later .ensures

@@ -83,7 +83,8 @@ request-block-requires c κs =
     let o = f .before .before .before .before .before .before .before .before .before in
     let a = o .args in
     let b = request-beside (a .s) (a .live) (a .rows .now) (a .counts .now) (a .words .now) (a .cells .now) (o .pre .0) (a .i) _
-    (f .partial-of .result) (e .k .given .1) (f .partial-of .ensures) (d .standing-in .result) (d .standing-in .ensures) (a .j) (o .pre .1 .0 .1) in
+    (f .partial-of .result) (e .k .given .1) (f .partial-of .ensures) (d .standing-in .result) (d .standing-in .ensures) (a .j)
+    (o .pre .1 .0 .1) in
     (b, (o .pre .1 .0 .0, omega (arith, o .pre .1 .1 .1 .1)))
 
 same-length-3 : tie.Need-same-length-3
@@ -103,7 +104,8 @@ returns-2 c =
     let o = b .before .before .before .before .before .before in
     let a = o .args in
     let r = marked-found (a .s) (a .live) (a .rows .now) (a .counts .now) (a .words .now) (a .cells .now) (o .pre .0) (a .i) _
-    (f .partial-of .result) (e .k .given .1) (f .partial-of .ensures) (d .standing-in .result) (d .standing-in .ensures) (a .j) (o .pre .1 .0 .1)
+    (f .partial-of .result) (e .k .given .1) (f .partial-of .ensures) (d .standing-in .result) (d .standing-in .ensures) (a .j)
+    (o .pre .1 .0 .1)
     (λ found w. markDownloadingIn (a .draws .now) (a .i) found (a .j) (namedPeer (a .has-peer) (a .peer)) (a .options .0) w) _ _
     (u .request-block .result) (u .request-block .ensures .marks (a .options .0) (b .contains .ensures)) in
     (r, kept-room (a .s) (a .live) (a .rows .now) (a .counts .now) (a .words .now) (a .cells .now) (o .pre .0))

@@ -69,7 +69,8 @@ finish-block-requires c κs =
     let o = f .before .before .before .before .before .before .before in
     let a = o .args in
     let b = finish-beside (a .s) (a .live) (a .rows .now) (a .counts .now) (a .words .now) (a .cells .now) (o .pre .0) (a .i) _
-    (f .partial-of .result) (e .k .given .1) (f .partial-of .ensures) (d .standing-in .result) (d .standing-in .ensures) (a .j) (o .pre .1 .0 .1) in
+    (f .partial-of .result) (e .k .given .1) (f .partial-of .ensures) (d .standing-in .result) (d .standing-in .ensures) (a .j)
+    (o .pre .1 .0 .1) in
     (b, (o .pre .1 .0 .0, omega arith))
 
 same-length-3 : tie.Need-same-length-3

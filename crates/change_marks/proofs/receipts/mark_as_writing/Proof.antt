@@ -68,7 +68,8 @@ write-block-requires c κs =
     let o = f .before .before .before .before .before .before .before in
     let a = o .args in
     let b = tally-beside (a .s) (a .live) (a .rows .now) (a .counts .now) (a .words .now) (a .cells .now) (o .pre .0) (a .i) _
-    (f .partial-of .result) (e .k .given .1) (f .partial-of .ensures) (d .standing-in .result) (d .standing-in .ensures) (a .j) (o .pre .1 .0 .1) in
+    (f .partial-of .result) (e .k .given .1) (f .partial-of .ensures) (d .standing-in .result) (d .standing-in .ensures) (a .j)
+    (o .pre .1 .0 .1) in
     (b, (o .pre .1 .0 .0, omega arith))
 
 same-length-3 : tie.Need-same-length-3
@@ -87,7 +88,8 @@ returns-2 c =
     let o = f .before .before .before .before .before .before .before in
     let a = o .args in
     let r = marked-found (a .s) (a .live) (a .rows .now) (a .counts .now) (a .words .now) (a .cells .now) (o .pre .0) (a .i) _
-    (f .partial-of .result) (e .k .given .1) (f .partial-of .ensures) (d .standing-in .result) (d .standing-in .ensures) (a .j) (o .pre .1 .0 .1)
+    (f .partial-of .result) (e .k .given .1) (f .partial-of .ensures) (d .standing-in .result) (d .standing-in .ensures) (a .j)
+    (o .pre .1 .0 .1)
     (λ found w. markWritingIn (a .draws .now) (a .i) found (a .j) (namedPeer (a .has-peer) (a .peer)) w) _ _
     (u .write-block .result) (u .write-block .ensures .marks) in
     (r, kept-room (a .s) (a .live) (a .rows .now) (a .counts .now) (a .words .now) (a .cells .now) (o .pre .0))
