@@ -7,7 +7,8 @@ ghost use Prim.Native.Nat.{_<_};
 ghost use Rattle.memory_rows.specs.Lookup.{FoundIn};
 ghost use Rattle.change_marks.specs.Marks.{RowsBeside};
 
-// An Open piece (state 4) has none, so that nothing is sought for it.
+// An Open piece (state 4) has none, so that nothing is sought for it. This relies on a well-formed picker: a mark asks before it stores
+// anything.
 pub fn partial_of(cells: &[u16], rows: &[u32], live: usize, s: Shape, i: usize) -> Found
     requires { ⌜ RowsBeside s live (now rows) (now cells) ⌝ }
     requires { ⌜ i < s .pieces ⌝ }
