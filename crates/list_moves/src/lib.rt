@@ -8,16 +8,8 @@ ghost use lib.ListN.{length};
 ghost use Rattle.list_groups.specs.Places.{Rises};
 ghost use Rattle.list_moves.specs.Moves.{NoLower, carried, pushed, pulled};
 
-// The first step towards the end of a group that may be about as long as another one.
-fn stride(long: usize) -> usize
-    requires { ⌜ long < 18446744073709551615 ⌝ }
-    ensures { λ r. ⌜ 0 < r ⌝ }
-{
-    long - long / 8 + 1
-}
-
-// `first` goes to the end of its group; from there the next group's first is held, up to place `end`. Groups of Open pieces and of
-// others take turns, so that a group may be about as long as the last but one: the first step is a little less, and the next goes beyond.
+// `first` goes to the end of its group; from there the next group's first is held, up to place `end`. A group may be about as long as the
+// one before, so the first step is a quarter of that, and the next one goes beyond.
 pub fn carry(list: &mut [u64], from: usize, end: usize, first: u64)
     requires { ⌜ from ≤ end ⌝ }
     requires { ⌜ end < length (now list) ⌝ }
@@ -27,16 +19,14 @@ pub fn carry(list: &mut [u64], from: usize, end: usize, first: u64)
 {
     let mut held = first;
     let mut near = 1;
-    let mut other = 1;
-    let mut k = group_end(list, from, end, 1, top_of(first));
+    let mut k = group_end(list, from, end, near, top_of(first));
     while k < end {
         let next = list[k];
         list[k] = held;
         held = next;
         let start = k + 1;
         k = group_end(list, start, end, near, top_of(held));
-        near = other;
-        other = stride(k - start);
+        near = (k - start) / 4 + 1;
     }
     list[end] = held;
 }
@@ -82,12 +72,10 @@ pub fn pull(list: &mut [u64], k: usize, last: usize)
 {
     let mut hole = k;
     let mut near = 1;
-    let mut other = 1;
     while hole < last {
         let end = group_end(list, hole + 2, last + 1, near, top_of(list[hole + 1]));
         list[hole] = list[end - 1];
-        near = other;
-        other = stride(end - hole);
+        near = (end - hole) / 4 + 1;
         hole = end - 1;
     }
 }

@@ -1,7 +1,7 @@
 -- `carry` meets its contract. The invariant: what is left to carry from k on gives what is to be made. Assumes nothing.
 use borrow.Author.Needs.{needs}
 use mathlib.Core.Path.{refl}
-use Prim.Native.Nat.{_-_, _<_}
+use Prim.Native.Nat.{_-_}
 use native.Mathlib.Omega.{arith}
 use lib.ListN.{set, length-set}
 use Rattle.list_moves.specs.Moves.{carried}
@@ -11,11 +11,10 @@ use Rattle.list_moves.proofs.carry.Statement.{statement}
 use Rattle.list_moves.proofs.carry.Tie as tie
 
 abbrev Inv-loop : tie.InvT-loop
-Inv-loop list₀ from end first held₀ near₀ other₀ k₀ list held near other k =
-    Carries end (carried from end first list₀) list₀ list held k near × (0 < other)
+Inv-loop list₀ from end first held₀ near₀ k₀ list held near k = Carries end (carried from end first list₀) list₀ list held k near
 
 abbrev μ-loop : tie.MeasureT-loop
-μ-loop list₀ from end first held₀ near₀ other₀ k₀ list held near other k = end - k
+μ-loop list₀ from end first held₀ near₀ k₀ list held near k = end - k
 
 top-of-requires : tie.Need-top-of-requires Inv-loop μ-loop
 top-of-requires c κs = tt
@@ -29,11 +28,9 @@ group-end-requires c κs =
 loop-holds : tie.Need-loop-holds Inv-loop μ-loop
 loop-holds c =
     let t = c .before .before .before .before in
-    let a = t .args in (
-      carries-come _ (a .from) (a .end) (a .first) _ _ _ (a .list .now) (a .list .now) (omega arith)
-          (c .before .top-of .ensures) (t .pre .1 .0) refl refl (t .pre .1 .1 .0) (t .pre .1 .1 .1) (c .group-end .ensures),
-      omega arith,
-    )
+    let a = t .args in
+    carries-come _ (a .from) (a .end) (a .first) _ _ _ (a .list .now) (a .list .now) (omega arith)
+    (c .before .top-of .ensures) (t .pre .1 .0) refl refl (t .pre .1 .1 .0) (t .pre .1 .1 .1) (c .group-end .ensures)
 
 mul-next : tie.Need-mul-next Inv-loop μ-loop
 mul-next c = search needs
@@ -42,7 +39,7 @@ slice-read-next : tie.Need-slice-read-next Inv-loop μ-loop
 slice-read-next c =
     let l = c .before .before .loop in
     let p = c .before .before .before .before .before .before .before .pre in
-    omega (arith, l .inv .0 .long, c .before .loop-test .taken, p .1 .0)
+    omega (arith, l .inv .long, c .before .loop-test .taken, p .1 .0)
 
 mul-list : tie.Need-mul-list Inv-loop μ-loop
 mul-list c = search needs
@@ -51,7 +48,7 @@ slice-write-list : tie.Need-slice-write-list Inv-loop μ-loop
 slice-write-list c =
     let l = c .before .before .loop in
     let p = c .before .before .before .before .before .before .before .pre in
-    omega (arith, l .inv .0 .long, c .before .loop-test .taken, p .1 .0)
+    omega (arith, l .inv .long, c .before .loop-test .taken, p .1 .0)
 
 add-start : tie.Need-add-start Inv-loop μ-loop
 add-start c = search needs
@@ -63,49 +60,46 @@ group-end-requires-2 : tie.Need-group-end-requires-2 Inv-loop μ-loop
 group-end-requires-2 c κs =
     let l = c .before .before .before .before .loop in
     let t = c .before .before .before .before .before .before .before .before .before in
-    let rises = rises-behind (l .k) (l .held) (t .args .end) (l .list) (l .inv .0 .rest) in (
+    let rises = rises-behind (l .k) (l .held) (t .args .end) (l .list) (l .inv .rest) in (
       omega (arith, c .before .before .before .loop-test .taken),
       (
-        omega (arith, length-set (l .list) (l .k) (l .held), l .inv .0 .long, t .pre .1 .0),
-        (rises-splits _ _ _ _ (set (l .list) (l .k) (l .held)) (c .top-of2 .ensures) rises, l .inv .0 .some),
+        omega (arith, length-set (l .list) (l .k) (l .held), l .inv .long, t .pre .1 .0),
+        (rises-splits _ _ _ _ (set (l .list) (l .k) (l .held)) (c .top-of2 .ensures) rises, l .inv .some),
       ),
     )
 
-sub-stride : tie.Need-sub-stride Inv-loop μ-loop
-sub-stride c = c .group-end2 .ensures .starts
+sub-near : tie.Need-sub-near Inv-loop μ-loop
+sub-near c = c .group-end2 .ensures .starts
 
-stride-requires : tie.Need-stride-requires Inv-loop μ-loop
-stride-requires c κs =
+add-near : tie.Need-add-near Inv-loop μ-loop
+add-near c =
     let h = c .group-end2 .ensures .ends in
     let p = c .before .before .before .before .before .before .before .before .before .before .pre .1 .0 in search needs
 
 loop-less : tie.Need-loop-less Inv-loop μ-loop
-loop-less c = omega (arith, c .before .group-end2 .ensures .starts, c .before .before .before .before .before .loop-test .taken)
+loop-less c = omega (arith, c .group-end2 .ensures .starts, c .before .before .before .before .loop-test .taken)
 
 loop-again : tie.Need-loop-again Inv-loop μ-loop
 loop-again c =
-    let p = c .before .before .before .before .before .before .before .before .before .before .before .pre in
-    let l = c .before .before .before .before .before .before .loop in (
-      carries-next (l .inv .0) (p .1 .0) (c .before .before .before .before .before .loop-test .taken) _ _ _ (l .inv .1)
-          (c .before .before .top-of2 .ensures) (c .before .group-end2 .ensures),
-      c .stride .ensures,
-    )
+    let p = c .before .before .before .before .before .before .before .before .before .before .pre in
+    carries-next (c .before .before .before .before .before .loop .inv) (p .1 .0)
+    (c .before .before .before .before .loop-test .taken) _ _ _ (omega arith) (c .before .top-of2 .ensures) (c .group-end2 .ensures)
 
 mul-list-2 : tie.Need-mul-list-2 Inv-loop μ-loop
 mul-list-2 c = search needs
 
 slice-write-list-2 : tie.Need-slice-write-list-2 Inv-loop μ-loop
-slice-write-list-2 c = omega (arith, c .before .loop .inv .0 .long, c .before .before .before .before .before .before .pre .1 .0)
+slice-write-list-2 c = omega (arith, c .before .loop .inv .long, c .before .before .before .before .before .before .pre .1 .0)
 
 same-length : tie.Need-same-length Inv-loop μ-loop
 same-length c =
     let l = c .before .loop in
     let a = c .before .before .before .before .before .before .args in
-    omega (arith, l .inv .0 .long, length-set (l .list) (a .end) (l .held))
+    omega (arith, l .inv .long, length-set (l .list) (a .end) (l .held))
 
 returns : tie.Need-returns Inv-loop μ-loop
 returns c =
-    let p = c .before .before .before .before .before .before .pre in carries-end (c .before .loop .inv .0) (p .1 .0) (c .loop-test .left)
+    let p = c .before .before .before .before .before .before .pre in carries-end (c .before .loop .inv) (p .1 .0) (c .loop-test .left)
 
 pub carry-spec : {M : Type 1} → statement M
 carry-spec =
@@ -123,8 +117,8 @@ carry-spec =
     add-start
     top-of-requires-2
     group-end-requires-2
-    sub-stride
-    stride-requires
+    sub-near
+    add-near
     loop-less
     loop-again
     mul-list-2

@@ -1,7 +1,7 @@
 -- `pull` meets its contract. The invariant: what is left to pull over the free place gives what is to be made. Assumes nothing.
 use borrow.Author.Needs.{needs}
 use mathlib.Core.Path.{refl}
-use Prim.Native.Nat.{_-_, _+_, _<_, suc}
+use Prim.Native.Nat.{_-_, _+_, suc}
 use native.Mathlib.Omega.{arith}
 use Rattle.list_moves.specs.Moves.{pulled}
 use Rattle.list_groups.proofs.Searching.{rises-splits}
@@ -11,15 +11,13 @@ use Rattle.list_moves.proofs.pull.Statement.{statement}
 use Rattle.list_moves.proofs.pull.Tie as tie
 
 abbrev Inv-loop : tie.InvT-loop
-Inv-loop list₀ k last hole₀ near₀ other₀ list hole near other = Pulls last (pulled k last list₀) list₀ list hole near × (0 < other)
+Inv-loop list₀ k last hole₀ near₀ list hole near = Pulls last (pulled k last list₀) list₀ list hole near
 
 abbrev μ-loop : tie.MeasureT-loop
-μ-loop list₀ k last hole₀ near₀ other₀ list hole near other = last - hole
+μ-loop list₀ k last hole₀ near₀ list hole near = last - hole
 
 loop-holds : tie.Need-loop-holds Inv-loop μ-loop
-loop-holds c =
-    let t = c .before in
-    (record { left = refl; at = t .pre .0; rest = t .pre .1 .1; some = omega arith; long = refl }, omega arith)
+loop-holds c = let t = c .before in record { left = refl; at = t .pre .0; rest = t .pre .1 .1; some = omega arith; long = refl }
 
 add-group-end : tie.Need-add-group-end Inv-loop μ-loop
 add-group-end c = search needs
@@ -36,7 +34,7 @@ mul-top-of c = search needs
 slice-reshared-read-top-of : tie.Need-slice-reshared-read-top-of Inv-loop μ-loop
 slice-reshared-read-top-of c =
     let p = c .before .before .before .before .pre in
-    omega (arith, c .before .before .loop .inv .0 .long, c .before .loop-test .taken, p .1 .0)
+    omega (arith, c .before .before .loop .inv .long, c .before .loop-test .taken, p .1 .0)
 
 top-of-requires : tie.Need-top-of-requires Inv-loop μ-loop
 top-of-requires c κs = tt
@@ -46,10 +44,9 @@ group-end-requires c κs =
     let l = c .before .before .before .loop in
     let t = c .before .before .before .before .before in
     let last = t .args .last in
-    let rest = l .inv .0 .rest in
-    let rises = rises-within (suc (l .hole)) (suc last) (l .hole + 2) (last + 1) (l .list) (omega arith) (omega arith) rest in (
+    let rises = rises-within (suc (l .hole)) (suc last) (l .hole + 2) (last + 1) (l .list) (omega arith) (omega arith) (l .inv .rest) in (
       omega (arith, c .before .before .loop-test .taken),
-      (omega (arith, l .inv .0 .long, t .pre .1 .0), (rises-splits _ _ _ _ (l .list) (c .top-of .ensures) rises, l .inv .0 .some)),
+      (omega (arith, l .inv .long, t .pre .1 .0), (rises-splits _ _ _ _ (l .list) (c .top-of .ensures) rises, l .inv .some)),
     )
 
 sub-list : tie.Need-sub-list Inv-loop μ-loop
@@ -63,7 +60,7 @@ slice-read-list c =
     let l = c .before .before .before .before .before .loop in
     let p = c .before .before .before .before .before .before .before .pre in
     let g = c .before .group-end .ensures in
-    omega (arith, l .inv .0 .long, c .before .before .before .before .loop-test .taken, g .ends, g .starts, p .1 .0)
+    omega (arith, l .inv .long, c .before .before .before .before .loop-test .taken, g .ends, g .starts, p .1 .0)
 
 mul-list-2 : tie.Need-mul-list-2 Inv-loop μ-loop
 mul-list-2 c = search needs
@@ -72,37 +69,32 @@ slice-write-list : tie.Need-slice-write-list Inv-loop μ-loop
 slice-write-list c =
     let l = c .before .before .before .before .before .loop in
     let p = c .before .before .before .before .before .before .before .pre in
-    omega (arith, l .inv .0 .long, c .before .before .before .before .loop-test .taken, p .1 .0)
+    omega (arith, l .inv .long, c .before .before .before .before .loop-test .taken, p .1 .0)
 
-sub-stride : tie.Need-sub-stride Inv-loop μ-loop
-sub-stride c = search needs
+sub-near : tie.Need-sub-near Inv-loop μ-loop
+sub-near c = search needs
 
-stride-requires : tie.Need-stride-requires Inv-loop μ-loop
-stride-requires c κs =
-    let g = c .before .group-end .ensures in
-    let p = c .before .before .before .before .before .before .before .pre .1 .0 in search needs
+add-near : tie.Need-add-near Inv-loop μ-loop
+add-near c = search needs
 
 sub-hole : tie.Need-sub-hole Inv-loop μ-loop
 sub-hole c = search needs
 
 loop-less : tie.Need-loop-less Inv-loop μ-loop
-loop-less c = omega (arith, c .before .before .group-end .ensures .starts, c .before .before .before .before .before .loop-test .taken)
+loop-less c = omega (arith, c .before .group-end .ensures .starts, c .before .before .before .before .loop-test .taken)
 
 loop-again : tie.Need-loop-again Inv-loop μ-loop
 loop-again c =
-    let p = c .before .before .before .before .before .before .before .before .pre in
-    let l = c .before .before .before .before .before .before .loop in (
-      pulls-next (l .inv .0) (p .1 .0) (c .before .before .before .before .before .loop-test .taken) _ _ _ (l .inv .1)
-          (c .before .before .before .top-of .ensures) (c .before .before .group-end .ensures),
-      c .stride .ensures,
-    )
+    let p = c .before .before .before .before .before .before .before .pre in
+    pulls-next (c .before .before .before .before .before .loop .inv) (p .1 .0) (c .before .before .before .before .loop-test .taken)
+    _ _ _ (omega arith) (c .before .before .top-of .ensures) (c .before .group-end .ensures)
 
 same-length : tie.Need-same-length Inv-loop μ-loop
-same-length c = c .before .loop .inv .0 .long
+same-length c = c .before .loop .inv .long
 
 returns : tie.Need-returns Inv-loop μ-loop
 returns c =
-    let p = c .before .before .before .pre in pulls-end (c .before .loop .inv .0) (p .1 .0) (c .loop-test .left)
+    let p = c .before .before .before .pre in pulls-end (c .before .loop .inv) (p .1 .0) (c .loop-test .left)
 
 pub pull-spec : {M : Type 1} → statement M
 pull-spec =
@@ -123,8 +115,8 @@ pull-spec =
     slice-read-list
     mul-list-2
     slice-write-list
-    sub-stride
-    stride-requires
+    sub-near
+    add-near
     sub-hole
     loop-less
     loop-again
