@@ -197,8 +197,8 @@ module _ (start j k : ℕ) (f g : ℕ → ℕ) (c : List ℕ) (same : (i : ℕ) 
     other = λ x n. q .other x (λ i l e. n (j + i) (omega arith) (omega arith)) ∙ p .other x (λ i l e. n i (omega arith) e);
   }
 
-module _ (x y z t j k many : ℕ) (f g h i f′ g′ h′ i′ : ℕ → ℕ) (a b c : List ℕ) (hj : j + k ≤ many) (hx : x + many ≤ y) (hy : y + many ≤ z)
-    (hz : z + many ≤ t) where
+module _ (x y z t j k many : ℕ) (f g h i f′ g′ h′ i′ : ℕ → ℕ) (a b c : List ℕ) (hj : j + k ≤ many) (hx : x + many ≤ y)
+    (hy : y + many ≤ z) (hz : z + many ≤ t) where
   pub four-on : LaidFour x y z t j f g h i a b → LaidFour (x + j) (y + j) (z + j) (t + j) k f′ g′ h′ i′ b c
       → ((n : ℕ) → n < k → f′ n ≡ f (j + n)) → ((n : ℕ) → n < k → g′ n ≡ g (j + n)) → ((n : ℕ) → n < k → h′ n ≡ h (j + n))
       → ((n : ℕ) → n < k → i′ n ≡ i (j + n)) → LaidFour x y z t (j + k) f g h i a c

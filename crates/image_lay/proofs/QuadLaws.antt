@@ -69,7 +69,8 @@ three-columns x y z many f g h a b c d hx hy p q r = record {
   other = λ k u v w. r .other k w ∙ q .other k v ∙ p .other k u;
 }
 
-pub four-columns : (x y z t many : ℕ) (f g h i : ℕ → ℕ) (a b c : List ℕ) → x + many ≤ y → y + many ≤ z → z + many ≤ t → Laid x many f a b
+pub four-columns : (x y z t many : ℕ) (f g h i : ℕ → ℕ) (a b c : List ℕ) → x + many ≤ y → y + many ≤ z → z + many ≤ t
+    → Laid x many f a b
     → LaidThree y z t many g h i b c → LaidFour x y z t many f g h i a c
 four-columns x y z t many f g h i a b c hx hy hz p q = record {
   long = q .long ∙ p .long;
