@@ -1,14 +1,9 @@
--- How far steps of several records come: in a search, and in a gap that is opened or closed. Assumes nothing.
+-- How far steps of several records come in a gap that is opened or closed. Assumes nothing.
 use mathlib.Core.Path.{_≡_}
-use Prim.Native.Nat.{ℕ, _-_, _<_, _≤_}
+use Prim.Native.Nat.{ℕ, _-_, _≤_}
 use mathlib.Core.List.{List}
-use lib.ListN.{getD}
 use Rattle.memory_records.specs.declared.record.DownloadingPiece.{DownloadingPiece}
-use Rattle.memory_records.specs.Records.{noRecord, openGap, closeGap}
-
--- r is among the first n places, and the records before it are of lower pieces
-abbrev pub Skipped : (n piece : ℕ) (ds : List DownloadingPiece) (r : ℕ) → Type 0
-Skipped n piece ds r = (r ≤ n) × ((k : ℕ) → k < r → getD ds k noRecord .index < piece)
+use Rattle.memory_records.specs.Records.{openGap, closeGap}
 
 -- of the records from i to n - 1 those from r on went up: the rest is the same gap, opened up to r
 abbrev pub Raised : (i n : ℕ) (ds : List DownloadingPiece) (r : ℕ) (es : List DownloadingPiece) → Type 0

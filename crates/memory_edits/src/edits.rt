@@ -4,12 +4,12 @@ ghost use Prim.Native.Nat.{_+_, _-_, _<_, _≤_};
 ghost use lib.ListN.{length};
 ghost use Rattle.memory_records.specs.Records.{Rising, openGap, closeGap, inserted, removed, replaced, EditFits, edited};
 ghost use Rattle.memory_edits.specs.Partway.{Raised, Lowered};
-use crate::search::position;
-use crate::search::seek;
 use memory_records::DownloadingPiece;
 use memory_records::Edit;
 use memory_records::get;
 use memory_records::put;
+use memory_search::position;
+use memory_search::seek;
 
 // The four records from i to n - 1 go up by one place. All are read before one is written, so that they move together.
 fn raise_four(partials: &mut [DownloadingPiece], i: usize, n: usize)

@@ -1,10 +1,8 @@
-// Searches and edits of the lent partial records by piece: one found, put in, taken out or replaced. A change ends with one edit
-// (`memory_walks`).
+// Edits of the lent partial records by piece: one put in, taken out or replaced, where a search (`memory_search`) says. A change ends with
+// one edit (`memory_walks`).
 mod edits;
-mod search;
 
 pub use edits::apply;
 pub use edits::insert;
 pub use edits::remove;
 pub use edits::replace;
-pub use search::find;

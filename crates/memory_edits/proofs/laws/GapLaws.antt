@@ -42,8 +42,8 @@ pub open-four : (i n : ℕ) (ys : List DownloadingPiece) → n ≡ i + 4
     → set (set (set (set ys n (getD ys (i + 3) noRecord)) (i + 3) (getD ys (i + 2) noRecord)) (i + 2) (getD ys (i + 1) noRecord)) (i + 1)
     (getD ys i noRecord) ≡ openGap 4 i ys
 open-four i n ys h =
-    set-same (set-same (set-same (ap (λ (k : ℕ). set ys k (getD ys (i + 3) noRecord)) top) third (sym (at-two i ys))) second (sym (at-one i ys))) first
-    (ap (λ (k : ℕ). getD ys k noRecord) place ∙ sym (at-none i ys))
+    set-same (set-same (set-same (ap (λ (k : ℕ). set ys k (getD ys (i + 3) noRecord)) top) third (sym (at-two i ys))) second
+    (sym (at-one i ys))) first (ap (λ (k : ℕ). getD ys k noRecord) place ∙ sym (at-none i ys))
   where
     top : n ≡ suc (i + 3)
     top = omega (arith, h)

@@ -42,15 +42,15 @@ use denote.Exit.{yes}
 use Rattle.memory_records.specs.declared.record.DownloadingPiece.{DownloadingPiece}
 use Rattle.memory_records.proofs.record.DownloadingPiece as T
 use Rattle.memory_records.proofs.record.DownloadingPiece.Laws as T′
-use Rattle.memory_edits.proofs.laws.FirstLaws.{first-within}
+use Rattle.memory_search.proofs.laws.FirstLaws.{first-within}
 use Rattle.memory_records.proofs.steps.Code.{rec}
 use Rattle.memory_records.proofs.steps.RecordSteps.{Piece-is}
 use Rattle.memory_records.proofs.steps.CallSteps.{call-mut-again, call-shr}
 use Rattle.memory_records.specs.Records.{Rising, aboveFrom, openGap, inserted, insertedAt}
-use Rattle.memory_edits.proofs.search.position as position
-use Rattle.memory_edits.proofs.search.position.Symbol as position-def
-use Rattle.memory_edits.proofs.search.position.Symbol.{name as #position}
-use Rattle.memory_edits.proofs.search.position.Met as position-thm
+use Rattle.memory_search.proofs.position as position
+use Rattle.memory_search.proofs.position.Symbol as position-def
+use Rattle.memory_search.proofs.position.Symbol.{name as #position}
+use Rattle.memory_search.proofs.position.Met as position-thm
 use Rattle.memory_edits.proofs.edits.open_gap as open-gap
 use Rattle.memory_edits.proofs.edits.open_gap.Symbol as open-gap-def
 use Rattle.memory_edits.proofs.edits.open_gap.Symbol.{name as #open-gap}
@@ -216,7 +216,7 @@ insert-spec 𝓤 H 𝓜 𝓖 𝓡 =
     (tables 𝓤 H 𝓜 𝓡 code.env .C) (tables 𝓤 H 𝓜 𝓡 code.env .Λ) #insert code.function (code.unfolded 𝓤 H 𝓜 𝓡)
     (insert-meets 𝓤 H (𝓖 .A) (givenOf 𝓤 H 𝓜 𝓖) (𝓜 .mem) (𝓡 .run) (tablesOf 𝓤 H 𝓜 (tables 𝓤 H 𝓜 𝓡 code.env))
     (cited 𝓤 H (tripleOf 𝓤 H (𝓖 .A) position.signature (position.spec 𝓤 H (𝓖 .A) (𝓜 .mem) (𝓡 .run))) 𝓜 𝓡 code.env #position
-    position-def.routine code.calls-memory-edits·search·position (position-thm.met 𝓤 H 𝓜 𝓖 𝓡))
+    position-def.routine code.calls-memory-search·position (position-thm.met 𝓤 H 𝓜 𝓖 𝓡))
     (cited 𝓤 H (tripleOf 𝓤 H (𝓖 .A) open-gap.signature (open-gap.spec 𝓤 H (𝓖 .A) (𝓜 .mem) (𝓡 .run))) 𝓜 𝓡 code.env #open-gap
     open-gap-def.routine code.calls-memory-edits·edits·open-gap (open-gap-thm.met 𝓤 H 𝓜 𝓖 𝓡))
     (cited 𝓤 H (tripleOf 𝓤 H (𝓖 .A) put.signature (put.spec 𝓤 H (𝓖 .A) (𝓜 .mem) (𝓡 .run))) 𝓜 𝓡 code.env #put put-def.routine

@@ -40,14 +40,14 @@ use denote.Exit.{yes}
 use Rattle.memory_records.specs.declared.record.DownloadingPiece.{DownloadingPiece}
 use Rattle.memory_records.proofs.record.DownloadingPiece as T
 use Rattle.memory_records.proofs.laws.SearchLaws.{holds}
-use Rattle.memory_edits.proofs.laws.FirstLaws.{fails-not}
+use Rattle.memory_search.proofs.laws.FirstLaws.{fails-not}
 use Rattle.memory_records.proofs.steps.Code.{after, word, rec}
 use Rattle.memory_records.proofs.steps.CallSteps.{call-mut-again, call-shr}
 use Rattle.memory_records.specs.Records.{Rising, seekFrom, closeGap, removed, removedAt}
-use Rattle.memory_edits.proofs.search.seek as seek
-use Rattle.memory_edits.proofs.search.seek.Symbol as seek-def
-use Rattle.memory_edits.proofs.search.seek.Symbol.{name as #seek}
-use Rattle.memory_edits.proofs.search.seek.Met as seek-thm
+use Rattle.memory_search.proofs.seek as seek
+use Rattle.memory_search.proofs.seek.Symbol as seek-def
+use Rattle.memory_search.proofs.seek.Symbol.{name as #seek}
+use Rattle.memory_search.proofs.seek.Met as seek-thm
 use Rattle.memory_edits.proofs.edits.close_gap as close-gap
 use Rattle.memory_edits.proofs.edits.close_gap.Symbol as close-gap-def
 use Rattle.memory_edits.proofs.edits.close_gap.Symbol.{name as #close-gap}
@@ -218,6 +218,6 @@ remove-spec 𝓤 H 𝓜 𝓖 𝓡 =
     (tables 𝓤 H 𝓜 𝓡 code.env .C) (tables 𝓤 H 𝓜 𝓡 code.env .Λ) #remove code.function (code.unfolded 𝓤 H 𝓜 𝓡)
     (remove-meets 𝓤 H (𝓖 .A) (givenOf 𝓤 H 𝓜 𝓖) (𝓜 .mem) (𝓡 .run) (tablesOf 𝓤 H 𝓜 (tables 𝓤 H 𝓜 𝓡 code.env))
     (cited 𝓤 H (tripleOf 𝓤 H (𝓖 .A) seek.signature (seek.spec 𝓤 H (𝓖 .A) (𝓜 .mem) (𝓡 .run))) 𝓜 𝓡 code.env #seek seek-def.routine
-    code.calls-memory-edits·search·seek (seek-thm.met 𝓤 H 𝓜 𝓖 𝓡))
+    code.calls-memory-search·seek (seek-thm.met 𝓤 H 𝓜 𝓖 𝓡))
     (cited 𝓤 H (tripleOf 𝓤 H (𝓖 .A) close-gap.signature (close-gap.spec 𝓤 H (𝓖 .A) (𝓜 .mem) (𝓡 .run))) 𝓜 𝓡 code.env #close-gap
     close-gap-def.routine code.calls-memory-edits·edits·close-gap (close-gap-thm.met 𝓤 H 𝓜 𝓖 𝓡)))

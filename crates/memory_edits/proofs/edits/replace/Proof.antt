@@ -42,15 +42,15 @@ use Rattle.memory_records.specs.declared.record.DownloadingPiece.{DownloadingPi
 use Rattle.memory_records.proofs.record.DownloadingPiece as T
 use Rattle.memory_records.proofs.record.DownloadingPiece.Laws as T′
 use Rattle.memory_records.proofs.laws.SearchLaws.{holds}
-use Rattle.memory_edits.proofs.laws.FirstLaws.{fails-not}
+use Rattle.memory_search.proofs.laws.FirstLaws.{fails-not}
 use Rattle.memory_records.proofs.steps.Code.{after, word, rec}
 use Rattle.memory_records.proofs.steps.RecordSteps.{Piece-is}
 use Rattle.memory_records.proofs.steps.CallSteps.{call-mut-again, call-shr}
 use Rattle.memory_records.specs.Records.{Rising, seekFrom, replaced}
-use Rattle.memory_edits.proofs.search.seek as seek
-use Rattle.memory_edits.proofs.search.seek.Symbol as seek-def
-use Rattle.memory_edits.proofs.search.seek.Symbol.{name as #seek}
-use Rattle.memory_edits.proofs.search.seek.Met as seek-thm
+use Rattle.memory_search.proofs.seek as seek
+use Rattle.memory_search.proofs.seek.Symbol as seek-def
+use Rattle.memory_search.proofs.seek.Symbol.{name as #seek}
+use Rattle.memory_search.proofs.seek.Met as seek-thm
 use Rattle.memory_records.proofs.put as put
 use Rattle.memory_records.proofs.put.Symbol as put-def
 use Rattle.memory_records.proofs.put.Symbol.{name as #put}
@@ -214,6 +214,6 @@ replace-spec 𝓤 H 𝓜 𝓖 𝓡 =
     (tables 𝓤 H 𝓜 𝓡 code.env .C) (tables 𝓤 H 𝓜 𝓡 code.env .Λ) #replace code.function (code.unfolded 𝓤 H 𝓜 𝓡)
     (replace-meets 𝓤 H (𝓖 .A) (givenOf 𝓤 H 𝓜 𝓖) (𝓜 .mem) (𝓡 .run) (tablesOf 𝓤 H 𝓜 (tables 𝓤 H 𝓜 𝓡 code.env))
     (cited 𝓤 H (tripleOf 𝓤 H (𝓖 .A) seek.signature (seek.spec 𝓤 H (𝓖 .A) (𝓜 .mem) (𝓡 .run))) 𝓜 𝓡 code.env #seek seek-def.routine
-    code.calls-memory-edits·search·seek (seek-thm.met 𝓤 H 𝓜 𝓖 𝓡))
+    code.calls-memory-search·seek (seek-thm.met 𝓤 H 𝓜 𝓖 𝓡))
     (cited 𝓤 H (tripleOf 𝓤 H (𝓖 .A) put.signature (put.spec 𝓤 H (𝓖 .A) (𝓜 .mem) (𝓡 .run))) 𝓜 𝓡 code.env #put put-def.routine
     code.calls-memory-records·put (put-thm.met 𝓤 H 𝓜 𝓖 𝓡)))

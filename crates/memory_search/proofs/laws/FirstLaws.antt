@@ -11,7 +11,7 @@ use lib.Dec.{T, ltb, eqb, ltb→lt, eqb→eq}
 use Rattle.memory_records.specs.declared.record.DownloadingPiece.{DownloadingPiece}
 use Rattle.memory_records.specs.Records.{noRecord, placeOf, firstFrom, aboveFrom, seekFrom}
 use Rattle.memory_records.proofs.laws.SearchLaws.{holds, fails}
-use Rattle.memory_edits.specs.Partway.{Skipped}
+use Rattle.memory_search.specs.Skips.{Skipped}
 
 pub fails-not : (t : Bool) → T (not t) → t ≡ false
 fails-not true a = absurd a
@@ -36,7 +36,8 @@ pub first-within : (test : ℕ → Bool) (n : ℕ) → firstFrom test n 0 ≤ n
 first-within test n = subst (λ (m : ℕ). firstFrom test n 0 ≤ m) (zero-add n) (first-bound test n 0)
 
 -- what does not pass may be left out in front
-pub passed-over : (test : ℕ → Bool) (m t k : ℕ) → ((j : ℕ) → j < k + m → test j ≡ false) → firstFrom test (m + t) k ≡ firstFrom test t (k + m)
+pub passed-over : (test : ℕ → Bool) (m t k : ℕ) → ((j : ℕ) → j < k + m → test j ≡ false)
+    → firstFrom test (m + t) k ≡ firstFrom test t (k + m)
 passed-over test zero t k h = ap (λ (n : ℕ). firstFrom test n k) same ∙ ap (firstFrom test t) place
   where
     same : 0 + t ≡ t
@@ -58,7 +59,9 @@ passed-over test (suc m) t k h =
 
 pub passed-front : (test : ℕ → Bool) (n r : ℕ) → r ≤ n → ((j : ℕ) → j < r → test j ≡ false) → firstFrom test n 0 ≡ firstFrom test (n - r) r
 passed-front test n r l h =
-    ap (λ (m : ℕ). firstFrom test m 0) whole ∙ passed-over test r (n - r) 0 (λ j k. h j (omega (arith, k))) ∙ ap (firstFrom test (n - r)) place
+    ap (λ (m : ℕ). firstFrom test m 0) whole
+    ∙ passed-over test r (n - r) 0 (λ j k. h j (omega (arith, k)))
+    ∙ ap (firstFrom test (n - r)) place
   where
     whole : n ≡ r + (n - r)
     whole = omega (arith, l)

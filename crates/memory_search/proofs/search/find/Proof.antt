@@ -37,21 +37,21 @@ use Rattle.memory_records.specs.declared.record.DownloadingPiece.{DownloadingPi
 use Rattle.memory_records.proofs.record.DownloadingPiece as T
 use Rattle.memory_records.proofs.steps.CallSteps.{call-plain, call-shr-given}
 use Rattle.memory_records.specs.Records.{answerOf, seekFrom, Rising}
-use Rattle.memory_edits.proofs.search.seek as seek
-use Rattle.memory_edits.proofs.search.seek.Symbol as seek-def
-use Rattle.memory_edits.proofs.search.seek.Symbol.{name as #seek}
-use Rattle.memory_edits.proofs.search.seek.Met as seek-thm
-use Rattle.memory_edits.proofs.search.find.Key.{name as #this}
-use Rattle.memory_edits.proofs.search.find as this
-use Rattle.memory_edits.proofs.search.find.Statement as stated
-use Rattle.memory_edits.proofs.search.find.Code as code
+use Rattle.memory_search.proofs.search.seek as seek
+use Rattle.memory_search.proofs.search.seek.Symbol as seek-def
+use Rattle.memory_search.proofs.search.seek.Symbol.{name as #seek}
+use Rattle.memory_search.proofs.search.seek.Met as seek-thm
+use Rattle.memory_search.proofs.search.find.Key.{name as #this}
+use Rattle.memory_search.proofs.search.find as this
+use Rattle.memory_search.proofs.search.find.Statement as stated
+use Rattle.memory_search.proofs.search.find.Code as code
 use denote.Enum.Laws as EL
 use Rattle.memory_records.specs.declared.search.Found.{Found}
 use Rattle.memory_records.proofs.search.Found as F
 use Rattle.memory_records.proofs.search.Found.Laws as F′
-use Rattle.memory_edits.proofs.search.answer as answer
-use Rattle.memory_edits.proofs.search.answer.Symbol as answer-def
-use Rattle.memory_edits.proofs.search.answer.Met as answer-thm
+use Rattle.memory_search.proofs.search.answer as answer
+use Rattle.memory_search.proofs.search.answer.Symbol as answer-def
+use Rattle.memory_search.proofs.search.answer.Met as answer-thm
 
 abbrev slot : Slot 1
 slot = shrSlice 0 tt (λ _. T.the-row)
@@ -132,7 +132,7 @@ find-spec 𝓤 H 𝓜 𝓖 𝓡 =
     (walk 𝓤 H (𝓖 .A) W (𝓜 .mem) (𝓡 .run) (κs .0) (qs .0) (a .0 .ptr .0) (a .0 .ptr .1) (a .0 .name) (a .0 .now) (a .1 .0) (are .1 .0 .1)
     (a .1 .1 .0) (are .1 .1 .0) (𝓣 .C) (𝓣 .Λ) (fmOf 𝓤 H (W .laws) 𝓣)
     (cited 𝓤 H (tripleOf 𝓤 H (𝓖 .A) seek.signature (seek.spec 𝓤 H (𝓖 .A) (𝓜 .mem) (𝓡 .run))) 𝓜 𝓡 code.env #seek seek-def.routine
-    code.calls-memory-edits·search·seek (seek-thm.met 𝓤 H 𝓜 𝓖 𝓡))
+    code.calls-memory-search·search·seek (seek-thm.met 𝓤 H 𝓜 𝓖 𝓡))
     (cited 𝓤 H (tripleOf 𝓤 H (𝓖 .A) answer.signature (answer.spec 𝓤 H (𝓖 .A) (𝓜 .mem) (𝓡 .run))) 𝓜 𝓡 code.env answer-def.name
-    answer-def.routine code.calls-memory-edits·search·answer (answer-thm.met 𝓤 H 𝓜 𝓖 𝓡))
+    answer-def.routine code.calls-memory-search·search·answer (answer-thm.met 𝓤 H 𝓜 𝓖 𝓡))
     (are .0 .0 .1)))))

@@ -1,7 +1,7 @@
 // The place of a piece's record among the first n, and the place where a record of a piece belongs.
 ghost use mathlib.Core.Path.{_≡_};
 ghost use Rattle.memory_records.specs.Records.{Rising, answerOf, seekFrom, aboveFrom};
-ghost use Rattle.memory_edits.specs.Partway.{Skipped};
+ghost use Rattle.memory_search.specs.Skips.{Skipped};
 use memory_records::DownloadingPiece;
 use memory_records::Found;
 use memory_records::get;

@@ -46,7 +46,7 @@ use denote.Triple.Walked.{walk-meets}
 use denote.Exit.{yes}
 use Rattle.memory_records.specs.declared.record.DownloadingPiece.{DownloadingPiece}
 use Rattle.memory_records.specs.Records.{noRecord, Rising}
-use Rattle.memory_edits.specs.Partway.{Skipped}
+use Rattle.memory_search.specs.Skips.{Skipped}
 use Rattle.memory_records.proofs.record.DownloadingPiece as P
 use Rattle.memory_records.proofs.record.DownloadingPiece.Laws as P′
 use Rattle.memory_records.proofs.laws.RisingLaws.{lower-up-to}
@@ -55,11 +55,11 @@ use Rattle.memory_records.proofs.steps.RecordSteps.{Get, get-call-shr}
 use Rattle.memory_records.proofs.get.Symbol as get-def
 use Rattle.memory_records.proofs.get.Symbol.{name as #get}
 use Rattle.memory_records.proofs.get.Met as get-thm
-use Rattle.memory_edits.proofs.search.skip_lower.Key.{name as #skip}
-use Rattle.memory_edits.proofs.search.skip_lower as skip
-use Rattle.memory_edits.proofs.search.skip_lower.Statement as stated
-use Rattle.memory_edits.proofs.search.skip_lower.Code as code
-use Rattle.memory_edits.proofs.search.skip_lower.Code.Mir as body
+use Rattle.memory_search.proofs.search.skip_lower.Key.{name as #skip}
+use Rattle.memory_search.proofs.search.skip_lower as skip
+use Rattle.memory_search.proofs.search.skip_lower.Statement as stated
+use Rattle.memory_search.proofs.search.skip_lower.Code as code
+use Rattle.memory_search.proofs.search.skip_lower.Code.Mir as body
 
 abbrev stayed : Stays (skip.ended .signature .params) (skip.ended .kept)
 stayed = (stay-none-slice (0 ∷ []) tt (plain (λ _. P.the-row)) yes, (stay-none (λ _. usize) yes, (stay-none (λ _. u32) yes, tt)))

@@ -1,8 +1,8 @@
 -- `search::answer` meets its contract.
 use mathlib.Core.Path.{sym}
 use Rattle.memory_records.proofs.laws.SearchLaws.{at-hit, at-miss}
-use Rattle.memory_edits.proofs.search.answer.Statement.{statement}
-use Rattle.memory_edits.proofs.search.answer.Tie as tie
+use Rattle.memory_search.proofs.search.answer.Statement.{statement}
+use Rattle.memory_search.proofs.search.answer.Tie as tie
 
 returns : tie.Need-returns
 returns c = sym (at-hit _ _ (c .if1 .taken))
