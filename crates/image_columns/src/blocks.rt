@@ -1,7 +1,7 @@
 // The blocks of a partial, which stand thirteen bytes apart behind its record.
 use crate::offsets::cells_start;
 use crate::offsets::peers_start;
-use image_lay::lay_blocks;
+use image_lay_blocks::lay_blocks;
 use memory_layout::Shape;
 ghost use Prim.Native.Nat.{_+_, _*_, _≤_, _<_};
 ghost use lib.ListN.{length};

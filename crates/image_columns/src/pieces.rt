@@ -1,5 +1,5 @@
 // The pieces, which stand ten bytes apart behind the head.
-use image_lay::lay_pieces;
+use image_lay_pieces::lay_pieces;
 ghost use Prim.Native.Nat.{_+_, _*_, _≤_};
 ghost use lib.ListN.{length};
 ghost use Rattle.image_columns.specs.Columns.{PiecesStored};

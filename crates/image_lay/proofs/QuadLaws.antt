@@ -7,29 +7,11 @@ use native.Mathlib.Omega.{arith}
 use lib.ListN.{length, getD, set, length-set}
 use lib.Seq.{getD-set-same, getD-set-other}
 use Rattle.model.specs.image.Image.{field}
-use Rattle.image_bytes.specs.Put.{FieldRead}
 use Rattle.image_lay.specs.Laid.{fieldsAt, Laid, LaidThree, LaidFour}
-use Rattle.image_lay.specs.Quads.{BlockQuad, PieceQuad, Filled, partOf}
+use Rattle.image_lay.specs.Quads.{Filled, partOf}
 use Rattle.image_lay.proofs.LaidLaws.{below-column}
 
--- ---- put in
-pub block-quad : (at : ℕ) (bytes : List ℕ) (s n h r : ℕ) → FieldRead (at + 1) 1 bytes s → FieldRead (at + 2) 2 bytes n
-    → FieldRead (at + 4) 1 bytes h → r ≡ s * 16777216 + (n * 256 + h) → BlockQuad at bytes r
-block-quad at bytes s n h r fs fn fh e =
-    let es : r / 16777216 % 256 ≡ s = omega (arith, fs .small, fn .small, fh .small) in
-    let en : r / 256 % 65536 ≡ n = omega (arith, fs .small, fn .small, fh .small) in
-    let eh : r / 1 % 256 ≡ h = omega (arith, fs .small, fn .small, fh .small) in
-    record { state = es ∙ fs .is; numPeers = en ∙ fn .is; has = eh ∙ fh .is }
-
-pub piece-quad : (at : ℕ) (bytes : List ℕ) (c s p f r : ℕ) → FieldRead (at + 3) 1 bytes s → FieldRead (at + 4) 1 bytes p
-    → FieldRead (at + 5) 1 bytes f → r ≡ (c * 256 + s) * 65536 + (p * 256 + f) → PieceQuad at bytes r
-piece-quad at bytes c s p f r fs fp ff e =
-    let es : r / 65536 % 256 ≡ s = omega (arith, fs .small, fp .small, ff .small) in
-    let ep : r / 256 % 256 ≡ p = omega (arith, fs .small, fp .small, ff .small) in
-    let ef : r / 1 % 256 ≡ f = omega (arith, fs .small, fp .small, ff .small) in
-    record { state = es ∙ fs .is; priority = ep ∙ fp .is; flushed = ef ∙ ff .is }
-
--- one after another
+-- ---- put in, one after another
 module _ (such : ℕ → ℕ → Type 0) (a : List ℕ) where
   pub filled-start : Filled 0 such a a
   filled-start = record { long = refl; each = λ j h. absurd (omega arith) }
