@@ -1,3 +1,4 @@
 pub mod RisingLaws
 pub mod LookupLaws
+pub mod StepLaws
 pub mod CountedLaws
