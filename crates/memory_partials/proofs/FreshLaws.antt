@@ -2,17 +2,19 @@
 use mathlib.Core.Path.{_≡_, refl, sym, ap, subst, _∙_}
 use mathlib.Core.Option.{none}
 use mathlib.Core.List.{List}
-use Prim.Native.Nat.{ℕ, _+_, _<_}
+use Prim.Native.Nat.{ℕ, suc, _+_, _<_}
 use native.Mathlib.Decide.{ℕ-discrete}
 use native.Mathlib.Omega.{arith}
 use Rattle.types.specs.declared.block.BlockState.{BlockState}
 use Rattle.model.specs.Bep3.{numPieces, pieceBlocks}
 use Rattle.model.specs.State.{Block, pieceAt, blocksInPiece, payloadBlocksInPiece}
 use Rattle.model.specs.change.Partials.{freshBlock}
+use Rattle.model.proofs.base.Bep3Laws.{blocksInPiece-whole}
 use Rattle.geometry.specs.Numbers.{payloadBlocks}
+use Rattle.geometry.proofs.PartLaws.{part-some}
 use Rattle.memory_layout.specs.declared.shape.Shape.{Shape}
 use Rattle.memory_layout.specs.Offsets.{placesFor}
-use Rattle.memory_layout.specs.Decode.{headWord, blockCell, piecesOn, blocksOf, stateFrom, blockHeld}
+use Rattle.memory_layout.specs.Decode.{headWord, blockCell, piecesOn, blocksOn, blocksOf, stateFrom, blockHeld}
 use Rattle.memory_layout.specs.Bounds.{ShapeOf, CellsSpan, PlainBlock}
 use Rattle.memory_layout.proofs.Parts.{block-same}
 use Rattle.memory_layout.proofs.BoundsLaws.{cells-kept-none, cells-kept-again}
@@ -26,6 +28,13 @@ pub piece-low : (s : Shape) (words : List ℕ) → ShapeOf s words → (i total 
     → size ≡ headWord words 1 → k ≡ i → k < numPieces total size
 unfolding piecesOn
 piece-low s words r i total size k h et ez ek = rw (et, ez, ek, ← (r .pieces)) h
+
+-- one that is not the last is whole
+pub blocks-whole : (s : Shape) (words : List ℕ) → ShapeOf s words → (i : ℕ) → i + 1 < s .pieces → s .blocks ≡ blocksOf words i
+unfolding piecesOn blocksOn blocksOf numPieces
+blocks-whole s words r i h =
+    let l : suc i < numPieces (headWord words 0) (headWord words 1) = omega (arith, h, r .pieces) in
+    r .blocks ∙ sym (blocksInPiece-whole (headWord words 0) (headWord words 1) i (part-some (headWord words 0) _ (suc i) l) l)
 
 pub blocks-is : (words : List ℕ) (i total size k v w : ℕ) → total ≡ headWord words 0 → size ≡ headWord words 1 → k ≡ i
     → v ≡ pieceBlocks total size k → w ≡ v → w ≡ blocksOf words i

@@ -23,12 +23,15 @@ ghost use Rattle.memory_layout.specs.Bounds.{WordsSpan, CellsSpan, ShapeOf, InB
 ghost use Rattle.memory_fields.specs.Reading.{WordsSay};
 ghost use Rattle.memory_partials.specs.Partials.{Fresh, Opened};
 
-// The number of blocks of piece i.
+// The number of blocks of piece i. Every piece but the last one is whole.
 pub fn blocks_in_piece(words: &[u64], s: Shape, i: usize) -> usize
     requires { ⌜ (WordsSpan s (now words)) × (ShapeOf s (now words)) ⌝ }
     requires { ⌜ i < s .pieces ⌝ }
     ensures { λ r. ⌜ r ≡ blocksOf (now (words .entry)) i ⌝ }
 {
+    if i + 1 < s.pieces {
+        return s.blocks;
+    }
     let total = head_word(words, 0);
     let size = head_word(words, 1);
     u64_to_usize(blocks_at(total, size, usize_to_u64(i)))
