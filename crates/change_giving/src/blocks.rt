@@ -1,7 +1,10 @@
 // A block of a standing partial given back. Both functions start from the first draw.
 use crate::peers::release;
+use change_blocks::retally;
+use change_blocks::set_block;
 use change_returns::Given;
-use change_returns::free_block;
+use change_returns::close_partial;
+use change_returns::is_last;
 use change_state::Tally;
 use memory_blocks::BlockInfo;
 use memory_blocks::get_block;
@@ -47,13 +50,21 @@ pub fn release_block(
             used: 0,
         };
     }
+    if is_last(t) {
+        return close_partial(words, cells, s, i, draws);
+    }
     let x = BlockInfo {
         state: 0,
         num_peers: 0,
         has_peer: false,
         peer: b.peer,
     };
-    free_block(words, cells, s, i, p, j, 1, x, t, draws, 0)
+    let after = retally(t, 1, 0);
+    let next = set_block(words, cells, s, i, p, j, x, after, draws, 0);
+    Given {
+        edit: Edit::Keep,
+        used: next,
+    }
 }
 
 // Block j of that partial after its write failed: a Writing one is free, a Finished one stays, and any other gets the named peer.
@@ -82,13 +93,21 @@ pub fn cancel_block(
         };
     }
     if b.state == 2 {
+        if is_last(t) {
+            return close_partial(words, cells, s, i, draws);
+        }
         let x = BlockInfo {
             state: 0,
             num_peers: b.num_peers,
             has_peer: has_peer,
             peer: peer,
         };
-        return free_block(words, cells, s, i, p, j, 2, x, t, draws, 0);
+        let after = retally(t, 2, 0);
+        let next = set_block(words, cells, s, i, p, j, x, after, draws, 0);
+        return Given {
+            edit: Edit::Keep,
+            used: next,
+        };
     }
     let x = BlockInfo {
         state: b.state,

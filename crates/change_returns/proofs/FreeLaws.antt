@@ -12,6 +12,7 @@ use Rattle.model.specs.list.Order.{Draws}
 use Rattle.model.specs.change.Partials.{progress, blocksInState, eraseAndUpdate}
 use Rattle.model.specs.change.Changes.{setBlock, freeBlock}
 use Rattle.memory_records.specs.declared.record.DownloadingPiece.{DownloadingPiece as Record}
+use Rattle.memory_records.specs.declared.edits.Edit.{Edit}
 use Rattle.memory_records.specs.declared.edits.Edit.the-variants.{Keep, Remove}
 use Rattle.memory_records.specs.Records.{edited}
 use Rattle.memory_layout.specs.declared.shape.Shape.{Shape}
@@ -97,16 +98,16 @@ module _ (s : Shape) (words cells : List ℕ) (i p j old : ℕ) (t : Tally) wher
 
   module _ (x : BlockInfo) (draws : Draws) (used : ℕ) (words′ cells′ : List ℕ) (next : ℕ) where
     -- closed
-    pub freed-closed : (n : ℕ) → n ≡ i → true ≡ (eqb (t .busy) 1 && not (t .hashing))
+    pub freed-closed : (edit : Edit) → edit ≡ Remove i → true ≡ (eqb (t .busy) 1 && not (t .hashing))
         → ErasedAndUpdated s draws i words cells used words′ cells′ next
-        → BlockFreed s draws i p j old x t words cells used words′ cells′ (Remove n) next
+        → BlockFreed s draws i p j old x t words cells used words′ cells′ edit next
     unfolding freeBlock
-    freed-closed n e o g = record {
-      edits = ap Remove e ∙ ap (closing i) o;
+    freed-closed edit e o g = record {
+      edits = e ∙ ap (closing i) o;
       went = λ records k b.
           let d = decode records words cells in
-          subst (λ (m : ℕ). Went s (freeBlock draws i (partialIn d k) j (blockOf x)) records words cells used
-          (edited (headWord words 7) (Remove m) records) words′ cells′ next) (sym e)
+          subst (λ (m : Edit). Went s (freeBlock draws i (partialIn d k) j (blockOf x)) records words cells used
+          (edited (headWord words 7) m records) words′ cells′ next) (sym e)
           (went-named s records words cells used (edited (headWord words 7) (Remove i) records) words′ cells′ next (eraseAndUpdate draws i)
           (freeBlock draws i (partialIn d k) j (blockOf x)) (rw (← test-is records k b, ← o)) (g .went records (has records k b)));
     }

@@ -1,5 +1,6 @@
-// A block of a standing partial given back: it is free again, and a partial with no other block at work is closed. A step of a change.
-mod freeing;
+// A partial closed with the last of its blocks that is at work, and what a block made free comes to (`specs/Giving`). A step of a change.
+mod closing;
 
-pub use freeing::Given;
-pub use freeing::free_block;
+pub use closing::Given;
+pub use closing::close_partial;
+pub use closing::is_last;
