@@ -20,8 +20,9 @@ use Rattle.pick_state.specs.PickStates.{stateOf}
 use Rattle.pick_free.specs.Picking.{Picks}
 use Rattle.pick_start.specs.Starting.{requestWith, forcedNumbers, effectiveNumbers, startNumbers}
 use Rattle.pick_start.proofs.StartLaws.{Begun, start-begun, effective-is, start-is}
+use Rattle.pick_phases.specs.Phases.{pickPhases, LowLoops, Ended}
 use Rattle.pick_pieces.specs.declared.pieces.Picked.{Picked}
-use Rattle.pick_pieces.specs.Whole.{pickPhases, Ended, LowLoops, loopsOf, PickGave, PickLeft}
+use Rattle.pick_pieces.specs.Whole.{loopsOf, PickGave, PickLeft}
 use Rattle.pick_pieces.proofs.WholeLaws.{phases-are}
 
 -- ---- what is asked

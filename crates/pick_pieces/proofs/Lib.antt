@@ -1,3 +1,2 @@
-pub mod UsedLaws
 pub mod WholeLaws
 pub mod GaveLaws

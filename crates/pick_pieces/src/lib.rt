@@ -1,5 +1,4 @@
-// One pick: partials, suggestions, sequential, rarest or random, backup blocks, end game. A spent N stops it.
-mod phases;
+// One pick: forced or not, the numbers that it starts with, the phases (`pick_phases`), and what they came to as one answer.
 mod pieces;
 
 pub use pieces::Picked;

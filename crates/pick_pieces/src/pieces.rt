@@ -1,6 +1,6 @@
 // `pick_pieces` on a picker that stands.
-use crate::phases::pick_phases;
 use memory_layout::Shape;
+use pick_phases::pick_phases;
 use pick_start::effective_request;
 use pick_start::is_forced;
 use pick_start::start_pick;
@@ -93,8 +93,8 @@ fn pick_with(
     }
 }
 
-// The blocks picked stand in the output from `end` on, each as a word: piece · 65,536 + block. Where few are wanted, a small room for blocks
-// set aside is cleared.
+// The blocks picked stand in the output from `end` on, each as a word: piece · 65,536 + block. Where few are wanted, a small room for
+// blocks set aside is cleared.
 pub fn pick_pieces(
     words: &mut [u64],
     cells: &[u16],

@@ -17,12 +17,14 @@ use Rattle.pick_pieces.proofs.pieces.pick_with.Tie as tie
 
 is-forced-requires : tie.Need-is-forced-requires
 is-forced-requires c κs =
-    let a = c .before .before .before .before .before .before .before .before .args in
-    let p = c .before .before .before .before .before .before .before .before .pre in
+    let c8 = c .before .before .before .before .before .before .before .before in
+    let a = c8 .args in
+    let p = c8 .pre in
     let g = p .0 .asked in (
       g .stands .bounds .spans .inCells,
       (
-        in-queues (a .s) (a .live) (a .rows .now) (a .words .now) (a .cells .now) (record { bounds = g .stands .bounds; many = g .many }) (g .stands .sound),
+        in-queues (a .s) (a .live) (a .rows .now) (a .words .now) (a .cells .now) (record { bounds = g .stands .bounds; many = g .many })
+            (g .stands .sound),
         (g .wide, p .1 .1 .0 .peers),
       ),
     )
@@ -41,12 +43,16 @@ slice-aggregate-pick-phases-2 c = search needs
 
 pick-phases-requires : tie.Need-pick-phases-requires
 pick-phases-requires c κs =
-    let a = c .before .before .before .before .before .before .before .before .before .before .before .before .before .before .before .before .args in
-    let p = c .before .before .before .before .before .before .before .before .before .before .before .before .before .before .before .before .pre in
+    let c5 = c .before .before .before .before .before in
+    let c6 = c5 .before in
+    let c7 = c6 .before in
+    let c16 = c7 .before .before .before .before .before .before .before .before .before in
+    let a = c16 .args in
+    let p = c16 .pre in
     let d = pickerIn (a .live) (a .rows .now) (a .words .now) (a .cells .now) in
-    let f = c .before .before .before .before .before .before .before .is-forced .result in
-    let q = c .before .before .before .before .before .before .effective-request in
-    let t = c .before .before .before .before .before .start-pick in
+    let f = c7 .is-forced .result in
+    let q = c6 .effective-request in
+    let t = c5 .start-pick in
     let b = whole-begun (a .q) (a .end) f (q .result) (q .ensures) (t .result) (t .ensures) in
     let g = p .1 .1 .0 in
     let n = b .left in
@@ -95,17 +101,25 @@ same-length-3 c = c .before .before .before .before .before .before .before .bef
 returns : tie.Need-returns
 unfolding requestWith
 returns c =
-    let a = c .before .before .before .before .before .before .before .before .before .before .before .before .before .before .before .before .before .before .before .before .before .before .before .before .before .args in
-    let p = c .before .before .before .before .before .before .before .before .before .before .before .before .before .before .before .before .before .before .before .before .before .before .before .before .before .pre in
+    let c8 = c .before .before .before .before .before .before .before .before in
+    let c14 = c8 .before .before .before .before .before .before in
+    let c15 = c14 .before in
+    let c16 = c15 .before in
+    let c25 = c16 .before .before .before .before .before .before .before .before .before in
+    let a = c25 .args in
+    let p = c25 .pre in
     let g = p .0 .asked in
-    let f = c .before .before .before .before .before .before .before .before .before .before .before .before .before .before .before .before .is-forced in
-    let q = c .before .before .before .before .before .before .before .before .before .before .before .before .before .before .before .effective-request in
-    let t = c .before .before .before .before .before .before .before .before .before .before .before .before .before .before .start-pick in
-    let x = c .before .before .before .before .before .before .before .before .pick-phases .ensures in
+    let f = c16 .is-forced in
+    let q = c15 .effective-request in
+    let t = c14 .start-pick in
+    let x = c8 .pick-phases .ensures in
     let is = each numberOf (a .suggestions .now) in
-    let e = f .ensures .is (a .words .now) (record { bounds = g .stands .bounds; many = g .many }) (requestWith (a .q) (a .bytes .now) is) refl in (
-      whole-gave (a .q) (a .end) (f .result) (q .result) (q .ensures) (t .result) (t .ensures) (a .draws .now) (a .bytes .now) is e refl refl x,
-      whole-left (a .q) (a .end) (f .result) (q .result) (q .ensures) (t .result) (t .ensures) (a .draws .now) (a .bytes .now) is e refl refl x,
+    let r = requestWith (a .q) (a .bytes .now) is in
+    let e = f .ensures .is (a .words .now) (record { bounds = g .stands .bounds; many = g .many }) r refl in (
+      whole-gave (a .q) (a .end) (f .result) (q .result) (q .ensures) (t .result) (t .ensures) (a .draws .now) (a .bytes .now) is e refl
+          refl x,
+      whole-left (a .q) (a .end) (f .result) (q .result) (q .ensures) (t .result) (t .ensures) (a .draws .now) (a .bytes .now) is e refl
+          refl x,
     )
 
 pub pick-with-spec : {M : Type 1} → statement M

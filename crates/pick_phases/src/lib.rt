@@ -1,4 +1,4 @@
-// The phases of a pick, up to where no block is wanted.
+// The phases of a pick: partials, suggestions, sequential, rarest or random, backup blocks, end game. A spent N stops it.
 use memory_layout::Shape;
 use pick_listed::pick_listed;
 use pick_partials::pick_partials;
@@ -21,7 +21,7 @@ ghost use Rattle.pick_state.specs.Room.{Underway};
 ghost use Rattle.pick_free.specs.Picking.{Picks};
 ghost use Rattle.pick_visits.specs.Steps.{Stepped, Risen};
 ghost use Rattle.pick_extents.specs.Extents.{Moved};
-ghost use Rattle.pick_pieces.specs.Whole.{pickFirst, pickLast, pickPhases, LowLoops, Ended};
+ghost use Rattle.pick_phases.specs.Phases.{pickFirst, pickLast, pickPhases, LowLoops, Ended};
 
 // Sequential and rarest, or random.
 fn pick_main(

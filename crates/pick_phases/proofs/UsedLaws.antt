@@ -23,7 +23,7 @@ use Rattle.pick_state.specs.declared.numbers.PickNumbers.{PickNumbers}
 use Rattle.pick_state.specs.PickStates.{stateOf}
 use Rattle.pick_state.proofs.TakeLaws.{between-length}
 use Rattle.pick_visits.specs.Steps.{Risen}
-use Rattle.pick_pieces.specs.Whole.{LowLoops}
+use Rattle.pick_phases.specs.Phases.{LowLoops}
 
 -- ---- draws
 module _ (n : ℕ) where

@@ -5,10 +5,10 @@ use borrow.Author.Needs.{needs}
 use Rattle.model.specs.pick.Blocks.{option}
 use Rattle.pick_state.specs.Requests.{requestOf}
 use Rattle.pick_extents.proofs.MoveLaws.{stepped-moved}
-use Rattle.pick_pieces.proofs.UsedLaws.{risen-most}
-use Rattle.pick_pieces.proofs.WholeLaws.{main-listed, main-random, main-used}
-use Rattle.pick_pieces.proofs.phases.pick_main.Statement.{statement}
-use Rattle.pick_pieces.proofs.phases.pick_main.Tie as tie
+use Rattle.pick_phases.proofs.UsedLaws.{risen-most}
+use Rattle.pick_phases.proofs.PhaseLaws.{main-listed, main-random, main-used}
+use Rattle.pick_phases.proofs.pick_main.Statement.{statement}
+use Rattle.pick_phases.proofs.pick_main.Tie as tie
 
 contains-requires : tie.Need-contains-requires
 contains-requires c κs = search needs
@@ -18,7 +18,9 @@ contains-requires-2 c κs = search needs
 
 pick-listed-requires : tie.Need-pick-listed-requires
 pick-listed-requires c κs =
-    let p = c .before .before .before .before .before .before .before .before .before .before .before .before .before .before .before .before .before .pre in
+    let c14 = c .before .before .before .before .before .before .before .before .before .before .before .before .before .before in
+    let c17 = c14 .before .before .before in
+    let p = c17 .pre in
     let l = p .1 .1 .2 in
     let z = p .1 .1 .1 in
     (p .0, (p .1 .0, (p .1 .1 .0, omega arith, omega (arith, l .low 2), omega (arith, l .low 3))))
@@ -41,11 +43,17 @@ same-length-5 c = c .before .before .before .before .before .before .before .bef
 returns : tie.Need-returns
 unfolding option requestOf
 returns c =
-    let a = c .before .before .before .before .before .before .before .before .before .before .before .before .before .before .before .before .before .before .before .before .before .before .before .before .before .before .before .before .args in
-    let p = c .before .before .before .before .before .before .before .before .before .before .before .before .before .before .before .before .before .before .before .before .before .before .before .before .before .before .before .before .pre in
-    let x = c .before .before .before .before .before .before .before .before .before .before .pick-listed .ensures in
+    let c10 = c .before .before .before .before .before .before .before .before .before .before in
+    let c16 = c10 .before .before .before .before .before .before in
+    let c17 = c16 .before in
+    let c18 = c17 .before in
+    let c28 = c18 .before .before .before .before .before .before .before .before .before .before in
+    let a = c28 .args in
+    let p = c28 .pre in
+    let x = c10 .pick-listed .ensures in
     let r = requestOf (a .q) (a .bytes .now) in (
-      main-listed (a .draws .now) r (c .before .before .before .before .before .before .before .before .before .before .before .before .before .before .before .before .before .before .contains .result) (c .before .before .before .before .before .before .before .before .before .before .before .before .before .before .before .before .before .contains2 .result) (c .before .before .before .before .before .before .before .before .before .before .before .before .before .before .before .before .before .before .contains .ensures) (c .before .before .before .before .before .before .before .before .before .before .before .before .before .before .before .before .before .contains2 .ensures) (c .before .before .before .before .before .before .before .before .before .before .before .before .before .before .before .before .if1 .taken) (x .0),
+      main-listed (a .draws .now) r (c18 .contains .result) (c17 .contains2 .result) (c18 .contains .ensures)
+          (c17 .contains2 .ensures) (c16 .if1 .taken) (x .0),
       (
         risen-most (omega arith) (x .1),
         main-used (a .draws .now) r (p .0) (p .1 .1 .0) (p .1 .1 .1) (x .0),
@@ -54,7 +62,9 @@ returns c =
 
 pick-random-requires : tie.Need-pick-random-requires
 pick-random-requires c κs =
-    let p = c .before .before .before .before .before .before .before .before .before .before .before .before .before .before .before .before .before .pre in
+    let c14 = c .before .before .before .before .before .before .before .before .before .before .before .before .before .before in
+    let c17 = c14 .before .before .before in
+    let p = c17 .pre in
     let l = p .1 .1 .2 in
     let z = p .1 .1 .1 in
     (p .0, (p .1 .0, (p .1 .1 .0, omega arith, omega (arith, l .low 4), omega (arith, l .low 5))))
@@ -77,14 +87,19 @@ same-length-10 c = c .before .before .before .before .before .before .before .be
 returns-2 : tie.Need-returns-2
 unfolding option requestOf
 returns-2 c =
-    let a = c .before .before .before .before .before .before .before .before .before .before .before .before .before .before .before .before .before .before .before .before .before .before .before .before .before .before .args in
-    let p = c .before .before .before .before .before .before .before .before .before .before .before .before .before .before .before .before .before .before .before .before .before .before .before .before .before .before .pre in
-    let x = c .before .before .before .before .before .before .before .before .pick-random .ensures in
+    let c8 = c .before .before .before .before .before .before .before .before in
+    let c14 = c8 .before .before .before .before .before .before in
+    let c15 = c14 .before in
+    let c16 = c15 .before in
+    let c26 = c16 .before .before .before .before .before .before .before .before .before .before in
+    let a = c26 .args in
+    let p = c26 .pre in
+    let x = c8 .pick-random .ensures in
     let r = requestOf (a .q) (a .bytes .now) in
     let u = x .1 .1 in
     let z = p .1 .1 .1 in (
-      main-random (a .draws .now) r (c .before .before .before .before .before .before .before .before .before .before .before .before .before .before .before .before .contains .result) (c .before .before .before .before .before .before .before .before .before .before .before .before .before .before .before .contains2 .result) (c .before .before .before .before .before .before .before .before .before .before .before .before .before .before .before .before .contains .ensures) (c .before .before .before .before .before .before .before .before .before .before .before .before .before .before .before .contains2 .ensures) (c .before .before .before .before .before .before .before .before .before .before .before .before .before .before .if1 .left)
-          (stepped-moved (p .0) (x .0)),
+      main-random (a .draws .now) r (c16 .contains .result) (c15 .contains2 .result) (c16 .contains .ensures)
+          (c15 .contains2 .ensures) (c14 .if1 .left) (stepped-moved (p .0) (x .0)),
       (
         x .1 .0,
         omega arith,
