@@ -16,8 +16,9 @@ use Rattle.change_flags.specs.Flagging.{EditAlone}
 use Rattle.change_marks.specs.Marks.{MarkDone}
 use Rattle.change_priority.specs.declared.changes.PrioritySet.{PrioritySet}
 use Rattle.change_priority.specs.Saying.{Said}
-use Rattle.link_changes.specs.declared.outcome.Outcome.{Outcome}
-use Rattle.link_changes.specs.Outcomes.{editNamed, prioritySet, Tells}
+use Rattle.link_outcomes.specs.declared.Outcome.{Outcome}
+use Rattle.link_outcomes.specs.Outcomes.{editNamed, Tells}
+use Rattle.link_changes.specs.Outcomes.{prioritySet}
 
 -- with the edit and the draws that the numbers name
 pub done-told : (s : Shape) (step : Drawing → Drawing) (records : List Record) (words cells words′ cells′ : List ℕ) (answer : Bool)

@@ -1,7 +1,7 @@
 // Partials locked and passed.
-use crate::outcome::Outcome;
-use crate::outcome::told;
 use link_lists::Geometry;
+use link_outcomes::Outcome;
+use link_outcomes::told;
 use memory_layout::Shape;
 ghost use mathlib.Core.Path.{_≡_};
 ghost use mathlib.Core.Bool.{true};
@@ -13,7 +13,7 @@ ghost use Rattle.memory_records.specs.Rows.{recordsIn};
 ghost use Rattle.change_tally.specs.RowsStanding.{RowsStand};
 ghost use Rattle.change_flags.specs.Flagging.{RowsChanged, EditAlone};
 ghost use Rattle.link_lists.specs.Lending.{shaped};
-ghost use Rattle.link_changes.specs.Outcomes.{editNamed};
+ghost use Rattle.link_outcomes.specs.Outcomes.{editNamed};
 
 #[no_mangle]
 pub extern "C" fn ch_lock_piece(rows: &[u32], live: usize, i: usize) -> Outcome

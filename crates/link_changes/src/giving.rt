@@ -1,7 +1,7 @@
 // A block given back.
-use crate::outcome::Outcome;
-use crate::outcome::told;
 use link_lists::Geometry;
+use link_outcomes::Outcome;
+use link_outcomes::told;
 use memory_layout::Shape;
 ghost use Prim.Native.Nat.{_<_};
 ghost use Rattle.model.specs.change.Changes.{abortDownload, markAsCanceled};
@@ -12,7 +12,7 @@ ghost use Rattle.change_steps.specs.Whole.{Done};
 ghost use Rattle.change_tally.specs.RowsStanding.{RowsStand};
 ghost use Rattle.change_blocks.specs.Replacing.{namedPeer};
 ghost use Rattle.link_lists.specs.Lending.{shaped};
-ghost use Rattle.link_changes.specs.Outcomes.{editNamed};
+ghost use Rattle.link_outcomes.specs.Outcomes.{editNamed};
 
 #[no_mangle]
 pub extern "C" fn ch_abort_download(

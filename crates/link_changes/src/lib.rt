@@ -5,7 +5,6 @@ mod counts;
 mod flags;
 mod giving;
 mod marks;
-mod outcome;
 mod priority;
 
 pub use counts::ch_dec_refcount;
@@ -19,5 +18,4 @@ pub use giving::ch_mark_as_canceled;
 pub use marks::ch_mark_as_downloading;
 pub use marks::ch_mark_as_finished;
 pub use marks::ch_mark_as_writing;
-pub use outcome::Outcome;
 pub use priority::ch_set_piece_priority;

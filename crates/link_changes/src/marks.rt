@@ -1,7 +1,7 @@
 // A block asked for, brought, and on disk.
-use crate::outcome::Outcome;
-use crate::outcome::told;
 use link_lists::Geometry;
+use link_outcomes::Outcome;
+use link_outcomes::told;
 use memory_layout::Shape;
 use types::PickerOptions;
 ghost use mathlib.Core.Path.{_≡_};
@@ -20,7 +20,7 @@ ghost use Rattle.change_tally.specs.RowsStanding.{RowsStand};
 ghost use Rattle.change_blocks.specs.Replacing.{namedPeer};
 ghost use Rattle.change_marks.specs.Marks.{MarkDone};
 ghost use Rattle.link_lists.specs.Lending.{shaped};
-ghost use Rattle.link_changes.specs.Outcomes.{editNamed};
+ghost use Rattle.link_outcomes.specs.Outcomes.{editNamed};
 
 #[no_mangle]
 pub extern "C" fn ch_mark_as_downloading(

@@ -1,7 +1,7 @@
 // A piece's priority set.
-use crate::outcome::Outcome;
-use crate::outcome::told;
 use link_lists::Geometry;
+use link_outcomes::Outcome;
+use link_outcomes::told;
 use memory_layout::Shape;
 use memory_records::Edit;
 ghost use Prim.Native.Nat.{_≤_, _<_};

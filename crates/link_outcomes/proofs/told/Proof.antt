@@ -1,9 +1,9 @@
 -- `told` gives each edit its number and the numbers of its record. Assumes nothing.
 use borrow.Author.Needs.{needs}
 use mathlib.Core.Path.{refl, sym}
-use Rattle.link_changes.specs.Outcomes.{editNamed}
-use Rattle.link_changes.proofs.outcome.told.Statement.{statement}
-use Rattle.link_changes.proofs.outcome.told.Tie as tie
+use Rattle.link_outcomes.specs.Outcomes.{editNamed}
+use Rattle.link_outcomes.proofs.told.Statement.{statement}
+use Rattle.link_outcomes.proofs.told.Tie as tie
 
 enum-told : tie.Need-enum-told
 enum-told c = search needs

@@ -1,6 +1,6 @@
-// What a change answers, in numbers.
+// What a change answers, in numbers, for a caller that is not Rattle.
 use memory_records::Edit;
-ghost use Rattle.link_changes.specs.Outcomes.{Tells};
+ghost use Rattle.link_outcomes.specs.Outcomes.{Tells};
 
 // The answer, the draws used, and the edit of the records: 0 none, 1 a record replaced, 2 one put in, 3 that of a piece taken out; then
 // the record's numbers.
