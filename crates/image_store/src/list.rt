@@ -1,20 +1,11 @@
 // The places of the list: each a word of the piece and its rank.
 use image_bytes::read4;
+use list_groups::list_word;
 use types::u64_to_usize;
-ghost use mathlib.Core.Path.{_≡_};
 ghost use Prim.Native.Nat.{_+_, _*_, _≤_, _<_};
 ghost use lib.ListN.{length};
-ghost use Rattle.list_groups.specs.Words.{listWord};
 ghost use Rattle.image_lay.specs.Laid.{Laid};
 ghost use Rattle.image_store.specs.Given.{placeWord, Places};
-
-// Piece i with its rank.
-fn list_word(rank: u16, i: u64) -> u64
-    requires { ⌜ i < 65536 ⌝ }
-    ensures { λ r. ⌜ r ≡ listWord rank i ⌝ }
-{
-    (rank as u64) * 65536 + i
-}
 
 // `many` places of n pieces, whose records stand from `at` on.
 pub fn store_list(bytes: &[u8], at: usize, many: usize, ranks: &[u16], n: usize, words: &mut [u64])

@@ -1,12 +1,20 @@
-// The groups of a list of words: where one starts and ends, and where a word stands.
+// The words of the bucket list, and their groups: where one starts and ends, and where a word stands.
 // A word is rank · 65,536 + piece, and ranks never fall along the list. A group's end is found by wider and wider steps, then by
 // halving; words are compared with the highest word of a rank, and nothing is divided.
 ghost use mathlib.Core.Path.{_≡_};
 ghost use Prim.Native.Nat.{_≤_, _<_};
 ghost use lib.ListN.{length, getD, take};
 ghost use Rattle.model.specs.Lists.{placeOf};
-ghost use Rattle.list_groups.specs.Words.{listedRank, topOf};
+ghost use Rattle.list_groups.specs.Words.{listWord, listedRank, topOf};
 ghost use Rattle.list_groups.specs.Places.{Rises, Splits, Parted, IsGroup};
+
+// The word of piece i with its rank.
+pub fn list_word(rank: u16, i: u64) -> u64
+    requires { ⌜ i < 65536 ⌝ }
+    ensures { λ r. ⌜ r ≡ listWord rank i ⌝ }
+{
+    (rank as u64) * 65536 + i
+}
 
 // The highest word of w's rank.
 pub fn top_of(w: u64) -> u64

@@ -8,7 +8,7 @@ ghost use lib.Dec.{ltb, eqb};
 ghost use lib.ListN.{length, take, drop, set};
 ghost use Rattle.model.specs.Lists.{bit, count, placeOf};
 ghost use Rattle.model.specs.list.Order.{draw, swap, earlier, later, added, addDraws, removed, changed, changeDraws};
-ghost use Rattle.list_groups.specs.Words.{listedRank, listWord};
+ghost use Rattle.list_groups.specs.Words.{listedRank};
 ghost use Rattle.list_groups.specs.Places.{Rises};
 ghost use Rattle.list_words.specs.Updating.{replaced, Ready, Updates};
 
@@ -189,12 +189,4 @@ pub fn update(
     }
     let next = change(list, n, v, w, draws, used);
     Updated { len: n, used: next }
-}
-
-// The word of piece i with its rank.
-pub fn list_word(rank: u16, i: u64) -> u64
-    requires { ⌜ i < 65536 ⌝ }
-    ensures { λ r. ⌜ r ≡ listWord rank i ⌝ }
-{
-    (rank as u64) * 65536 + i
 }

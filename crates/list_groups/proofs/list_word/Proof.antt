@@ -1,9 +1,9 @@
 -- `list_word` meets its contract. Assumes nothing.
-use mathlib.Core.Path.{refl}
-use Rattle.list_groups.specs.Words.{listWord}
 use borrow.Author.Needs.{needs}
-use Rattle.image_store.proofs.list.list_word.Statement.{statement}
-use Rattle.image_store.proofs.list.list_word.Tie as tie
+use mathlib.Core.Path.{refl}
+use Rattle.list_groups.specs.Words.{listWord}
+use Rattle.list_groups.proofs.list_word.Statement.{statement}
+use Rattle.list_groups.proofs.list_word.Tie as tie
 
 mul-result : tie.Need-mul-result
 mul-result c = search needs
