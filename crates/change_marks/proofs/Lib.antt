@@ -1,5 +1,2 @@
-pub mod LookupLaws
-pub mod RoomLaws
-pub mod OpenedLaws
 pub mod WholeLaws
 pub mod AcceptedLaws

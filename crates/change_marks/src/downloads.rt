@@ -1,10 +1,10 @@
 // A block asked for.
-use crate::answers::Marking;
-use crate::lookup::partial_of;
-use crate::openings::first_state;
-use crate::openings::open_mark;
 use change_marking::request_block;
 use change_tally::standing_in;
+use change_vacant::Marking;
+use change_vacant::first_state;
+use change_vacant::open_mark;
+use change_vacant::partial_of;
 use memory_blocks::BlockInfo;
 use memory_layout::Shape;
 use memory_records::Edit;
@@ -14,6 +14,7 @@ ghost use mathlib.Core.Path.{_≡_};
 ghost use mathlib.Core.Bool.{false};
 ghost use Prim.Native.Nat.{_≤_, _<_};
 ghost use lib.ListN.{length};
+ghost use Rattle.types.specs.Peer.{namedPeer};
 ghost use Rattle.model.specs.State.{minDraws, pieceAt};
 ghost use Rattle.model.specs.change.Changes.{markAsDownloading};
 ghost use Rattle.model.specs.Calls.{noPartialLeft};
@@ -23,8 +24,7 @@ ghost use Rattle.memory_layout.specs.Standing.{editRecords};
 ghost use Rattle.memory_rows.specs.Lookup.{pickerIn};
 ghost use Rattle.change_steps.specs.Whole.{EditRoom};
 ghost use Rattle.change_tally.specs.RowsStanding.{RowsStand};
-ghost use Rattle.change_blocks.specs.Replacing.{namedPeer};
-ghost use Rattle.change_marks.specs.Marks.{MarkDone};
+ghost use Rattle.change_vacant.specs.Marks.{MarkDone};
 
 // The named peer is asked for block j of piece i, which is not flushed. A piece without a partial is opened.
 pub fn mark_as_downloading(

@@ -1,9 +1,9 @@
 // A block on disk.
-use crate::lookup::partial_of;
-use crate::openings::open_arrived;
 use change_marking::finish_block;
 use change_returns::Given;
 use change_tally::standing_in;
+use change_vacant::open_arrived;
+use change_vacant::partial_of;
 use memory_blocks::BlockInfo;
 use memory_layout::Shape;
 use memory_records::Found;
@@ -11,6 +11,7 @@ ghost use mathlib.Core.Path.{_≡_};
 ghost use mathlib.Core.Bool.{false};
 ghost use Prim.Native.Nat.{_≤_, _<_};
 ghost use lib.ListN.{length};
+ghost use Rattle.types.specs.Peer.{namedPeer};
 ghost use Rattle.model.specs.State.{minDraws};
 ghost use Rattle.model.specs.change.Changes.{markAsFinished};
 ghost use Rattle.model.specs.Calls.{noPartialLeft};
@@ -20,7 +21,6 @@ ghost use Rattle.memory_layout.specs.Standing.{editRecords};
 ghost use Rattle.memory_rows.specs.Lookup.{pickerIn};
 ghost use Rattle.change_steps.specs.Whole.{Done, EditRoom};
 ghost use Rattle.change_tally.specs.RowsStanding.{RowsStand};
-ghost use Rattle.change_blocks.specs.Replacing.{namedPeer};
 
 // Block j of piece i is on disk. A piece without a partial is opened, unless it is flushed; one that passed goes with its last block.
 pub fn mark_as_finished(

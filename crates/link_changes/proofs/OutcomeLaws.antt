@@ -13,7 +13,7 @@ use Rattle.memory_layout.specs.declared.shape.Shape.{Shape}
 use Rattle.memory_layout.specs.Standing.{Changed, editRecords}
 use Rattle.change_steps.specs.Whole.{Done}
 use Rattle.change_flags.specs.Flagging.{EditAlone}
-use Rattle.change_marks.specs.Marks.{MarkDone}
+use Rattle.change_vacant.specs.Marks.{MarkDone}
 use Rattle.change_priority.specs.declared.changes.PrioritySet.{PrioritySet}
 use Rattle.change_priority.specs.Saying.{Said}
 use Rattle.link_outcomes.specs.declared.Outcome.{Outcome}

@@ -4,13 +4,13 @@ use link_outcomes::Outcome;
 use link_outcomes::told;
 use memory_layout::Shape;
 ghost use Prim.Native.Nat.{_<_};
+ghost use Rattle.types.specs.Peer.{namedPeer};
 ghost use Rattle.model.specs.change.Changes.{abortDownload, markAsCanceled};
 ghost use Rattle.memory_records.specs.Rows.{recordsIn};
 ghost use Rattle.memory_layout.specs.Decode.{blocksOf};
 ghost use Rattle.memory_layout.specs.Standing.{editRecords};
 ghost use Rattle.change_steps.specs.Whole.{Done};
 ghost use Rattle.change_tally.specs.RowsStanding.{RowsStand};
-ghost use Rattle.change_blocks.specs.Replacing.{namedPeer};
 ghost use Rattle.link_lists.specs.Lending.{shaped};
 ghost use Rattle.link_outcomes.specs.Outcomes.{editNamed};
 

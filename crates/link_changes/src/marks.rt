@@ -8,6 +8,7 @@ ghost use mathlib.Core.Path.{_≡_};
 ghost use mathlib.Core.Bool.{false};
 ghost use Prim.Native.Nat.{_≤_, _<_};
 ghost use lib.ListN.{length};
+ghost use Rattle.types.specs.Peer.{namedPeer};
 ghost use Rattle.model.specs.State.{minDraws, pieceAt};
 ghost use Rattle.model.specs.change.Changes.{markAsDownloading, markAsWriting, markAsFinished};
 ghost use Rattle.model.specs.Calls.{noPartialLeft};
@@ -17,8 +18,7 @@ ghost use Rattle.memory_layout.specs.Standing.{editRecords};
 ghost use Rattle.memory_rows.specs.Lookup.{pickerIn};
 ghost use Rattle.change_steps.specs.Whole.{Done};
 ghost use Rattle.change_tally.specs.RowsStanding.{RowsStand};
-ghost use Rattle.change_blocks.specs.Replacing.{namedPeer};
-ghost use Rattle.change_marks.specs.Marks.{MarkDone};
+ghost use Rattle.change_vacant.specs.Marks.{MarkDone};
 ghost use Rattle.link_lists.specs.Lending.{shaped};
 ghost use Rattle.link_outcomes.specs.Outcomes.{editNamed};
 

@@ -1,10 +1,11 @@
 -- `mark_as_downloading` meets its contract: a block of the partial found, or of a piece without one, which is opened. Assumes nothing.
 use native.Mathlib.Omega.{arith}
 use borrow.Author.Needs.{needs}
+use Rattle.types.specs.Peer.{namedPeer}
 use Rattle.model.specs.change.Changes.{reverseAsked, affinityAsked, markDownloadingIn, markAsDownloading}
-use Rattle.change_blocks.specs.Replacing.{namedPeer}
 use Rattle.change_returns.proofs.WholeLaws.{kept-room, standing-asks}
-use Rattle.change_marks.proofs.WholeLaws.{vacant-room, rows-vacant, downloading-opened, request-beside, marked-found}
+use Rattle.change_vacant.proofs.VacantLaws.{vacant-room, rows-vacant, downloading-opened}
+use Rattle.change_marks.proofs.WholeLaws.{request-beside, marked-found}
 use Rattle.change_marks.proofs.downloads.mark_as_downloading.Statement.{statement}
 use Rattle.change_marks.proofs.downloads.mark_as_downloading.Tie as tie
 

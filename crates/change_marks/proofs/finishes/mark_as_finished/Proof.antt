@@ -2,11 +2,12 @@
 -- Assumes nothing.
 use native.Mathlib.Omega.{arith}
 use borrow.Author.Needs.{needs}
+use Rattle.types.specs.Peer.{namedPeer}
 use Rattle.model.specs.change.Changes.{markFinishedIn, markAsFinished}
-use Rattle.change_blocks.specs.Replacing.{namedPeer}
 use Rattle.change_marking.specs.Finishing.{FinishAt}
 use Rattle.change_returns.proofs.WholeLaws.{standing-asks, whole-found}
-use Rattle.change_marks.proofs.WholeLaws.{rows-vacant, finished-opened, finish-here, finish-beside}
+use Rattle.change_vacant.proofs.VacantLaws.{rows-vacant, finished-opened}
+use Rattle.change_marks.proofs.WholeLaws.{finish-here, finish-beside}
 use Rattle.change_marks.proofs.finishes.mark_as_finished.Statement.{statement}
 use Rattle.change_marks.proofs.finishes.mark_as_finished.Tie as tie
 

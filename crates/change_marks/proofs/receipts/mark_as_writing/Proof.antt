@@ -2,10 +2,11 @@
 -- Assumes nothing.
 use native.Mathlib.Omega.{arith}
 use borrow.Author.Needs.{needs}
+use Rattle.types.specs.Peer.{namedPeer}
 use Rattle.model.specs.change.Changes.{markWritingIn, markAsWriting}
-use Rattle.change_blocks.specs.Replacing.{namedPeer}
 use Rattle.change_returns.proofs.WholeLaws.{kept-room, standing-asks, tally-beside}
-use Rattle.change_marks.proofs.WholeLaws.{rows-vacant, writing-opened, marked-found}
+use Rattle.change_vacant.proofs.VacantLaws.{rows-vacant, writing-opened}
+use Rattle.change_marks.proofs.WholeLaws.{marked-found}
 use Rattle.change_marks.proofs.receipts.mark_as_writing.Statement.{statement}
 use Rattle.change_marks.proofs.receipts.mark_as_writing.Tie as tie
 

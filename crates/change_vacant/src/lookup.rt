@@ -5,7 +5,7 @@ use memory_records::Found;
 use memory_rows::find;
 ghost use Prim.Native.Nat.{_<_};
 ghost use Rattle.memory_rows.specs.Lookup.{FoundIn};
-ghost use Rattle.change_marks.specs.Marks.{RowsBeside};
+ghost use Rattle.change_vacant.specs.Marks.{RowsBeside};
 
 // An Open piece (state 4) has none, so that nothing is sought for it. This relies on a well-formed picker: a mark asks before it stores
 // anything.

@@ -20,7 +20,7 @@ ghost use Rattle.memory_layout.specs.Standing.{editRecords};
 ghost use Rattle.memory_blocks.specs.Blocks.{blockOf};
 ghost use Rattle.memory_rows.specs.Lookup.{pickerIn};
 ghost use Rattle.change_steps.specs.Whole.{EditRoom};
-ghost use Rattle.change_marks.specs.Marks.{RowsVacant, MarkDone, markArrived};
+ghost use Rattle.change_vacant.specs.Marks.{RowsVacant, MarkDone, markArrived};
 
 // The first state of a piece that is opened, `back` under REVERSE.
 pub fn first_state(back: bool) -> DownloadQueue

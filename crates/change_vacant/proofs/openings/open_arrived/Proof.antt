@@ -4,9 +4,9 @@ use native.Mathlib.Omega.{arith}
 use borrow.Author.Needs.{needs}
 use Rattle.memory_records.specs.Rows.{recordsIn}
 use Rattle.change_steps.proofs.RoomLaws.{keep-room}
-use Rattle.change_marks.proofs.WholeLaws.{vacant-room, vacant-ignored, vacant-opened}
-use Rattle.change_marks.proofs.openings.open_arrived.Statement.{statement}
-use Rattle.change_marks.proofs.openings.open_arrived.Tie as tie
+use Rattle.change_vacant.proofs.VacantLaws.{vacant-room, vacant-ignored, vacant-opened}
+use Rattle.change_vacant.proofs.openings.open_arrived.Statement.{statement}
+use Rattle.change_vacant.proofs.openings.open_arrived.Tie as tie
 
 flushed-requires : tie.Need-flushed-requires
 flushed-requires c κs =

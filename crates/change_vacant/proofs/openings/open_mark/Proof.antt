@@ -2,9 +2,9 @@
 use native.Mathlib.Omega.{arith}
 use borrow.Author.Needs.{needs}
 use Rattle.change_steps.proofs.RoomLaws.{insert-room}
-use Rattle.change_marks.proofs.OpenedLaws.{room-beside, opened-done}
-use Rattle.change_marks.proofs.openings.open_mark.Statement.{statement}
-use Rattle.change_marks.proofs.openings.open_mark.Tie as tie
+use Rattle.change_vacant.proofs.OpenedLaws.{room-beside, opened-done}
+use Rattle.change_vacant.proofs.openings.open_mark.Statement.{statement}
+use Rattle.change_vacant.proofs.openings.open_mark.Tie as tie
 
 mark-opening-requires : tie.Need-mark-opening-requires
 mark-opening-requires c κs =

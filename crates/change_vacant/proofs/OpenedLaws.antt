@@ -27,7 +27,7 @@ use Rattle.change_steps.proofs.MendLaws.{stands-works, went-changed}
 use Rattle.change_opening.specs.declared.marks.Marked.{Marked}
 use Rattle.change_opening.specs.Adding.{Vacant, VacantBeside}
 use Rattle.change_opening.specs.Marking.{OpeningMarked}
-use Rattle.change_marks.specs.Marks.{RowsVacant, MarkDone}
+use Rattle.change_vacant.specs.Marks.{RowsVacant, MarkDone}
 
 front-rows : (n k : ℕ) (rows : List ℕ) → take n (recordsFrom (suc n) k rows) ≡ recordsFrom n k rows
 front-rows zero k rows = refl

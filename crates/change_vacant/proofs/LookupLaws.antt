@@ -7,9 +7,8 @@ use mathlib.Core.Option.{none, some, Option·none-ne-some}
 use Prim.Native.Nat.{ℕ, _<_}
 use native.Mathlib.Omega.{arith}
 use lib.ListN.{getD}
+use borrow.Author.Tests.{eq-eqb}
 use Rattle.types.specs.declared.queue.DownloadQueue.{DownloadQueue}
-use Rattle.types.specs.declared.queue.DownloadQueue.the-variants.{Downloading, Full, Finished, ZeroPrio, Open}
-use Rattle.types.specs.declared.queue.DownloadQueue.the-variants.{DownloadingReverse, FullReverse}
 use Rattle.types.specs.Queue.{queueNumber}
 use Rattle.model.specs.Lists.{nth, len}
 use Rattle.model.specs.State.{Picker, isOpen, sameQueue, pieceAt}
@@ -29,13 +28,7 @@ use Rattle.change_returns.proofs.WholeLaws.{find-asks}
 -- 4 is the number of Open alone
 pub open-number : (q : DownloadQueue) → queueNumber q ≡ 4 → isOpen q ≡ true
 unfolding isOpen sameQueue
-open-number Open e = refl
-open-number Downloading e = absurd (omega (arith, e))
-open-number Full e = absurd (omega (arith, e))
-open-number Finished e = absurd (omega (arith, e))
-open-number ZeroPrio e = absurd (omega (arith, e))
-open-number DownloadingReverse e = absurd (omega (arith, e))
-open-number FullReverse e = absurd (omega (arith, e))
+open-number q e = eq-eqb (queueNumber q) 4 e
 
 module _ (s : Shape) (live : ℕ) (rows counts words cells : List ℕ) (g : RowsStand s live rows counts words cells) where
   abbrev d : Picker

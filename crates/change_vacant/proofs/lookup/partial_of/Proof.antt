@@ -3,9 +3,9 @@ use borrow.Author.Needs.{needs}
 use mathlib.Core.Path.{sym, _∙_}
 use Rattle.memory_rows.proofs.LookupLaws.{no-partial}
 use Rattle.change_returns.proofs.WholeLaws.{find-asks}
-use Rattle.change_marks.proofs.LookupLaws.{open-number, open-rows}
-use Rattle.change_marks.proofs.lookup.partial_of.Statement.{statement}
-use Rattle.change_marks.proofs.lookup.partial_of.Tie as tie
+use Rattle.change_vacant.proofs.LookupLaws.{open-number, open-rows}
+use Rattle.change_vacant.proofs.lookup.partial_of.Statement.{statement}
+use Rattle.change_vacant.proofs.lookup.partial_of.Tie as tie
 
 state-requires : tie.Need-state-requires
 state-requires c κs =

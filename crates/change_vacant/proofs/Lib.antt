@@ -1,0 +1,4 @@
+pub mod LookupLaws
+pub mod RoomLaws
+pub mod OpenedLaws
+pub mod VacantLaws
