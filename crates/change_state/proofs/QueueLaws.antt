@@ -4,12 +4,10 @@ use mathlib.Core.Bool.{true, _||_, or-true, or-false}
 use mathlib.Core.Logic.{_≢_}
 use mathlib.Core.List.{List}
 use Prim.Native.Nat.{ℕ, zero, suc, _<_}
-use native.Mathlib.Omega.{arith}
 use lib.Dec.{eqb}
 use borrow.Author.Tests.{eq-eqb, ne-eqb}
 use Rattle.types.specs.declared.queue.DownloadQueue.{DownloadQueue}
-use Rattle.types.specs.declared.queue.DownloadQueue.the-variants.{Downloading, Full, Finished, ZeroPrio, Open, DownloadingReverse}
-use Rattle.types.specs.declared.queue.DownloadQueue.the-variants.{FullReverse}
+use Rattle.types.specs.declared.queue.DownloadQueue.the-variants.{Open}
 use Rattle.types.specs.Queue.{queueNumber, queues}
 use Rattle.model.specs.Lists.{nth}
 use Rattle.model.specs.State.{pieceAt, sameQueue, isOpen}
@@ -33,16 +31,6 @@ queue-other (suc (suc (suc (suc zero)))) a b c d e f = refl
 queue-other (suc (suc (suc (suc (suc zero))))) a b c d e f = absurd (e refl)
 queue-other (suc (suc (suc (suc (suc (suc zero)))))) a b c d e f = absurd (f refl)
 queue-other (suc (suc (suc (suc (suc (suc (suc v))))))) a b c d e f = refl
-
--- every number is below 7
-pub number-low : (q : DownloadQueue) → queueNumber q < 7
-number-low Downloading = omega arith
-number-low Full = omega arith
-number-low Finished = omega arith
-number-low ZeroPrio = omega arith
-number-low Open = omega arith
-number-low DownloadingReverse = omega arith
-number-low FullReverse = omega arith
 
 -- read from its cell
 pub queue-read : (s : Shape) (cells : List ℕ) (i : ℕ) → i < s .pieces → (q : DownloadQueue) (v : ℕ) → q ≡ queueFrom v
