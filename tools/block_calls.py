@@ -16,7 +16,7 @@ def argument(name, value):
 
 
 BLOCK = ' (numberOf (a .block .«piece_index» .0)) (numberOf (a .block .«block_index»)) (namedPeer (a .«has_peer») (a .peer))'
-USES = ['use Rattle.types.specs.Piece.{numberOf}', 'use Rattle.change_blocks.specs.Replacing.{namedPeer}']
+USES = ['use Rattle.types.specs.Piece.{numberOf}', 'use Rattle.types.specs.Peer.{namedPeer}']
 
 
 def call(crate, module, fn, taken, options=''):
@@ -49,11 +49,11 @@ HEAD = """-- `{fn}_core` meets its contract. Assumes nothing.
 use mathlib.Core.Path.{{refl, {paths}}}
 use mathlib.Core.Option.{{Option{none}}}
 use Prim.Native.Nat.{{ℕ}}
+use Rattle.types.specs.Peer.{{namedPeer}}
 use Rattle.model.specs.list.Order.{{drawing}}
 use Rattle.model.specs.change.Changes.{{{step}}}
 use Rattle.model.specs.Calls.{{{kebab}, {form}, act{refusal}}}
 use Rattle.memory_rows.specs.Lookup.{{pickerIn}}
-use Rattle.change_blocks.specs.Replacing.{{namedPeer}}
 use Rattle.picker_calls.proofs.ListlessLaws.{{listless}}
 use Rattle.picker_calls.proofs.CoreLaws.{{barred}}
 {uses}use borrow.Author.Needs.{{needs}}

@@ -3,18 +3,21 @@ use mathlib.Core.Path.{_≡_, sym, ap, _∙_, subst}
 use mathlib.Core.List.{List}
 use Prim.Native.Nat.{ℕ, _≤_, _<_}
 use native.Mathlib.Omega.{arith}
-use Rattle.types.specs.declared.block.BlockState.{BlockState}
-use Rattle.types.specs.declared.block.BlockState.the-variants.{None, Requested, Writing, Finished}
+use lib.Dec.{eqb, ltb}
+use Rattle.types.specs.declared.block.BlockState.the-variants.{Requested}
 use Rattle.types.specs.Block.{blockStateNumber}
-use Rattle.model.specs.Lists.{len}
+use Rattle.model.specs.Lists.{bit, len}
+use Rattle.model.specs.State.{Block, sameBlockState}
 use Rattle.model.specs.list.Order.{Draws}
-use Rattle.model.specs.change.Partials.{blockAt}
+use Rattle.model.specs.change.Partials.{blockAt, blocksInState, progress}
 use Rattle.model.specs.change.Changes.{setBlock}
+use Rattle.model.proofs.image.Records.{state-below}
 use Rattle.memory_records.specs.declared.record.DownloadingPiece.{DownloadingPiece as Record}
 use Rattle.memory_layout.specs.declared.shape.Shape.{Shape}
-use Rattle.memory_layout.specs.Decode.{blocksOf, decode, stateFrom}
+use Rattle.memory_layout.specs.Decode.{blocksOf, decode, recordAt, stateFrom}
 use Rattle.memory_layout.specs.Bounds.{Spans}
 use Rattle.memory_layout.specs.Changes.{partialIn}
+use Rattle.memory_layout.proofs.BoundsLaws.{blocks-within}
 use Rattle.memory_layout.proofs.Meanings.{blocks-number}
 use Rattle.memory_layout.proofs.Numbers.{state-number}
 use Rattle.memory_blocks.specs.declared.info.BlockInfo.{BlockInfo}
@@ -23,13 +26,7 @@ use Rattle.change_steps.specs.Working.{WorksBeside, Went}
 use Rattle.change_state.specs.declared.states.Tally.{Tally}
 use Rattle.change_blocks.specs.Replacing.{Retallied, PartialBeside, TallyAt, TallyBeside, BlockSet}
 use Rattle.change_blocks.proofs.SetLaws.{put-places}
-
--- a state has a number below 4
-number-low : (q : BlockState) → blockStateNumber q ≤ 3
-number-low None = omega arith
-number-low Requested = omega arith
-number-low Writing = omega arith
-number-low Finished = omega arith
+use Rattle.change_blocks.proofs.TallyLaws.{count-most, busy-counts, requested-counts}
 
 -- the number of a state is that of the block's
 pub state-of : (x : BlockInfo) (n : ℕ) → x .state ≡ n → n < 4 → n ≡ blockStateNumber (blockOf x .state)
@@ -66,7 +63,29 @@ module _ (s : Shape) (words cells : List ℕ) (i p j : ℕ) (t : Tally) where
     pub state-low : TallyBeside s words cells i p j t → x .state ≤ 3
     state-low b =
         subst (λ (n : ℕ). n ≤ 3) (sym (block-there (b .records) (b .k) (b .there) .state))
-        (number-low (blockAt (partialIn (decode (b .records) words cells) (b .k)) j .state))
+        (state-below (blockAt (partialIn (decode (b .records) words cells) (b .k)) j .state))
+
+    -- what taking it out of the numbers asks
+    pub retally-asks : (old : ℕ) → x .state ≡ old → TallyBeside s words cells i p j t
+        → ((bit (ltb 0 old) ≤ t .busy) × (t .busy ≤ 256)) × ((bit (eqb old 1) ≤ t .requested) × (t .requested ≤ 256))
+    unfolding progress blocksInState
+    retally-asks old is b =
+        let records = b .records in
+        let k = b .k in
+        let a = b .there .stands in
+        let y = b .there .tally in
+        let q = partialIn (decode records words cells) k in
+        let h = block-within records k (b .there) in
+        let n = blocks-number s records words cells (a .works .bounds) k (a .low) in
+        let m = blocks-within s records words cells (a .works .bounds) (recordAt records k .index) in
+        let w = a .works .bounds .spans .inWords .sizes .wide in
+        let was = sym is ∙ block-there records k (b .there) .state in
+        let e = ap (λ (v : ℕ). bit (ltb 0 v)) was in
+        let f = ap (λ (v : ℕ). bit (eqb v 1)) was in
+        let c = count-most (λ (z : Block). sameBlockState (z .state) Requested) (q .blocks) in (
+          (omega (arith, e, y .busy, busy-counts q j h), omega (arith, y .busy, n, m, w)),
+          (omega (arith, f, y .requested, requested-counts q j h), omega (arith, y .requested, c, n, m, w)),
+        )
 
     -- the block replaced
     pub set-there : (draws : Draws) (used n : ℕ) → n < 4 → (after : Tally) → Retallied t (x .state) n after → (y : BlockInfo)

@@ -1,9 +1,8 @@
 -- A block of a standing partial replaced, and the numbers of its blocks after that. Assumes nothing.
 use Prim.Native.Nat.{ℕ, _<_}
 use mathlib.Core.Path.{_≡_}
-use mathlib.Core.Bool.{Bool, true, cond}
+use mathlib.Core.Bool.{true}
 use mathlib.Core.List.{List}
-use mathlib.Core.Option.{Option, none, some}
 use Rattle.types.specs.Block.{blockStateNumber}
 use Rattle.model.specs.Lists.{len, setNth}
 use Rattle.model.specs.State.{Block, DownloadingPiece, withBlocks}
@@ -57,10 +56,6 @@ pub record TallyBeside (s : Shape) (words cells : List ℕ) (i p j : ℕ) (t : T
   pub records : List Record
   pub k : ℕ
   pub there : TallyAt s records words cells i p j t k
-
--- a peer is lent as a flag and a number: none where the flag is false
-abbrev pub namedPeer : (has : Bool) (peer : ℕ) → Option ℕ
-namedPeer has peer = cond has (some peer) none
 
 -- the definition's `setBlock`, with whichever records stand beside, of the partial at place p
 pub record BlockSet (s : Shape) (draws : Draws) (i p j : ℕ) (x : BlockInfo) (t : Tally) (words cells : List ℕ) (used : ℕ)

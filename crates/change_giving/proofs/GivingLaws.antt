@@ -7,6 +7,7 @@ use mathlib.Core.Option.{Option, some}
 use Prim.Native.Nat.{ℕ, _≤_, _<_}
 use lib.Dec.{eqb, ltb}
 use borrow.Author.Tests.{eq-eqb, ne-eqb, lt-ltb, le-ltb}
+use Rattle.types.specs.Peer.{namedPeer}
 use Rattle.model.specs.Lists.{nth}
 use Rattle.model.specs.State.{Block, DownloadingPiece, Picker, sameBlockState, withListing, withPeer, withPiece, withPieces}
 use Rattle.model.specs.list.Order.{Draws, Drawing, drawing, noDraw}
@@ -24,11 +25,11 @@ use Rattle.memory_blocks.specs.declared.info.BlockInfo.{BlockInfo}
 use Rattle.memory_blocks.specs.Blocks.{blockOf, BlockIs, BlockRead, BlockStored}
 use Rattle.change_steps.proofs.WorkLaws.{went-nowhere, went-named}
 use Rattle.change_state.specs.declared.states.Tally.{Tally}
-use Rattle.change_blocks.specs.Replacing.{TallyAt, namedPeer}
+use Rattle.change_blocks.specs.Replacing.{TallyAt}
 use Rattle.change_blocks.proofs.SetLaws.{put-went}
 use Rattle.change_blocks.proofs.StandingLaws.{block-there}
-use Rattle.change_returns.specs.Giving.{BlockFreed}
 use Rattle.change_giving.specs.Returning.{Gave}
+use Rattle.change_giving.proofs.FreeLaws.{BlockFreed}
 
 -- ---- the definitions by a block's numbers
 module _ (draws : Draws) (i : ℕ) (q : DownloadingPiece) (j : ℕ) (peer : Option ℕ) (w : Drawing) (x : BlockInfo)
@@ -111,21 +112,18 @@ module _ (s : Shape) (words cells : List ℕ) (i p j : ℕ) (t : Tally) where
       others = λ f. absurd (true≢false (sym f));
     }
 
-    gave-freed : (old : ℕ) (y : BlockInfo) → BlockRead s words cells p j y → y .state ≡ old → (x : BlockInfo) (words′ cells′ : List ℕ)
-        (edit : Edit) (next : ℕ) → BlockFreed s draws i p j old x t words cells 0 words′ cells′ edit next
+    gave-freed : (x : BlockInfo) (words′ cells′ : List ℕ) (edit : Edit) (next : ℕ)
+        → BlockFreed s draws i p j x t words cells words′ cells′ edit next
         → Is (λ q. freeBlock draws i q j (blockOf x)) → Gave s change i p j t words cells words′ cells′ edit next
     unfolding freeBlock
-    gave-freed old y r z x words′ cells′ edit next b e = record {
+    gave-freed x words′ cells′ edit next b e = record {
       closed = eqb (t .busy) 1 && not (t .hashing);
       edits = b .edits;
       went = λ records k a.
           went-named s records words cells 0 (edited (headWord words 7) edit records) words′ cells′ next
           (freeBlock draws i (partialIn (decode records words cells) k) j (blockOf x))
           (change (some (partialIn (decode records words cells) k))) (sym (e records k a))
-          (b .went records k (record {
-            at = a;
-            state = sym z ∙ block-there s words cells i p j t y r records k a .state;
-          }));
+          (b .went records k a);
       others = λ f records k a.
           let d = decode records words cells in
           let closes : freeBlock draws i (partialIn d k) j (blockOf x) (drawing 0 d) ≡ eraseAndUpdate draws i (drawing 0 d) =
@@ -155,13 +153,13 @@ module _ (s : Shape) (words cells : List ℕ) (i p j : ℕ) (t : Tally) where
         (λ records k a. abort-many draws i _ j (namedPeer has peer) _ x (block-there s words cells i p j t x r records k a) e m y f)
 
     pub release-free : x .state ≡ 1 → x .«num_peers» ≤ 1 → (word : ℕ) (words′ cells′ : List ℕ) (edit : Edit) (next : ℕ)
-        → BlockFreed s draws i p j 1 (record { state = 0; «num_peers» = 0; «has_peer» = false; peer = word }) t words cells 0
+        → BlockFreed s draws i p j (record { state = 0; «num_peers» = 0; «has_peer» = false; peer = word }) t words cells
         words′ cells′ edit next
         → Gave s abort i p j t words cells words′ cells′ edit next
     unfolding blockOf freed stateFrom nth
     release-free e m word words′ cells′ edit next b =
         let y : BlockInfo = record { state = 0; «num_peers» = 0; «has_peer» = false; peer = word } in
-        gave-freed draws abort 1 x r e y words′ cells′ edit next b
+        gave-freed draws abort y words′ cells′ edit next b
         (λ records k a. abort-last draws i _ j (namedPeer has peer) _ x (block-there s words cells i p j t x r records k a) e m y refl)
 
     -- a write that failed
@@ -171,13 +169,13 @@ module _ (s : Shape) (words cells : List ℕ) (i p j : ℕ) (t : Tally) where
         (λ records k a. cancel-finished draws i _ j (namedPeer has peer) _ x (block-there s words cells i p j t x r records k a) e)
 
     pub cancel-free : x .state ≢ 3 → x .state ≡ 2 → (words′ cells′ : List ℕ) (edit : Edit) (next : ℕ)
-        → BlockFreed s draws i p j 2 (record { state = 0; «num_peers» = x .«num_peers»; «has_peer» = has; peer = peer }) t words cells 0
+        → BlockFreed s draws i p j (record { state = 0; «num_peers» = x .«num_peers»; «has_peer» = has; peer = peer }) t words cells
         words′ cells′ edit next
         → Gave s cancel i p j t words cells words′ cells′ edit next
     unfolding blockOf canceled stateFrom nth
     cancel-free n e words′ cells′ edit next b =
         let y : BlockInfo = record { state = 0; «num_peers» = x .«num_peers»; «has_peer» = has; peer = peer } in
-        gave-freed draws cancel 2 x r e y words′ cells′ edit next b
+        gave-freed draws cancel y words′ cells′ edit next b
         (λ records k a. cancel-writing draws i _ j (namedPeer has peer) _ x (block-there s words cells i p j t x r records k a) n e y refl)
 
     pub cancel-put : x .state ≢ 3 → x .state ≢ 2 → (words′ cells′ : List ℕ)

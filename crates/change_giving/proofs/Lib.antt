@@ -1,2 +1,2 @@
-pub mod PeerLaws
+pub mod FreeLaws
 pub mod GivingLaws

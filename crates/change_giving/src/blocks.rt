@@ -1,5 +1,4 @@
 // A block of a standing partial given back. Both functions start from the first draw.
-use crate::peers::release;
 use change_blocks::retally;
 use change_blocks::set_block;
 use change_returns::Given;
@@ -9,11 +8,13 @@ use change_state::Tally;
 use memory_blocks::BlockInfo;
 use memory_blocks::get_block;
 use memory_blocks::put_block;
+use memory_blocks::release;
 use memory_layout::Shape;
 use memory_records::Edit;
 ghost use Prim.Native.Nat.{_<_};
+ghost use Rattle.types.specs.Peer.{namedPeer};
 ghost use Rattle.model.specs.change.Changes.{abortIn, cancelIn};
-ghost use Rattle.change_blocks.specs.Replacing.{TallyBeside, namedPeer};
+ghost use Rattle.change_blocks.specs.Replacing.{TallyBeside};
 ghost use Rattle.change_giving.specs.Returning.{Gave};
 
 // A requester less of block j of the partial of piece i at place p, whose blocks have the numbers of `t`: the block is free once its last

@@ -8,13 +8,13 @@ use memory_records::Edit;
 use memory_records::Found;
 use memory_rows::find;
 ghost use Prim.Native.Nat.{_<_};
+ghost use Rattle.types.specs.Peer.{namedPeer};
 ghost use Rattle.model.specs.change.Changes.{abortDownload, markAsCanceled};
 ghost use Rattle.memory_records.specs.Rows.{recordsIn};
 ghost use Rattle.memory_layout.specs.Decode.{blocksOf};
 ghost use Rattle.memory_layout.specs.Standing.{editRecords};
 ghost use Rattle.change_steps.specs.Whole.{Done, EditRoom};
 ghost use Rattle.change_tally.specs.RowsStanding.{RowsStand};
-ghost use Rattle.change_blocks.specs.Replacing.{namedPeer};
 
 // The named peer no longer asks for block j of piece i. Only a requested block of a standing partial is given back.
 pub fn abort_download(

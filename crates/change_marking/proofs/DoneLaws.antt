@@ -7,6 +7,7 @@ use native.Mathlib.Omega.{arith}
 use lib.Dec.{leb}
 use borrow.Author.Tests.{lt-ltb}
 use Rattle.types.specs.declared.block.BlockState.the-variants.{Writing, Finished}
+use Rattle.types.specs.Peer.{namedPeer}
 use Rattle.model.specs.Lists.{bit, len, when}
 use Rattle.model.specs.State.{Block, DownloadingPiece, Picker, noBlock, maxPeers, sameBlockState, hasPeer, withBlocks, withPartials}
 use Rattle.model.specs.list.Order.{Draws, drawing, noDraw, rank}
@@ -20,7 +21,7 @@ use Rattle.model.proofs.keep.KeepBlocks.{block-in, setBlock-keeps}
 use Rattle.model.proofs.keep.KeepClose.{finished-rank}
 use Rattle.model.proofs.sound.PartialLaws.{findDlPiece-piece, partialOf-put-same, size-put}
 use Rattle.change_state.proofs.KeptLaws.{update-same}
-use Rattle.change_blocks.specs.Replacing.{withBlockAt, namedPeer}
+use Rattle.change_blocks.specs.Replacing.{withBlockAt}
 use Rattle.change_blocks.proofs.TallyLaws.{count-set}
 
 -- ---- the block

@@ -9,6 +9,7 @@ use native.Mathlib.Omega.{arith}
 use lib.Dec.{eqb, leb}
 use borrow.Author.Tests.{eq-eqb, ne-eqb}
 use Rattle.types.specs.declared.block.BlockState.the-variants.{Writing, Finished}
+use Rattle.types.specs.Peer.{namedPeer}
 use Rattle.model.specs.Lists.{len, nth, when, filter}
 use Rattle.model.specs.Bep3.{bitOf, pieceBlocks}
 use Rattle.model.specs.State.{Block, DownloadingPiece, Picker, sameBlockState, hasPeer, withBlocks, withPartials, blocksInPiece}
@@ -33,7 +34,7 @@ use Rattle.memory_partials.proofs.MarkLaws.{standing-found}
 use Rattle.change_steps.specs.Working.{Went}
 use Rattle.change_steps.proofs.WorkLaws.{went-nowhere, went-named, went-then}
 use Rattle.change_state.specs.declared.states.Tally.{Tally}
-use Rattle.change_blocks.specs.Replacing.{withBlockAt, Retallied, TallyAt, TallyBeside, namedPeer, BlockSet}
+use Rattle.change_blocks.specs.Replacing.{withBlockAt, Retallied, TallyAt, TallyBeside, BlockSet}
 use Rattle.change_blocks.proofs.TallyLaws.{count-most}
 use Rattle.change_blocks.proofs.StandingLaws.{block-there, block-within, set-there}
 use Rattle.change_flags.specs.Closing.{HasPartial, PartialBeside, Flushed}

@@ -5,6 +5,7 @@ use mathlib.Core.List.{List}
 use mathlib.Core.Option.{some}
 use Prim.Native.Nat.{ℕ, _≤_, _<_}
 use native.Mathlib.Omega.{arith}
+use Rattle.types.specs.Peer.{namedPeer}
 use Rattle.model.specs.Lists.{nth}
 use Rattle.model.specs.State.{Block, withPeer}
 use Rattle.model.specs.list.Order.{Draws, drawing, noDraw}
@@ -17,7 +18,7 @@ use Rattle.memory_blocks.specs.declared.info.BlockInfo.{BlockInfo}
 use Rattle.memory_blocks.specs.Blocks.{blockOf, BlockRead, BlockStored}
 use Rattle.change_steps.proofs.WorkLaws.{went-named}
 use Rattle.change_state.specs.declared.states.Tally.{Tally}
-use Rattle.change_blocks.specs.Replacing.{Retallied, namedPeer, BlockSet}
+use Rattle.change_blocks.specs.Replacing.{Retallied, BlockSet}
 use Rattle.change_blocks.proofs.SetLaws.{put-went}
 use Rattle.change_blocks.proofs.StandingLaws.{block-there, set-there}
 use Rattle.change_marking.specs.Marking.{Written}

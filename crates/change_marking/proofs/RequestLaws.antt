@@ -5,6 +5,7 @@ use mathlib.Core.List.{List}
 use mathlib.Core.Option.{some}
 use Prim.Native.Nat.{ℕ, suc, _+_, _≤_, _<_}
 use native.Mathlib.Omega.{arith}
+use Rattle.types.specs.Peer.{namedPeer}
 use Rattle.model.specs.Lists.{nth}
 use Rattle.model.specs.State.{Block, DownloadingPiece}
 use Rattle.model.specs.list.Order.{Draws, Drawing, drawing}
@@ -22,7 +23,7 @@ use Rattle.change_steps.proofs.WorkLaws.{went-nowhere, went-named, went-then}
 use Rattle.change_state.specs.declared.states.Tally.{Tally}
 use Rattle.change_state.specs.Numbers.{IsTally}
 use Rattle.change_direction.specs.Turning.{MadeReverse}
-use Rattle.change_blocks.specs.Replacing.{withBlockAt, Retallied, PartialAt, PartialBeside, TallyAt, TallyBeside, namedPeer, BlockSet}
+use Rattle.change_blocks.specs.Replacing.{withBlockAt, Retallied, PartialAt, PartialBeside, TallyAt, TallyBeside, BlockSet}
 use Rattle.change_blocks.proofs.StandingLaws.{block-there, block-within}
 use Rattle.change_marking.specs.Marking.{RequestBeside, Requested}
 use Rattle.change_marking.proofs.BlockLaws.{was-received, not-received}

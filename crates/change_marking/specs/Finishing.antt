@@ -4,6 +4,7 @@ use mathlib.Core.Path.{_≡_}
 use mathlib.Core.Bool.{Bool, true}
 use mathlib.Core.List.{List}
 use Rattle.types.specs.declared.block.BlockState.the-variants.{Finished}
+use Rattle.types.specs.Peer.{namedPeer}
 use Rattle.model.specs.State.{Block}
 use Rattle.model.specs.list.Order.{Draws}
 use Rattle.model.specs.change.Partials.{blocksInState}
@@ -17,7 +18,7 @@ use Rattle.memory_layout.specs.Changes.{partialIn}
 use Rattle.memory_blocks.specs.declared.info.BlockInfo.{BlockInfo}
 use Rattle.memory_blocks.specs.Blocks.{blockOf}
 use Rattle.change_state.specs.declared.states.Tally.{Tally}
-use Rattle.change_blocks.specs.Replacing.{TallyAt, namedPeer}
+use Rattle.change_blocks.specs.Replacing.{TallyAt}
 use Rattle.change_returns.specs.Giving.{PartialChanged}
 
 -- ---- before

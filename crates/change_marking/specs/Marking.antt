@@ -4,6 +4,7 @@ use mathlib.Core.Path.{_≡_}
 use mathlib.Core.Bool.{Bool}
 use mathlib.Core.List.{List}
 use mathlib.Core.Option.{some}
+use Rattle.types.specs.Peer.{namedPeer}
 use Rattle.model.specs.State.{DownloadingPiece}
 use Rattle.model.specs.list.Order.{Draws, Drawing, drawing}
 use Rattle.model.specs.change.Partials.{blockAt}
@@ -14,7 +15,7 @@ use Rattle.memory_layout.specs.Decode.{decode}
 use Rattle.memory_layout.specs.Changes.{partialIn}
 use Rattle.change_steps.specs.Working.{Went}
 use Rattle.change_state.specs.declared.states.Tally.{Tally}
-use Rattle.change_blocks.specs.Replacing.{TallyAt, TallyBeside, namedPeer}
+use Rattle.change_blocks.specs.Replacing.{TallyAt, TallyBeside}
 use Rattle.change_marking.specs.declared.answers.Marked.{Marked}
 
 -- ---- before

@@ -1,2 +1,1 @@
-pub mod FreeLaws
 pub mod WholeLaws

@@ -1,4 +1,4 @@
-// A partial closed with the last of its blocks that is at work, and what a block made free comes to (`specs/Giving`). A step of a change.
+// A partial closed with the last of its blocks that is at work, and what a change by a block comes to (`specs/Giving`). A step of a change.
 mod closing;
 
 pub use closing::Given;

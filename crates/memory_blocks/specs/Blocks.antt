@@ -2,10 +2,10 @@
 use Prim.Native.Nat.{ℕ, _<_}
 use mathlib.Core.Path.{_≡_}
 use mathlib.Core.Logic.{_≢_}
-use mathlib.Core.Bool.{cond}
-use mathlib.Core.Option.{none, some}
+use mathlib.Core.Option.{none}
 use mathlib.Core.List.{List}
 use Rattle.types.specs.Block.{blockStateNumber}
+use Rattle.types.specs.Peer.{namedPeer}
 use Rattle.model.specs.Lists.{bit}
 use Rattle.model.specs.State.{Block}
 use Rattle.model.specs.change.Partials.{blockAt}
@@ -20,7 +20,7 @@ use Rattle.memory_blocks.specs.declared.info.BlockInfo.{BlockInfo}
 
 -- the block of these numbers: without a peer its number means nothing
 unfoldable pub blockOf : (x : BlockInfo) → Block
-blockOf x = record { state = stateFrom (x .state); numPeers = x .«num_peers»; peer = cond (x .«has_peer») (some (x .peer)) none }
+blockOf x = record { state = stateFrom (x .state); numPeers = x .«num_peers»; peer = namedPeer (x .«has_peer») (x .peer) }
 
 -- the numbers are the block's, with its state's number
 pub record BlockIs (x : BlockInfo) (y : Block) : Type 0 where

@@ -3,8 +3,11 @@
 // every content of it. A state above 3 is required away and has-peer is only stored as 0 or 1, so that the memory test passes again.
 mod blocks;
 mod info;
+mod peers;
 
 pub use blocks::fresh_block;
 pub use blocks::get_block;
 pub use blocks::put_block;
 pub use info::BlockInfo;
+pub use peers::release;
+pub use peers::same_peer;

@@ -9,6 +9,7 @@ use lib.Dec.{eqb}
 use lib.ListN.{length, getD, set, take, length-set}
 use lib.Seq.{getD-take, length-take-le}
 use Rattle.types.specs.declared.block.BlockState.the-variants.{Requested}
+use Rattle.types.specs.Peer.{namedPeer}
 use Rattle.model.specs.Lists.{bit, from, filter, nth, len}
 use Rattle.model.specs.State.{Block, DownloadingPiece, noBlock, sameBlockState, samePeer}
 use Rattle.model.specs.change.Partials.{blockAt}
@@ -20,7 +21,7 @@ use Rattle.memory_layout.proofs.TableLaws.{tabulate-len, tabulate-nth}
 use Rattle.memory_blocks.specs.declared.info.BlockInfo.{BlockInfo}
 use Rattle.memory_blocks.specs.Blocks.{blockOf, BlockIs, BlockRead}
 use Rattle.pick_state.specs.declared.request.PickRequest.{PickRequest}
-use Rattle.pick_state.specs.Requests.{namedPeer, requestOf}
+use Rattle.pick_state.specs.Requests.{requestOf}
 use Rattle.memory_records.specs.Rows.{rowAt}
 use Rattle.memory_layout.specs.Decode.{blocksOf}
 use Rattle.memory_layout.specs.Changes.{partialIn}

@@ -1,28 +1,28 @@
 // The blocks of a partial that another peer was asked for and that have not come.
 use memory_blocks::BlockInfo;
 use memory_blocks::get_block;
+use memory_blocks::same_peer;
 use memory_layout::Shape;
 use memory_records::row;
 use pick_append::push;
 use pick_partial::blocks_of;
-use pick_requested::same_peer;
 use pick_state::PickRequest;
 use types::u32_to_usize;
 ghost use mathlib.Core.Path.{_≡_};
 ghost use Prim.Native.Nat.{_≤_, _<_};
 ghost use lib.ListN.{length};
+ghost use Rattle.types.specs.Peer.{namedPeer};
 ghost use Rattle.memory_layout.specs.Bounds.{Spans};
 ghost use Rattle.memory_layout.specs.Changes.{partialIn};
 ghost use Rattle.memory_rows.specs.Lookup.{pickerIn};
 ghost use Rattle.ask_picker.specs.Asked.{Asked};
-ghost use Rattle.pick_state.specs.Requests.{namedPeer};
 ghost use Rattle.pick_busy.specs.Busy.{BusySays, BusyAt, BusyIn};
 
 // A block is one of them.
 fn is_busy(b: BlockInfo, q: PickRequest) -> bool
     ensures { λ r. ⌜ BusySays (namedPeer (q .«has_peer») (q .peer)) b r ⌝ }
 {
-    let same = same_peer(b, q);
+    let same = same_peer(b, q.has_peer, q.peer);
     (b.state == 1) & !same
 }
 

@@ -10,6 +10,7 @@ use lib.ListN.{length, take, drop, length-append}
 use lib.Seq.{take-at}
 use borrow.Author.Tests.{ltb-true}
 use Rattle.types.specs.declared.refusal.Refusal.the-variants.{ShortMemory, IllFormedImage}
+use Rattle.types.specs.Peer.{namedPeer}
 use Rattle.model.specs.Lists.{nth, len, every}
 use Rattle.model.specs.State.{Picker, piecesIn, blocksPerPiece, hasPeer}
 use Rattle.model.specs.pick.Blocks.{PickRequest}
@@ -25,7 +26,6 @@ use Rattle.image_records.specs.declared.pick.Pick.{Pick}
 use Rattle.image_records.specs.Records.{peerNumber, pickNumbers}
 use Rattle.image_judge.specs.declared.whole.JobRead.the-variants.{Found, Fault}
 use Rattle.image_judge.specs.Verdicts.{jobVerdict}
-use Rattle.pick_state.specs.Requests.{namedPeer}
 use Rattle.pick_start.specs.Starting.{requestWith}
 use Rattle.pick_job.specs.Jobs.{requestNumbers, requestOnes, programPick, limited}
 use Rattle.pick_job.proofs.PickLaws.{lent-named, asked-told}

@@ -13,6 +13,7 @@ use borrow.Author.Tests.{ltb-false, leb-true, not-false}
 use Rattle.types.specs.Piece.{numberOf}
 use Rattle.types.specs.declared.refusal.Refusal.{Refusal}
 use Rattle.types.specs.declared.refusal.Refusal.the-variants.{FewDraws, PickArguments, ShortOutput}
+use Rattle.types.specs.Peer.{namedPeer}
 use Rattle.model.specs.Lists.{len, each}
 use Rattle.model.specs.Bep3.{partsOf, bitfieldBytes}
 use Rattle.model.specs.State.{Picker, piecesIn, hasPeer}
@@ -31,7 +32,6 @@ use Rattle.ask_picker.specs.Asked.{Asked}
 use Rattle.image_records.specs.declared.pick.Pick.{Pick}
 use Rattle.image_records.specs.Records.{peerNumber}
 use Rattle.pick_state.specs.declared.request.PickRequest.{PickRequest as Request}
-use Rattle.pick_state.specs.Requests.{namedPeer}
 use Rattle.pick_start.specs.Starting.{requestWith}
 use Rattle.pick_pieces.specs.declared.pieces.Picked.{Picked}
 use Rattle.pick_pieces.specs.Whole.{PickRoom, PickGave}
@@ -128,7 +128,7 @@ module _ (d : Picker) (a : PickRequest) (free : ℕ) (draws : Draws) (j : Judgem
 -- ---- the definition's request
 -- a peer of 64 bits, as a flag and a number
 pub lent-named : (o : Option ℕ) → lentPeer o ≡ namedPeer (hasPeer o) (peerNumber o % 18446744073709551616)
-unfolding lentPeer namedPeer hasPeer peerNumber
+unfolding lentPeer hasPeer peerNumber
 lent-named none = refl
 lent-named (some n) = refl
 

@@ -7,6 +7,7 @@ use lib.Dec.{leb}
 use lib.ListN.{length}
 use Rattle.types.specs.Piece.{numberOf}
 use Rattle.types.specs.Bits.{meets}
+use Rattle.types.specs.Peer.{namedPeer}
 use Rattle.model.specs.Lists.{len}
 use Rattle.model.specs.State.{Picker, piecesIn}
 use Rattle.model.specs.Options.{rarestFirst, sequential}
@@ -14,7 +15,6 @@ use Rattle.model.specs.pick.Blocks.{PickRequest}
 use Rattle.model.specs.Calls.{Action, refusal, requestFits}
 use Rattle.memory_layout.specs.declared.shape.Shape.{Shape}
 use Rattle.pick_state.specs.declared.request.PickRequest.{PickRequest as Request}
-use Rattle.pick_state.specs.Requests.{namedPeer}
 use Rattle.pick_start.specs.Starting.{requestWith}
 use Rattle.picker_calls.specs.declared.judgement.Judgement.{Judgement}
 use Rattle.picker_calls.specs.Outcomes.{judged}

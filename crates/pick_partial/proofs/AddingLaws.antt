@@ -7,6 +7,7 @@ use native.Mathlib.Omega.{arith}
 use lib.ListN.{length, getD}
 use Rattle.types.specs.Block.{blockStateNumber}
 use Rattle.types.specs.Bits.{meets}
+use Rattle.types.specs.Peer.{namedPeer}
 use Rattle.model.specs.Lists.{nth, len, when, branch}
 use Rattle.model.specs.State.{Block, DownloadingPiece, Picker, noBlock}
 use Rattle.model.specs.Options.{onParole}
@@ -20,7 +21,6 @@ use Rattle.memory_layout.proofs.Numbers.{state-number}
 use Rattle.memory_layout.proofs.TableLaws.{tabulate-len, tabulate-nth}
 use Rattle.pick_state.specs.declared.request.PickRequest.{PickRequest}
 use Rattle.pick_state.specs.declared.numbers.PickNumbers.{PickNumbers}
-use Rattle.pick_state.specs.Requests.{namedPeer}
 use Rattle.pick_state.specs.PickStates.{contiguousOf, stateOf, OutDid, AsideDid, Did}
 use Rattle.pick_state.proofs.DidLaws.{kept-same, kept-then, out-did, aside-all, did-none, did-as}
 use Rattle.pick_requested.specs.declared.requested.RequestedFrom.{RequestedFrom as Numbers}

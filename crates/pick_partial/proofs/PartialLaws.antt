@@ -7,6 +7,7 @@ use native.Mathlib.Omega.{arith}
 use lib.Dec.{eqb}
 use lib.ListN.{length, getD}
 use Rattle.types.specs.Bits.{meets}
+use Rattle.types.specs.Peer.{namedPeer}
 use Rattle.model.specs.Lists.{when}
 use Rattle.model.specs.Bep3.{bitOf, numPieces, pieceBlocks}
 use Rattle.model.specs.State.{DownloadingPiece, Picker}
@@ -29,7 +30,7 @@ use Rattle.ask_picker.proofs.AskedLaws.{asked-queues}
 use Rattle.ask_picker.proofs.RecordRows.{record-row}
 use Rattle.pick_state.specs.declared.request.PickRequest.{PickRequest as Request}
 use Rattle.pick_state.specs.declared.numbers.PickNumbers.{PickNumbers}
-use Rattle.pick_state.specs.Requests.{namedPeer, requestOf}
+use Rattle.pick_state.specs.Requests.{requestOf}
 use Rattle.pick_state.specs.PickStates.{stateOf}
 use Rattle.pick_free.specs.Picking.{Picks}
 use Rattle.pick_partial.specs.Adding.{BlocksDid, PlainAt, FreeDid}

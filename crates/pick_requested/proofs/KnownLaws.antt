@@ -6,6 +6,7 @@ use Prim.Native.Nat.{ℕ, _+_, _≤_}
 use native.Mathlib.Omega.{arith}
 use borrow.Author.Tests.{eqb-true, le-ltb, not-true}
 use Rattle.types.specs.Bits.{meets}
+use Rattle.types.specs.Peer.{namedPeer}
 use Rattle.model.specs.Lists.{branch}
 use Rattle.model.specs.State.{DownloadingPiece}
 use Rattle.model.specs.Options.{onParole}
@@ -14,7 +15,6 @@ use Rattle.model.proofs.base.Truths.{and-left, and-right}
 use Rattle.memory_layout.specs.declared.shape.Shape.{Shape}
 use Rattle.pick_state.specs.declared.request.PickRequest.{PickRequest}
 use Rattle.pick_state.specs.declared.numbers.PickNumbers.{PickNumbers}
-use Rattle.pick_state.specs.Requests.{namedPeer}
 use Rattle.pick_state.specs.PickStates.{contiguousOf}
 use Rattle.pick_requested.specs.declared.requested.RequestedFrom.{RequestedFrom as Numbers}
 use Rattle.pick_requested.specs.Requested.{foundIs, Requested}

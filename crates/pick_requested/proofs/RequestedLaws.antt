@@ -12,6 +12,7 @@ use lib.Seq.{drop-cons, drop-length}
 use borrow.Author.Tests.{eq-eqb, ne-eqb, lt-ltb, le-ltb, ltb-true}
 use Rattle.types.specs.declared.block.BlockState.the-variants.{None, Requested as RequestedState}
 use Rattle.types.specs.Block.{blockStateNumber}
+use Rattle.types.specs.Peer.{namedPeer}
 use Rattle.model.specs.Lists.{nth, len, any}
 use Rattle.model.specs.State.{Block, DownloadingPiece, noBlock, sameBlockState, samePeer, hasPeer}
 use Rattle.model.specs.pick.Blocks.{RequestedFrom, FreeRun, longer, longestFree, byAnother, requestedFrom}
@@ -23,30 +24,9 @@ use Rattle.memory_layout.specs.Decode.{blockHeld}
 use Rattle.memory_layout.proofs.TableLaws.{tabulate-len, tabulate-nth}
 use Rattle.memory_blocks.specs.declared.info.BlockInfo.{BlockInfo}
 use Rattle.memory_blocks.specs.Blocks.{blockOf, BlockIs, BlockRead}
-use Rattle.pick_state.specs.Requests.{namedPeer}
 use Rattle.pick_requested.specs.declared.requested.RequestedFrom.{RequestedFrom as Numbers}
 use Rattle.pick_requested.specs.declared.requested.Scan.{Scan}
 use Rattle.pick_requested.specs.Requested.{foundIs, runOf, runEnded, atWork, foundFrom, Within, PassedOver, Requested}
-
--- ---- two peers
-named : (m : ℕ) (has : Bool) (n : ℕ) → (has && eqb m n) ≡ samePeer (some m) (cond has (some n) none)
-unfolding samePeer
-named m true n = refl
-named m false n = refl
-
-unnamed : (has : Bool) (n : ℕ) → not has ≡ samePeer none (cond has (some n) none)
-unfolding samePeer
-unnamed true n = refl
-unnamed false n = refl
-
-module _ (b : BlockInfo) (has : Bool) (n : ℕ) where
-  pub same-named : b .«has_peer» ≡ true → (has && eqb (b .peer) n) ≡ samePeer (blockOf b .peer) (namedPeer has n)
-  unfolding blockOf namedPeer
-  same-named e = named (b .peer) has n ∙ ap (λ (t : Bool). samePeer (cond t (some (b .peer)) none) (cond has (some n) none)) (sym e)
-
-  pub same-unnamed : b .«has_peer» ≡ false → not has ≡ samePeer (blockOf b .peer) (namedPeer has n)
-  unfolding blockOf namedPeer
-  same-unnamed e = unnamed has n ∙ ap (λ (t : Bool). samePeer (cond t (some (b .peer)) none) (cond has (some n) none)) (sym e)
 
 -- ---- the run before block j
 module _ (j : ℕ) (x : Scan) where

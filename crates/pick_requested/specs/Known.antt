@@ -4,6 +4,7 @@ use mathlib.Core.Path.{_≡_}
 use mathlib.Core.Bool.{not, _||_}
 use mathlib.Core.List.{List}
 use Rattle.types.specs.Bits.{meets}
+use Rattle.types.specs.Peer.{namedPeer}
 use Rattle.model.specs.State.{DownloadingPiece}
 use Rattle.model.specs.Options.{onParole}
 use Rattle.model.specs.pick.Blocks.{PickState, requestedFrom, useFree}
@@ -12,7 +13,6 @@ use Rattle.memory_layout.specs.Tables.{tabulate}
 use Rattle.memory_layout.specs.Decode.{blockHeld}
 use Rattle.pick_state.specs.declared.request.PickRequest.{PickRequest}
 use Rattle.pick_state.specs.declared.numbers.PickNumbers.{PickNumbers}
-use Rattle.pick_state.specs.Requests.{namedPeer}
 use Rattle.pick_state.specs.PickStates.{contiguousOf}
 use Rattle.pick_requested.specs.declared.requested.RequestedFrom.{RequestedFrom}
 use Rattle.pick_requested.specs.Requested.{foundIs}

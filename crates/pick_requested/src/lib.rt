@@ -5,4 +5,3 @@ mod requested;
 pub use known::known_of;
 pub use requested::RequestedFrom;
 pub use requested::requested_from;
-pub use requested::same_peer;

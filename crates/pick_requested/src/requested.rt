@@ -1,14 +1,13 @@
 // Who works on a partial, and its longest run of free blocks: one pass over its blocks.
 use memory_blocks::BlockInfo;
 use memory_blocks::get_block;
+use memory_blocks::same_peer;
 use memory_layout::Shape;
 use pick_state::PickRequest;
 ghost use mathlib.Core.Path.{_≡_};
 ghost use Prim.Native.Nat.{_+_, _≤_, _<_};
-ghost use Rattle.model.specs.State.{samePeer};
+ghost use Rattle.types.specs.Peer.{namedPeer};
 ghost use Rattle.memory_layout.specs.Bounds.{Spans};
-ghost use Rattle.memory_blocks.specs.Blocks.{blockOf};
-ghost use Rattle.pick_state.specs.Requests.{namedPeer};
 ghost use Rattle.pick_requested.specs.Requested.{runEnded, Within, PassedOver, Requested};
 
 // No other peer's block; another peer has a request; the longest run of free blocks, and its first.
@@ -26,16 +25,6 @@ struct Scan {
     longest: usize,
     first: usize,
     now: usize,
-}
-
-// The peer that asked for the block last is the one that is asked, or there is none of both.
-pub fn same_peer(b: BlockInfo, q: PickRequest) -> bool
-    ensures { λ r. ⌜ r ≡ samePeer (blockOf b .peer) (namedPeer (q .«has_peer») (q .peer)) ⌝ }
-{
-    if b.has_peer {
-        return q.has_peer & (b.peer == q.peer);
-    }
-    !q.has_peer
 }
 
 // The run before block j is over. So the first of equally long ones stays.
@@ -78,7 +67,7 @@ fn pass_block(x: Scan, j: usize, b: BlockInfo, q: PickRequest) -> Scan
         };
     }
     let y = run_ended(x, j);
-    let same = same_peer(b, q);
+    let same = same_peer(b, q.has_peer, q.peer);
     Scan {
         exclusive: y.exclusive & same,
         active: y.active | (!same & (b.state == 1) & b.has_peer),

@@ -5,6 +5,7 @@ use mathlib.Core.Bool.{Bool, cond}
 use mathlib.Core.List.{List}
 use lib.Dec.{ltb}
 use Rattle.types.specs.Bits.{union}
+use Rattle.types.specs.Peer.{namedPeer}
 use Rattle.model.specs.Options.{prioritizePartials, partialRatio, preferContiguous}
 use Rattle.model.specs.pick.Blocks.{PickRequest}
 use Rattle.model.specs.pick.Pick.{isForced}
@@ -12,7 +13,6 @@ use Rattle.memory_layout.specs.declared.shape.Shape.{Shape}
 use Rattle.memory_rows.specs.Lookup.{LiveRows, pickerIn}
 use Rattle.pick_state.specs.declared.numbers.PickNumbers.{PickNumbers}
 use Rattle.pick_state.specs.declared.request.PickRequest.{PickRequest as Request}
-use Rattle.pick_state.specs.Requests.{namedPeer}
 use Rattle.pick_state.specs.PickStates.{withFlags}
 
 -- ---- the forcing rule

@@ -1,14 +1,9 @@
 -- What a pick is asked, from the code's numbers and the lent bitfield. Assumes nothing.
 use Prim.Native.Nat.{ℕ}
-use mathlib.Core.Bool.{Bool, cond}
 use mathlib.Core.List.{List, []}
-use mathlib.Core.Option.{Option, none, some}
+use Rattle.types.specs.Peer.{namedPeer}
 use Rattle.model.specs.pick.Blocks.{PickRequest}
 use Rattle.pick_state.specs.declared.request.PickRequest.{PickRequest as Request}
-
--- a flag and a number
-unfoldable pub namedPeer : (has : Bool) (peer : ℕ) → Option ℕ
-namedPeer has peer = cond has (some peer) none
 
 -- the definition's request, without suggestions: they belong to their own phase
 unfoldable pub requestOf : (q : Request) (bytes : List ℕ) → PickRequest

@@ -7,6 +7,7 @@ use mathlib.Core.Option.{Option, some}
 use Prim.Native.Nat.{ℕ, _<_, _^_}
 use native.Mathlib.Omega.{arith}
 use Rattle.types.specs.declared.refusal.Refusal.{Refusal}
+use Rattle.types.specs.Peer.{namedPeer}
 use Rattle.model.specs.State.{Picker}
 use Rattle.model.specs.list.Order.{Drawing, drawing}
 use Rattle.model.specs.change.Changes.{Change, quietly}
@@ -21,7 +22,6 @@ use Rattle.memory_layout.proofs.StandingLaws.{stands-shape}
 use Rattle.memory_rows.specs.Lookup.{pickerIn}
 use Rattle.change_steps.specs.Whole.{Done, EditRoom}
 use Rattle.change_tally.specs.RowsStanding.{RowsStand}
-use Rattle.change_blocks.specs.Replacing.{namedPeer}
 use Rattle.picker_calls.specs.declared.admission.Admission.{Admission}
 use Rattle.picker_calls.specs.declared.admission.Admission.the-variants.{At}
 use Rattle.picker_calls.specs.declared.judgement.Judgement.{Judgement}

@@ -2,9 +2,9 @@
 use mathlib.Core.Option.{Option}
 use Prim.Native.Nat.{ℕ}
 use Rattle.types.specs.Piece.{numberOf}
+use Rattle.types.specs.Peer.{namedPeer}
 use Rattle.model.specs.list.Order.{Draws}
 use Rattle.model.specs.Calls.{Action, mark-as-downloading}
-use Rattle.change_blocks.specs.Replacing.{namedPeer}
 use Rattle.picker_blocks.specs.declared.arguments.BlockPeer.{BlockPeer}
 use Rattle.picker_blocks.specs.declared.arguments.BlockRequest.{BlockRequest}
 

@@ -12,6 +12,7 @@ use borrow.Author.Tests.{leb-true, ltb-false, eqb-true, not-false}
 use Rattle.types.specs.Piece.{numberOf}
 use Rattle.types.specs.declared.refusal.Refusal.{Refusal}
 use Rattle.types.specs.declared.refusal.Refusal.the-variants.{FewDraws, PickArguments, ShortOutput}
+use Rattle.types.specs.Peer.{namedPeer}
 use Rattle.model.specs.Lists.{len, each}
 use Rattle.model.specs.Bep3.{bitfieldBytes}
 use Rattle.model.specs.State.{Picker, piecesIn}
@@ -33,7 +34,6 @@ use Rattle.memory_layout.proofs.BoundsLaws.{cells-kept-none}
 use Rattle.check_partials.specs.Records.{CountsHeld}
 use Rattle.memory_rows.specs.Lookup.{pickerIn}
 use Rattle.pick_state.specs.declared.request.PickRequest.{PickRequest as Request}
-use Rattle.pick_state.specs.Requests.{namedPeer}
 use Rattle.pick_state.specs.PickStates.{blocksBetween}
 use Rattle.pick_free.specs.Picking.{Picks}
 use Rattle.pick_start.specs.Starting.{requestWith}
@@ -62,7 +62,7 @@ pick-listless request free draws = listless (pick-pieces request free draws) ref
 module _ (a : PickInput) (bytes suggestions : List ℕ) where
   -- a pick's request is lent with a peer of 64 bits
   lent-same : lentRequest (requestAsked a bytes suggestions) ≡ requestWith (requestNumbers a) bytes suggestions
-  unfolding lentRequest lentPeer requestAsked requestWith requestNumbers namedPeer
+  unfolding lentRequest lentPeer requestAsked requestWith requestNumbers
   lent-same = go (a .«has_peer»)
     where
       -- with a peer, or none

@@ -4,3 +4,4 @@ pub mod Queue
 pub mod Block
 pub mod Bits
 pub mod Refusal
+pub mod Peer

@@ -72,7 +72,7 @@ queue-forth (suc (suc (suc (suc (suc zero))))) h = refl
 queue-forth (suc (suc (suc (suc (suc (suc zero)))))) h = refl
 queue-forth (suc (suc (suc (suc (suc (suc (suc n))))))) h = absurd (omega arith)
 
-state-below : (b : BlockState) → blockStateNumber b ≤ 3
+pub state-below : (b : BlockState) → blockStateNumber b ≤ 3
 state-below None = omega arith
 state-below Requested = omega arith
 state-below Writing = omega arith

@@ -2,10 +2,10 @@
 use mathlib.Core.Path.{refl, sym, _∙_}
 use native.Mathlib.Omega.{arith}
 use borrow.Author.Needs.{needs}
-use Rattle.change_blocks.proofs.StandingLaws.{block-places, state-low}
+use Rattle.change_blocks.proofs.StandingLaws.{stands-there, block-places, state-low, retally-asks}
 use Rattle.memory_records.specs.declared.edits.Edit.the-variants.{Keep}
 use Rattle.memory_blocks.specs.declared.info.BlockInfo.{BlockInfo}
-use Rattle.change_returns.proofs.FreeLaws.{partial-beside, blocks-beside, block-beside, retally-read, freed-closed, freed-kept}
+use Rattle.change_giving.proofs.FreeLaws.{close-asks, freed-closed, freed-kept}
 use Rattle.change_giving.proofs.GivingLaws.{cancel-nothing, cancel-free, cancel-put}
 use Rattle.change_giving.proofs.blocks.cancel_block.Statement.{statement}
 use Rattle.change_giving.proofs.blocks.cancel_block.Tie as tie
@@ -40,9 +40,7 @@ close-partial-requires c κs =
     let l = m .before .before .before .before in
     let o = l .before .before .before .before .before .before in
     let a = o .args in
-    let b = block-beside (a .s) (a .words .now) (a .cells .now) (a .i) (a .p) (a .j) 2 (a .t) (l .get-block .result)
-    (l .get-block .ensures) (m .if2 .taken) (o .pre .0) in
-    (partial-beside (a .s) (a .words .now) (a .cells .now) (a .i) (a .p) (a .j) 2 (a .t) b, o .pre .1)
+    (close-asks (a .s) (a .words .now) (a .cells .now) (a .i) (a .p) (a .j) (a .t) (o .pre .0), o .pre .1)
 
 same-length-3 : tie.Need-same-length-3
 same-length-3 c = search needs
@@ -61,7 +59,7 @@ returns-2 c =
     let a = o .args in
     let x : BlockInfo = record { state = 0; «num_peers» = l .get-block .result .«num_peers»; «has_peer» = a .has-peer; peer = a .peer } in
     let d = u .close-partial .result in
-    let g = freed-closed (a .s) (a .words .now) (a .cells .now) (a .i) (a .p) (a .j) 2 (a .t) x (a .draws .now) 0 _ _ (d .used) (d .edit)
+    let g = freed-closed (a .s) (a .words .now) (a .cells .now) (a .i) (a .p) (a .j) (a .t) x (a .draws .now) _ _ (d .used) (d .edit)
     (u .close-partial .ensures .0) (sym (f .if3 .taken) ∙ f .before .is-last .ensures) (u .close-partial .ensures .1) in
     cancel-free (a .s) (a .words .now) (a .cells .now) (a .i) (a .p) (a .j) (a .t) (a .draws .now) (a .has-peer) (a .peer)
     (l .get-block .result) (l .get-block .ensures) (n .if1 .left) (m .if2 .taken) _ _ (d .edit) (d .used) g
@@ -72,8 +70,8 @@ retally-requires c κs =
     let l = m .before .before .before .before in
     let o = l .before .before .before .before .before .before in
     let a = o .args in
-    retally-read (a .s) (a .words .now) (a .cells .now) (a .i) (a .p) (a .j) 2 (a .t)
-    (l .get-block .result) (l .get-block .ensures) (m .if2 .taken) (o .pre .0)
+    retally-asks (a .s) (a .words .now) (a .cells .now) (a .i) (a .p) (a .j) (a .t) (l .get-block .result) (l .get-block .ensures)
+    2 (m .if2 .taken) (o .pre .0)
 
 set-block-requires : tie.Need-set-block-requires
 set-block-requires c κs =
@@ -82,9 +80,8 @@ set-block-requires c κs =
     let l = m .before .before .before .before in
     let o = l .before .before .before .before .before .before in
     let a = o .args in
-    let b = block-beside (a .s) (a .words .now) (a .cells .now) (a .i) (a .p) (a .j) 2 (a .t) (l .get-block .result)
-    (l .get-block .ensures) (m .if2 .taken) (o .pre .0) in
-    (blocks-beside (a .s) (a .words .now) (a .cells .now) (a .i) (a .p) (a .j) 2 (a .t) b, (o .pre .1, (omega arith, omega arith)))
+    let b = stands-there (a .s) (a .words .now) (a .cells .now) (a .i) (a .p) (a .j) (a .t) (o .pre .0) in
+    (b, (o .pre .1, (omega arith, omega arith)))
 
 same-length-5 : tie.Need-same-length-5
 same-length-5 c = search needs
@@ -103,8 +100,8 @@ returns-3 c =
     let o = l .before .before .before .before .before .before in
     let a = o .args in
     let x : BlockInfo = record { state = 0; «num_peers» = l .get-block .result .«num_peers»; «has_peer» = a .has-peer; peer = a .peer } in
-    let g = freed-kept (a .s) (a .words .now) (a .cells .now) (a .i) (a .p) (a .j) 2 (a .t) x (a .draws .now) 0 _ _ (u .set-block .result)
-    (r .retally .result) (r .retally .ensures) refl (sym (f .if3 .left) ∙ f .before .is-last .ensures) (u .set-block .ensures) in
+    let g = freed-kept (a .s) (a .words .now) (a .cells .now) (a .i) (a .p) (a .j) (a .t) x (a .draws .now) _ _ (u .set-block .result)
+    (l .get-block .result) (l .get-block .ensures) 2 (m .if2 .taken) (r .retally .result) (r .retally .ensures) refl (sym (f .if3 .left) ∙ f .before .is-last .ensures) (u .set-block .ensures) in
     cancel-free (a .s) (a .words .now) (a .cells .now) (a .i) (a .p) (a .j) (a .t) (a .draws .now) (a .has-peer) (a .peer)
     (l .get-block .result) (l .get-block .ensures) (n .if1 .left) (m .if2 .taken) _ _ Keep (u .set-block .result) g
 

@@ -3,10 +3,10 @@ use mathlib.Core.Path.{refl, sym, _∙_}
 use mathlib.Core.Bool.{false}
 use native.Mathlib.Omega.{arith}
 use borrow.Author.Needs.{needs}
-use Rattle.change_blocks.proofs.StandingLaws.{block-places}
+use Rattle.change_blocks.proofs.StandingLaws.{stands-there, block-places, retally-asks}
 use Rattle.memory_records.specs.declared.edits.Edit.the-variants.{Keep}
 use Rattle.memory_blocks.specs.declared.info.BlockInfo.{BlockInfo}
-use Rattle.change_returns.proofs.FreeLaws.{partial-beside, blocks-beside, block-beside, retally-read, freed-closed, freed-kept}
+use Rattle.change_giving.proofs.FreeLaws.{close-asks, freed-closed, freed-kept}
 use Rattle.change_giving.proofs.GivingLaws.{release-nothing, release-put, release-free}
 use Rattle.change_giving.proofs.blocks.release_block.Statement.{statement}
 use Rattle.change_giving.proofs.blocks.release_block.Tie as tie
@@ -70,9 +70,7 @@ close-partial-requires c κs =
     let l = n .before .before in
     let o = l .before .before .before .before .before .before in
     let a = o .args in
-    let b = block-beside (a .s) (a .words .now) (a .cells .now) (a .i) (a .p) (a .j) 1 (a .t) (l .get-block .result)
-    (l .get-block .ensures) (n .if1 .left) (o .pre .0) in
-    (partial-beside (a .s) (a .words .now) (a .cells .now) (a .i) (a .p) (a .j) 1 (a .t) b, o .pre .1)
+    (close-asks (a .s) (a .words .now) (a .cells .now) (a .i) (a .p) (a .j) (a .t) (o .pre .0), o .pre .1)
 
 same-length-5 : tie.Need-same-length-5
 same-length-5 c = search needs
@@ -91,7 +89,7 @@ returns-3 c =
     let a = o .args in
     let x : BlockInfo = record { state = 0; «num_peers» = 0; «has_peer» = false; peer = l .get-block .result .peer } in
     let d = u .close-partial .result in
-    let g = freed-closed (a .s) (a .words .now) (a .cells .now) (a .i) (a .p) (a .j) 1 (a .t) x (a .draws .now) 0 _ _ (d .used) (d .edit)
+    let g = freed-closed (a .s) (a .words .now) (a .cells .now) (a .i) (a .p) (a .j) (a .t) x (a .draws .now) _ _ (d .used) (d .edit)
     (u .close-partial .ensures .0) (sym (f .if3 .taken) ∙ f .before .is-last .ensures) (u .close-partial .ensures .1) in
     release-free (a .s) (a .words .now) (a .cells .now) (a .i) (a .p) (a .j) (a .t) (a .draws .now) (a .has-peer) (a .peer)
     (l .get-block .result) (l .get-block .ensures) (n .if1 .left) (omega (arith, m .if2 .left)) (x .peer) _ _ (d .edit) (d .used) g
@@ -102,8 +100,8 @@ retally-requires c κs =
     let l = n .before .before in
     let o = l .before .before .before .before .before .before in
     let a = o .args in
-    retally-read (a .s) (a .words .now) (a .cells .now) (a .i) (a .p) (a .j) 1 (a .t)
-    (l .get-block .result) (l .get-block .ensures) (n .if1 .left) (o .pre .0)
+    retally-asks (a .s) (a .words .now) (a .cells .now) (a .i) (a .p) (a .j) (a .t) (l .get-block .result) (l .get-block .ensures)
+    1 (n .if1 .left) (o .pre .0)
 
 set-block-requires : tie.Need-set-block-requires
 set-block-requires c κs =
@@ -112,9 +110,8 @@ set-block-requires c κs =
     let l = n .before .before in
     let o = l .before .before .before .before .before .before in
     let a = o .args in
-    let b = block-beside (a .s) (a .words .now) (a .cells .now) (a .i) (a .p) (a .j) 1 (a .t) (l .get-block .result)
-    (l .get-block .ensures) (n .if1 .left) (o .pre .0) in
-    (blocks-beside (a .s) (a .words .now) (a .cells .now) (a .i) (a .p) (a .j) 1 (a .t) b, (o .pre .1, (omega arith, omega arith)))
+    let b = stands-there (a .s) (a .words .now) (a .cells .now) (a .i) (a .p) (a .j) (a .t) (o .pre .0) in
+    (b, (o .pre .1, (omega arith, omega arith)))
 
 same-length-7 : tie.Need-same-length-7
 same-length-7 c = search needs
@@ -133,8 +130,8 @@ returns-4 c =
     let o = l .before .before .before .before .before .before in
     let a = o .args in
     let x : BlockInfo = record { state = 0; «num_peers» = 0; «has_peer» = false; peer = l .get-block .result .peer } in
-    let g = freed-kept (a .s) (a .words .now) (a .cells .now) (a .i) (a .p) (a .j) 1 (a .t) x (a .draws .now) 0 _ _ (u .set-block .result)
-    (r .retally .result) (r .retally .ensures) refl (sym (f .if3 .left) ∙ f .before .is-last .ensures) (u .set-block .ensures) in
+    let g = freed-kept (a .s) (a .words .now) (a .cells .now) (a .i) (a .p) (a .j) (a .t) x (a .draws .now) _ _ (u .set-block .result)
+    (l .get-block .result) (l .get-block .ensures) 1 (n .if1 .left) (r .retally .result) (r .retally .ensures) refl (sym (f .if3 .left) ∙ f .before .is-last .ensures) (u .set-block .ensures) in
     release-free (a .s) (a .words .now) (a .cells .now) (a .i) (a .p) (a .j) (a .t) (a .draws .now) (a .has-peer) (a .peer)
     (l .get-block .result) (l .get-block .ensures) (n .if1 .left) (omega (arith, m .if2 .left)) (x .peer) _ _ Keep (u .set-block .result) g
 

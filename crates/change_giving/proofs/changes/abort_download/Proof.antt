@@ -1,8 +1,9 @@
 -- `abort_download` meets its contract. Assumes nothing.
 use mathlib.Core.Path.{refl}
 use borrow.Author.Needs.{needs}
+use Rattle.types.specs.Peer.{namedPeer}
 use Rattle.model.specs.change.Changes.{abortIn, abortDownload}
-use Rattle.change_blocks.specs.Replacing.{TallyAt, namedPeer}
+use Rattle.change_blocks.specs.Replacing.{TallyAt}
 use Rattle.change_returns.proofs.WholeLaws.{find-asks, standing-asks, tally-here, tally-beside, whole-nothing, whole-found}
 use Rattle.change_giving.proofs.changes.abort_download.Statement.{statement}
 use Rattle.change_giving.proofs.changes.abort_download.Tie as tie

@@ -1,8 +1,9 @@
 -- `mark_as_canceled` meets its contract. Assumes nothing.
 use mathlib.Core.Path.{refl}
 use borrow.Author.Needs.{needs}
+use Rattle.types.specs.Peer.{namedPeer}
 use Rattle.model.specs.change.Changes.{cancelIn, markAsCanceled}
-use Rattle.change_blocks.specs.Replacing.{TallyAt, namedPeer}
+use Rattle.change_blocks.specs.Replacing.{TallyAt}
 use Rattle.change_returns.proofs.WholeLaws.{find-asks, standing-asks, tally-here, tally-beside, whole-nothing, whole-found}
 use Rattle.change_giving.proofs.changes.mark_as_canceled.Statement.{statement}
 use Rattle.change_giving.proofs.changes.mark_as_canceled.Tie as tie

@@ -2,8 +2,7 @@
 use mathlib.Core.Path.{refl, sym, _∙_}
 use native.Mathlib.Omega.{arith}
 use borrow.Author.Needs.{needs}
-use Rattle.change_blocks.proofs.StandingLaws.{stands-there, block-places}
-use Rattle.change_returns.proofs.FreeLaws.{retally-read}
+use Rattle.change_blocks.proofs.StandingLaws.{stands-there, block-places, retally-asks}
 use Rattle.change_marking.proofs.DoneLaws.{peer-fits}
 use Rattle.change_marking.proofs.FinishLaws.{finish-beside, finish-few, finish-left, flush-asks, finish-kept, finish-flushed}
 use Rattle.change_marking.proofs.finishes.finish_block.Statement.{statement}
@@ -35,7 +34,7 @@ retally-requires c κs =
     let g = c .before .before in
     let o = g .before .before .before .before .before .before in
     let a = o .args in
-    retally-read (a .s) (a .words .now) (a .cells .now) (a .i) (a .p) (a .j) _ (a .t) (g .get-block .result) (g .get-block .ensures) refl
+    retally-asks (a .s) (a .words .now) (a .cells .now) (a .i) (a .p) (a .j) (a .t) (g .get-block .result) (g .get-block .ensures) _ refl
     (finish-beside (a .s) (a .words .now) (a .cells .now) (a .i) (a .p) (a .j) (a .t) (a .flags) (a .finished) (o .pre .0))
 
 finished-info-requires : tie.Need-finished-info-requires

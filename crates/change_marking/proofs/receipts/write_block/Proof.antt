@@ -2,8 +2,7 @@
 use native.Mathlib.Omega.{arith}
 use mathlib.Core.Path.{refl}
 use borrow.Author.Needs.{needs}
-use Rattle.change_blocks.proofs.StandingLaws.{stands-there, block-places, state-low}
-use Rattle.change_returns.proofs.FreeLaws.{retally-read}
+use Rattle.change_blocks.proofs.StandingLaws.{stands-there, block-places, state-low, retally-asks}
 use Rattle.change_marking.proofs.ReceiptLaws.{write-kept, write-made}
 use Rattle.change_marking.proofs.receipts.write_block.Statement.{statement}
 use Rattle.change_marking.proofs.receipts.write_block.Tie as tie
@@ -45,8 +44,8 @@ retally-requires c κs =
     let g = c .before .before in
     let o = g .before .before .before .before .before .before in
     let a = o .args in
-    retally-read (a .s) (a .words .now) (a .cells .now) (a .i) (a .p) (a .j) _ (a .t) (g .get-block .result) (g .get-block .ensures)
-    refl (o .pre .0)
+    retally-asks (a .s) (a .words .now) (a .cells .now) (a .i) (a .p) (a .j) (a .t) (g .get-block .result) (g .get-block .ensures)
+    _ refl (o .pre .0)
 
 set-block-requires : tie.Need-set-block-requires
 set-block-requires c κs =

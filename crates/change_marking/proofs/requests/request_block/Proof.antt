@@ -2,8 +2,7 @@
 use native.Mathlib.Omega.{arith}
 use mathlib.Core.Path.{refl}
 use borrow.Author.Needs.{needs}
-use Rattle.change_blocks.proofs.StandingLaws.{works-there, block-places}
-use Rattle.change_returns.proofs.FreeLaws.{retally-read}
+use Rattle.change_blocks.proofs.StandingLaws.{works-there, block-places, retally-asks}
 use Rattle.change_marking.proofs.RequestLaws.{one-more, request-refused, turned-asks, set-asks, request-made}
 use Rattle.change_marking.proofs.requests.request_block.Statement.{statement}
 use Rattle.change_marking.proofs.requests.request_block.Tie as tie
@@ -33,8 +32,8 @@ retally-requires c κs =
     let g = c .before .before in
     let o = g .before .before .before .before .before .before in
     let a = o .args in
-    retally-read (a .s) (a .words .now) (a .cells .now) (a .i) (a .p) (a .j) _ (a .t) (g .get-block .result) (g .get-block .ensures)
-    refl (o .pre .0 .beside)
+    retally-asks (a .s) (a .words .now) (a .cells .now) (a .i) (a .p) (a .j) (a .t) (g .get-block .result) (g .get-block .ensures)
+    _ refl (o .pre .0 .beside)
 
 add-t24 : tie.Need-add-t24
 add-t24 c =

@@ -1,8 +1,8 @@
 -- `busy_at` meets its contract. Assumes nothing.
+use Rattle.types.specs.Peer.{namedPeer}
 use Rattle.pick_busy.proofs.BusyLaws.{busy-next, busy-all}
 use Rattle.pick_busy.specs.Busy.{isBusy}
 use Rattle.pick_append.proofs.RowLaws.{Gathered, gather-start}
-use Rattle.pick_state.specs.Requests.{namedPeer}
 use Rattle.memory_layout.specs.Decode.{blockHeld}
 use lib.ListN.{length}
 use native.Mathlib.Omega.{arith}

@@ -1,9 +1,9 @@
 -- `requested_from` meets its contract. Assumes nothing.
 use Prim.Native.Nat.{_-_, _≤_}
 use native.Mathlib.Omega.{arith}
+use Rattle.types.specs.Peer.{namedPeer}
 use Rattle.memory_layout.specs.Tables.{tabulate}
 use Rattle.memory_layout.specs.Decode.{blockHeld}
-use Rattle.pick_state.specs.Requests.{namedPeer}
 use Rattle.pick_requested.proofs.RequestedLaws.{startScan, Passing, pass-start, held-next, requested-is}
 use mathlib.Core.Path.{_≡_, subst}
 use borrow.Author.Needs.{needs}

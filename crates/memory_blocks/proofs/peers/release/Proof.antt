@@ -2,9 +2,9 @@
 use mathlib.Core.Path.{refl}
 use native.Mathlib.Omega.{arith}
 use borrow.Author.Needs.{needs}
-use Rattle.change_giving.proofs.PeerLaws.{release-is}
-use Rattle.change_giving.proofs.peers.release.Statement.{statement}
-use Rattle.change_giving.proofs.peers.release.Tie as tie
+use Rattle.memory_blocks.proofs.PeerLaws.{release-is}
+use Rattle.memory_blocks.proofs.peers.release.Statement.{statement}
+use Rattle.memory_blocks.proofs.peers.release.Tie as tie
 
 same-peer-requires : tie.Need-same-peer-requires
 same-peer-requires c κs = search needs
