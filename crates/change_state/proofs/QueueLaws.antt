@@ -8,7 +8,7 @@ use lib.Dec.{eqb}
 use borrow.Author.Tests.{eq-eqb, ne-eqb}
 use Rattle.types.specs.declared.queue.DownloadQueue.{DownloadQueue}
 use Rattle.types.specs.declared.queue.DownloadQueue.the-variants.{Open}
-use Rattle.types.specs.Queue.{queueNumber, queues}
+use Rattle.types.specs.Queue.{queueNumber}
 use Rattle.model.specs.Lists.{nth}
 use Rattle.model.specs.State.{pieceAt, sameQueue, isOpen}
 use Rattle.memory_layout.specs.declared.shape.Shape.{Shape}

@@ -1,14 +1,13 @@
 -- The blocks that another peer was asked for: one of them, and all of a partial's. Assumes nothing.
-use mathlib.Core.Path.{_≡_, refl, sym, ap, ap₂, _∙_}
+use mathlib.Core.Path.{_≡_, sym, ap, ap₂, _∙_}
 use mathlib.Core.Bool.{Bool, not, _&&_}
 use mathlib.Core.List.{List}
 use mathlib.Core.Option.{Option}
 use Prim.Native.Nat.{ℕ, _+_, _≤_, _<_}
 use native.Mathlib.Omega.{arith}
 use lib.Dec.{eqb}
-use lib.ListN.{length, getD, set, take, length-set}
+use lib.ListN.{length, getD, set, length-set}
 use lib.Seq.{getD-take, length-take-le}
-use Rattle.types.specs.declared.block.BlockState.the-variants.{Requested}
 use Rattle.types.specs.Peer.{namedPeer}
 use Rattle.model.specs.Lists.{bit, from, filter, nth, len}
 use Rattle.model.specs.State.{Block, DownloadingPiece, noBlock, sameBlockState, samePeer}
@@ -19,7 +18,7 @@ use Rattle.memory_layout.specs.Tables.{tabulate}
 use Rattle.memory_layout.specs.Decode.{blockHeld}
 use Rattle.memory_layout.proofs.TableLaws.{tabulate-len, tabulate-nth}
 use Rattle.memory_blocks.specs.declared.info.BlockInfo.{BlockInfo}
-use Rattle.memory_blocks.specs.Blocks.{blockOf, BlockIs, BlockRead}
+use Rattle.memory_blocks.specs.Blocks.{blockOf, BlockRead}
 use Rattle.pick_state.specs.declared.request.PickRequest.{PickRequest}
 use Rattle.pick_state.specs.Requests.{requestOf}
 use Rattle.memory_records.specs.Rows.{rowAt}

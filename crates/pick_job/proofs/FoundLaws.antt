@@ -1,21 +1,20 @@
 -- An image with a pick behind it: the image on its own, and what the definition's program answers. Assumes nothing.
-use mathlib.Core.Path.{_≡_, refl, sym, ap, ap₂, subst, _∙_}
-use mathlib.Core.Bool.{Bool, true, false, cond, _&&_}
-use mathlib.Core.List.{List, [], _∷_, _++_}
-use mathlib.Core.Option.{Option, none, some}
-use Prim.Native.Nat.{ℕ, suc, _+_, _-_, _*_, _%_, _≤_, _<_}
+use mathlib.Core.Path.{_≡_, refl, sym, ap, subst, _∙_}
+use mathlib.Core.Bool.{cond, _&&_}
+use mathlib.Core.List.{List, [], _∷_}
+use mathlib.Core.Option.{Option}
+use Prim.Native.Nat.{ℕ, suc, _+_, _-_, _≤_, _<_}
 use native.Mathlib.Omega.{arith}
 use lib.Dec.{ltb, leb}
-use lib.ListN.{length, take, drop, length-append}
+use lib.ListN.{length, take, length-append}
 use lib.Seq.{take-at}
 use borrow.Author.Tests.{ltb-true}
 use Rattle.types.specs.declared.refusal.Refusal.the-variants.{ShortMemory, IllFormedImage}
-use Rattle.types.specs.Peer.{namedPeer}
 use Rattle.model.specs.Lists.{nth, len, every}
-use Rattle.model.specs.State.{Picker, piecesIn, blocksPerPiece, hasPeer}
+use Rattle.model.specs.State.{Picker, piecesIn, blocksPerPiece}
 use Rattle.model.specs.pick.Blocks.{PickRequest}
-use Rattle.model.specs.Calls.{Answer, refused, lentPeer, lentRequest}
-use Rattle.model.specs.image.Image.{bodyLength, pickKind, Got, got, fault, ret, next, judged, field, numberOf, peerOf, peerFits, image}
+use Rattle.model.specs.Calls.{Answer, refused, lentRequest}
+use Rattle.model.specs.image.Image.{bodyLength, pickKind, Got, got, fault, judged, field, numberOf, peerOf, peerFits, image}
 use Rattle.model.specs.image.Image.{Read, accepted, faultAt, whole, getPicker, readImage}
 use Rattle.model.specs.image.Program.{requestOf, readRequest, Job, getJob, jobAnswer, programAnswer, program}
 use Rattle.model.proofs.image.Bytes.{Bytes}
@@ -23,11 +22,11 @@ use Rattle.model.proofs.image.Codec.{got-value, got-rest, next-back, judged-bac
 use Rattle.model.proofs.image.ImageLaws.{image-accepted, written-read}
 use Rattle.model.proofs.base.Truths.{both}
 use Rattle.image_records.specs.declared.pick.Pick.{Pick}
-use Rattle.image_records.specs.Records.{peerNumber, pickNumbers}
+use Rattle.image_records.specs.Records.{pickNumbers}
 use Rattle.image_judge.specs.declared.whole.JobRead.the-variants.{Found, Fault}
 use Rattle.image_judge.specs.Verdicts.{jobVerdict}
 use Rattle.pick_start.specs.Starting.{requestWith}
-use Rattle.pick_job.specs.Jobs.{requestNumbers, requestOnes, programPick, limited}
+use Rattle.pick_job.specs.Jobs.{requestNumbers, requestOnes, limited}
 use Rattle.pick_job.proofs.PickLaws.{lent-named, asked-told}
 
 -- ---- a fault

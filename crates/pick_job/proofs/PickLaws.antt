@@ -1,11 +1,11 @@
 -- A pick judged and made: what it answers is what the definition answers to the same request. Assumes nothing.
-use mathlib.Core.Path.{_≡_, refl, sym, ap, ap₂, _∙_}
-use mathlib.Core.Bool.{Bool, true, false, not, _&&_}
-use mathlib.Core.List.{List, [], _∷_}
+use mathlib.Core.Path.{_≡_, refl, sym, ap, _∙_}
+use mathlib.Core.Bool.{Bool, true, false}
+use mathlib.Core.List.{List, _∷_}
 use mathlib.Core.Option.{Option, none, some, Option·none-ne-some}
 use Prim.Native.Nat.{ℕ, zero, suc, _+_, _%_, _≤_}
 use native.Mathlib.Omega.{arith}
-use lib.Dec.{eqb, ltb, leb}
+use lib.Dec.{ltb, leb}
 use lib.IntN.{ℤ}
 use lib.ListN.{length, take, replicate}
 use lib.Seq.{length-take-le}
@@ -40,8 +40,7 @@ use Rattle.picker_calls.specs.declared.judgement.Judgement.the-variants.{Refuse
 use Rattle.picker_calls.specs.Outcomes.{judged}
 use Rattle.pick_judge.specs.Asking.{PickJudged}
 use Rattle.pick_judge.proofs.JudgeLaws.{many-each}
-use Rattle.pick_job.specs.declared.answer.JobAnswer.{JobAnswer}
-use Rattle.pick_job.specs.declared.answer.JobAnswer.the-variants.{Refused, Done}
+use Rattle.pick_job.specs.declared.answer.JobAnswer.the-variants.{Done}
 use Rattle.pick_job.specs.Jobs.{answerOf, ended, unless, pickAnswered, requestNumbers, requestOnes, programPick}
 
 -- ---- what is asked

@@ -2,9 +2,9 @@
 use mathlib.Core.Path.{_≡_, refl, sym, ap, _∙_}
 use mathlib.Core.Bool.{Bool, true, false, true≢false, cond, not, _&&_, _||_}
 use mathlib.Core.List.{List}
-use Prim.Native.Nat.{ℕ, _+_, _≤_, _<_}
+use Prim.Native.Nat.{ℕ, _<_}
 use native.Mathlib.Omega.{arith}
-use lib.ListN.{length, getD}
+use lib.ListN.{length}
 use Rattle.types.specs.Block.{blockStateNumber}
 use Rattle.types.specs.Bits.{meets}
 use Rattle.types.specs.Peer.{namedPeer}
@@ -15,14 +15,14 @@ use Rattle.model.specs.change.Partials.{blockAt}
 use Rattle.model.specs.pick.Blocks.{PickState, RequestedFrom, withOut, withContiguous, contiguousIsZero, contiguousAbove, setAside, takeFree, keepingContiguous, requestedFrom, useFree}
 use Rattle.memory_layout.specs.declared.shape.Shape.{Shape}
 use Rattle.memory_layout.specs.Tables.{tabulate}
-use Rattle.memory_layout.specs.Decode.{blockCell, stateFrom, blockFrom, blockHeld}
+use Rattle.memory_layout.specs.Decode.{blockCell, blockFrom, blockHeld}
 use Rattle.memory_layout.specs.Bounds.{BlockColumn}
 use Rattle.memory_layout.proofs.Numbers.{state-number}
 use Rattle.memory_layout.proofs.TableLaws.{tabulate-len, tabulate-nth}
 use Rattle.pick_state.specs.declared.request.PickRequest.{PickRequest}
 use Rattle.pick_state.specs.declared.numbers.PickNumbers.{PickNumbers}
-use Rattle.pick_state.specs.PickStates.{contiguousOf, stateOf, OutDid, AsideDid, Did}
-use Rattle.pick_state.proofs.DidLaws.{kept-same, kept-then, out-did, aside-all, did-none, did-as}
+use Rattle.pick_state.specs.PickStates.{contiguousOf, stateOf, OutDid, AsideDid}
+use Rattle.pick_state.proofs.DidLaws.{out-did, aside-all, did-none, did-as}
 use Rattle.pick_requested.specs.declared.requested.RequestedFrom.{RequestedFrom as Numbers}
 use Rattle.pick_requested.specs.Requested.{foundIs}
 use Rattle.pick_requested.specs.Known.{Known}

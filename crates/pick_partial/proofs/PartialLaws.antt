@@ -5,12 +5,11 @@ use mathlib.Core.List.{List}
 use Prim.Native.Nat.{ℕ, _/_, _%_, _≤_, _<_}
 use native.Mathlib.Omega.{arith}
 use lib.Dec.{eqb}
-use lib.ListN.{length, getD}
 use Rattle.types.specs.Bits.{meets}
 use Rattle.types.specs.Peer.{namedPeer}
 use Rattle.model.specs.Lists.{when}
 use Rattle.model.specs.Bep3.{bitOf, numPieces, pieceBlocks}
-use Rattle.model.specs.State.{DownloadingPiece, Picker}
+use Rattle.model.specs.State.{DownloadingPiece}
 use Rattle.model.specs.Options.{onParole}
 use Rattle.model.specs.pick.Blocks.{PickRequest, PickState, option, hasBit, requestedFrom, useFree, addBlocksDownloading}
 use Rattle.model.proofs.base.Bep3Laws.{blocksInPiece-pos}
@@ -32,7 +31,6 @@ use Rattle.pick_state.specs.declared.request.PickRequest.{PickRequest as Reques
 use Rattle.pick_state.specs.declared.numbers.PickNumbers.{PickNumbers}
 use Rattle.pick_state.specs.Requests.{requestOf}
 use Rattle.pick_state.specs.PickStates.{stateOf}
-use Rattle.pick_free.specs.Picking.{Picks}
 use Rattle.pick_partial.specs.Adding.{BlocksDid, PlainAt, FreeDid}
 use Rattle.pick_partial.proofs.AddingLaws.{blocks-none, blocks-as}
 

@@ -2,7 +2,7 @@
 use mathlib.Core.Path.{_≡_, refl, sym, ap, _∙_}
 use mathlib.Core.Bool.{Bool, true, false, cond, not, _&&_, _||_}
 use mathlib.Core.List.{List}
-use Prim.Native.Nat.{ℕ, _+_, _≤_}
+use Prim.Native.Nat.{ℕ, _+_}
 use native.Mathlib.Omega.{arith}
 use borrow.Author.Tests.{eqb-true, le-ltb, not-true}
 use Rattle.types.specs.Bits.{meets}
@@ -10,7 +10,7 @@ use Rattle.types.specs.Peer.{namedPeer}
 use Rattle.model.specs.Lists.{branch}
 use Rattle.model.specs.State.{DownloadingPiece}
 use Rattle.model.specs.Options.{onParole}
-use Rattle.model.specs.pick.Blocks.{PickState, Contiguous, RequestedFrom, contiguousIsZero, contiguousAbove, setAside, keepingContiguous, takeFree, requestedFrom, useFree}
+use Rattle.model.specs.pick.Blocks.{PickState, Contiguous, RequestedFrom, contiguousIsZero, contiguousAbove, setAside, keepingContiguous, takeFree, useFree}
 use Rattle.model.proofs.base.Truths.{and-left, and-right}
 use Rattle.memory_layout.specs.declared.shape.Shape.{Shape}
 use Rattle.pick_state.specs.declared.request.PickRequest.{PickRequest}

@@ -1,5 +1,5 @@
 -- A pass over the blocks of a partial: one block, the start and the end. Assumes nothing.
-use mathlib.Core.Path.{_≡_, refl, sym, ap, ap₂, _∙_}
+use mathlib.Core.Path.{_≡_, refl, sym, ap, _∙_}
 use mathlib.Core.Bool.{Bool, true, false, cond, not, _&&_, _||_}
 use mathlib.Core.List.{List, [], _∷_}
 use mathlib.Core.Option.{Option, none, some}
@@ -12,7 +12,6 @@ use lib.Seq.{drop-cons, drop-length}
 use borrow.Author.Tests.{eq-eqb, ne-eqb, lt-ltb, le-ltb, ltb-true}
 use Rattle.types.specs.declared.block.BlockState.the-variants.{None, Requested as RequestedState}
 use Rattle.types.specs.Block.{blockStateNumber}
-use Rattle.types.specs.Peer.{namedPeer}
 use Rattle.model.specs.Lists.{nth, len, any}
 use Rattle.model.specs.State.{Block, DownloadingPiece, noBlock, sameBlockState, samePeer, hasPeer}
 use Rattle.model.specs.pick.Blocks.{RequestedFrom, FreeRun, longer, longestFree, byAnother, requestedFrom}
@@ -24,7 +23,6 @@ use Rattle.memory_layout.specs.Decode.{blockHeld}
 use Rattle.memory_layout.proofs.TableLaws.{tabulate-len, tabulate-nth}
 use Rattle.memory_blocks.specs.declared.info.BlockInfo.{BlockInfo}
 use Rattle.memory_blocks.specs.Blocks.{blockOf, BlockIs, BlockRead}
-use Rattle.pick_requested.specs.declared.requested.RequestedFrom.{RequestedFrom as Numbers}
 use Rattle.pick_requested.specs.declared.requested.Scan.{Scan}
 use Rattle.pick_requested.specs.Requested.{foundIs, runOf, runEnded, atWork, foundFrom, Within, PassedOver, Requested}
 

@@ -20,7 +20,7 @@ use Rattle.model.specs.Options.{rarestFirst, sequential}
 use Rattle.model.specs.list.Order.{Draws}
 use Rattle.model.specs.pick.Blocks.{PickRequest, option}
 use Rattle.model.specs.pick.Pick.{pickPieces}
-use Rattle.model.specs.Calls.{pick-pieces, picked, answering, picking, lentPeer, lentRequest, check, refuseFewDraws, bitfieldFits}
+use Rattle.model.specs.Calls.{pick-pieces, picked, answering, picking, lentPeer, lentRequest, refuseFewDraws, bitfieldFits}
 use Rattle.model.specs.Calls.{requestFits, refusal, act}
 use Rattle.model.proofs.base.Truths.{and-left, and-right, four-true}
 use Rattle.model.proofs.keep.KeepCalls.{check-none}

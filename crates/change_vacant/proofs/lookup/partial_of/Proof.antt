@@ -1,5 +1,4 @@
 -- `partial_of` meets its contract: an Open piece has no row. Assumes nothing.
-use borrow.Author.Needs.{needs}
 use mathlib.Core.Path.{sym, _∙_}
 use Rattle.memory_rows.proofs.LookupLaws.{no-partial}
 use Rattle.change_returns.proofs.WholeLaws.{find-asks}
