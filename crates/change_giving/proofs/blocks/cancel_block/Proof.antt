@@ -101,7 +101,8 @@ returns-3 c =
     let a = o .args in
     let x : BlockInfo = record { state = 0; «num_peers» = l .get-block .result .«num_peers»; «has_peer» = a .has-peer; peer = a .peer } in
     let g = freed-kept (a .s) (a .words .now) (a .cells .now) (a .i) (a .p) (a .j) (a .t) x (a .draws .now) _ _ (u .set-block .result)
-    (l .get-block .result) (l .get-block .ensures) 2 (m .if2 .taken) (r .retally .result) (r .retally .ensures) refl (sym (f .if3 .left) ∙ f .before .is-last .ensures) (u .set-block .ensures) in
+    (l .get-block .result) (l .get-block .ensures) 2 (m .if2 .taken) (r .retally .result) (r .retally .ensures) refl
+    (sym (f .if3 .left) ∙ f .before .is-last .ensures) (u .set-block .ensures) in
     cancel-free (a .s) (a .words .now) (a .cells .now) (a .i) (a .p) (a .j) (a .t) (a .draws .now) (a .has-peer) (a .peer)
     (l .get-block .result) (l .get-block .ensures) (n .if1 .left) (m .if2 .taken) _ _ Keep (u .set-block .result) g
 

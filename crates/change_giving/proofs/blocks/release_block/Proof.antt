@@ -131,7 +131,8 @@ returns-4 c =
     let a = o .args in
     let x : BlockInfo = record { state = 0; «num_peers» = 0; «has_peer» = false; peer = l .get-block .result .peer } in
     let g = freed-kept (a .s) (a .words .now) (a .cells .now) (a .i) (a .p) (a .j) (a .t) x (a .draws .now) _ _ (u .set-block .result)
-    (l .get-block .result) (l .get-block .ensures) 1 (n .if1 .left) (r .retally .result) (r .retally .ensures) refl (sym (f .if3 .left) ∙ f .before .is-last .ensures) (u .set-block .ensures) in
+    (l .get-block .result) (l .get-block .ensures) 1 (n .if1 .left) (r .retally .result) (r .retally .ensures) refl
+    (sym (f .if3 .left) ∙ f .before .is-last .ensures) (u .set-block .ensures) in
     release-free (a .s) (a .words .now) (a .cells .now) (a .i) (a .p) (a .j) (a .t) (a .draws .now) (a .has-peer) (a .peer)
     (l .get-block .result) (l .get-block .ensures) (n .if1 .left) (omega (arith, m .if2 .left)) (x .peer) _ _ Keep (u .set-block .result) g
 
