@@ -13,7 +13,7 @@ use Rattle.memory_layout.specs.Decode.{stateFrom}
 use Rattle.memory_blocks.specs.declared.info.BlockInfo.{BlockInfo}
 use Rattle.memory_blocks.specs.Blocks.{blockOf}
 
-same-named : (has : Bool) (peer : ℕ) (has′ : Bool) (other : ℕ)
+pub same-named : (has : Bool) (peer : ℕ) (has′ : Bool) (other : ℕ)
     → ((not has && not has′) || ((has && has′) && eqb peer other)) ≡ samePeer (namedPeer has peer) (namedPeer has′ other)
 unfolding samePeer
 same-named true peer true other = refl
@@ -21,10 +21,11 @@ same-named true peer false other = refl
 same-named false peer true other = refl
 same-named false peer false other = refl
 
+-- the block's peer is the one that its numbers name
 pub same-is : (b : BlockInfo) (has : Bool) (peer : ℕ)
-    → ((not (b .«has_peer») && not has) || ((b .«has_peer» && has) && eqb (b .peer) peer)) ≡ samePeer (blockOf b .peer) (namedPeer has peer)
+    → samePeer (namedPeer (b .«has_peer») (b .peer)) (namedPeer has peer) ≡ samePeer (blockOf b .peer) (namedPeer has peer)
 unfolding blockOf
-same-is b has peer = same-named (b .«has_peer») (b .peer) has peer
+same-is b has peer = refl
 
 -- the peer unless it is forgotten
 forgotten : (has same : Bool) (peer : ℕ) → namedPeer (has && not same) peer ≡ cond same none (namedPeer has peer)
@@ -33,7 +34,8 @@ forgotten true false peer = refl
 forgotten false true peer = refl
 forgotten false false peer = refl
 
-pub release-is : (b : BlockInfo) (has : Bool) (peer : ℕ) (same : Bool) → same ≡ samePeer (blockOf b .peer) (namedPeer has peer)
+pub release-is : (b : BlockInfo) (has : Bool) (peer : ℕ) (same : Bool)
+    → same ≡ samePeer (namedPeer (b .«has_peer») (b .peer)) (namedPeer has peer)
     → blockOf (record { state = 1; «num_peers» = b .«num_peers» - 1; «has_peer» = b .«has_peer» && not same; peer = b .peer })
     ≡ released (namedPeer has peer) (blockOf b)
 unfolding blockOf released stateFrom nth

@@ -6,8 +6,8 @@ use Rattle.memory_blocks.proofs.PeerLaws.{release-is}
 use Rattle.memory_blocks.proofs.peers.release.Statement.{statement}
 use Rattle.memory_blocks.proofs.peers.release.Tie as tie
 
-same-peer-requires : tie.Need-same-peer-requires
-same-peer-requires c κs = search needs
+same-named-requires : tie.Need-same-named-requires
+same-named-requires c κs = search needs
 
 sub-t5 : tie.Need-sub-t5
 sub-t5 c = omega (arith, c .before .before .pre)
@@ -16,12 +16,12 @@ returns : tie.Need-returns
 returns c =
     let l = c .before .before in
     let a = c .before .before .before .args in
-    (refl, release-is (a .b) (a .has-peer) (a .peer) (l .same-peer .result) (l .same-peer .ensures))
+    (refl, release-is (a .b) (a .has-peer) (a .peer) (l .same-named .result) (l .same-named .ensures))
 
 pub release-spec : {M : Type 1} → statement M
 release-spec =
     tie.close
     (tie.spec
-    same-peer-requires
+    same-named-requires
     sub-t5
     returns)
