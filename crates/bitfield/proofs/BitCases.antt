@@ -3,30 +3,12 @@ use mathlib.Core.Path.{_≡_, refl}
 use mathlib.Core.Bool.{true, false}
 use mathlib.Core.List.{[], _∷_}
 use Rattle.model.specs.Bep3.{partsOf, bitfieldBytes, bitOf, bitAt}
-use Rattle.bitfield.specs.Bitfield.{countBits, everySet, allSet, firstFrom, firstSet, lastClear, nextBit, digits, fromBits, putRun}
-use Rattle.bitfield.specs.Bitfield.{putBit, filled, grown, roomFor}
-use Rattle.model.specs.Lists.{bit}
-use Rattle.bitfield.specs.declared.Stored.the-variants.{Done, TooShort}
+use Rattle.bitfield.specs.Bitfield.{countBits, everySet, allSet, firstFrom, firstSet, lastClear, nextBit}
 use Rattle.bitfield.specs.declared.Found.the-variants.{At, Nothing}
 
 opened : Unit {0}
-unfolding partsOf bitfieldBytes bitOf bitAt countBits everySet allSet firstFrom firstSet lastClear nextBit digits fromBits putRun putBit filled grown roomFor
+unfolding partsOf bitfieldBytes bitOf bitAt countBits everySet allSet firstFrom firstSet lastClear nextBit
 opened = tt
-
--- eleven bits set in three bytes: the spare bits are 0 and the third byte stays
-set-eleven : filled 11 (λ i. true) (0x12 ∷ 0x34 ∷ 0x56 ∷ []) ≡ 0xff ∷ 0xe0 ∷ 0x56 ∷ []
-unfolding opened
-set-eleven = refl
-
--- from three bits to ten, new bits set
-three-to-ten : filled 10 (grown (0xbf ∷ 0xff ∷ []) 3 true) (0xbf ∷ 0xff ∷ []) ≡ 0xbf ∷ 0xc0 ∷ []
-unfolding opened
-three-to-ten = refl
-
--- bit 9 set; bit 12 is not below the number of bits
-set-nine : (putBit 10 9 true (0 ∷ 0 ∷ []) ≡ 0 ∷ 0x40 ∷ []) × (putBit 10 12 true (0 ∷ 0 ∷ []) ≡ 0 ∷ 0 ∷ [])
-unfolding opened
-set-nine = (refl, refl)
 
 -- of 0x05 0xff only ten bits count: four are set, bit 5 first, and bit 6 is the last unset one
 ten : (countBits (0x05 ∷ 0xff ∷ []) 10 ≡ 4) × (firstSet (0x05 ∷ 0xff ∷ []) 10 ≡ At 5) × (lastClear (0x05 ∷ 0xff ∷ []) 10 ≡ At 6)
@@ -37,8 +19,3 @@ ten = (refl, refl, refl)
 none : (allSet (0xff ∷ []) 0 ≡ false) × (allSet (0xff ∷ []) 8 ≡ true) × (firstSet (0xff ∷ []) 0 ≡ Nothing)
 unfolding opened
 none = (refl, refl, refl)
-
--- nine bits need two bytes
-room : (roomFor 9 (0 ∷ []) ≡ TooShort) × (roomFor 8 (0 ∷ []) ≡ Done)
-unfolding opened
-room = (refl, refl)

@@ -13,9 +13,12 @@ use Rattle.bitfield.specs.Bitfield.{countBits, everySet, firstFrom, last
 use Rattle.model.specs.Lists.{bit}
 use Rattle.bitfield.specs.declared.Found.{Found}
 use Rattle.bitfield.specs.declared.Found.the-variants.{At, Nothing}
-use Rattle.bitfield.proofs.ByteLaws.{bit-lt}
 
 -- ---- searches and the count
+pub bit-lt : (b : Bool) → bit b < 2
+bit-lt true = omega arith
+bit-lt false = omega arith
+
 abbrev pub isNothing : Found → Bool
 isNothing Nothing = true
 isNothing (At i) = false

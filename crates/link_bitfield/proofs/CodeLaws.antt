@@ -2,8 +2,8 @@
 use mathlib.Core.Path.{_≡_, ap, _∙_}
 use Prim.Native.Nat.{ℕ}
 use mathlib.Core.List.{List}
-use Rattle.bitfield.specs.declared.Stored.{Stored}
-use Rattle.bitfield.specs.Bitfield.{Did}
+use Rattle.bitfield_writes.specs.declared.Stored.{Stored}
+use Rattle.bitfield_writes.specs.Writing.{Did}
 use Rattle.link_bitfield.specs.Codes.{codeOf, Coded}
 
 pub coded : {want answer : Stored} {new old exit : List ℕ} {k : ℕ}

@@ -3,13 +3,13 @@ use mathlib.Core.Path.{_≡_}
 use Prim.Native.Nat.{ℕ}
 use mathlib.Core.Bool.{Bool, true, false}
 use mathlib.Core.List.{List}
-use Rattle.bitfield.specs.declared.Stored.{Stored}
-use Rattle.bitfield.specs.declared.Stored.the-variants.{Done, DataShort, TooShort}
+use Rattle.bitfield_writes.specs.declared.Stored.{Stored}
+use Rattle.bitfield_writes.specs.declared.Stored.the-variants.{Done, DataShort, TooShort}
 use Rattle.bitfield.specs.declared.Found.{Found}
 use Rattle.bitfield.specs.declared.Found.the-variants.{At, Nothing}
 use Rattle.bitfield.specs.declared.Step.{Step}
 use Rattle.bitfield.specs.declared.Step.the-variants.{Bit}
-use Rattle.bitfield.specs.Bitfield.{onDone}
+use Rattle.bitfield_writes.specs.Writing.{onDone}
 
 -- what a call on a buffer answers
 abbrev pub codeOf : Stored → ℕ

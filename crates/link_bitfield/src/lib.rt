@@ -1,14 +1,15 @@
-// The crate `bitfield` for callers in C and Rust: numbers, flags and slices. Only for comparison with another implementation.
-// An answer on a buffer is 0 for done, 1 for too little data and 2 for too little room.
+// The crates `bitfield` and `bitfield_writes` for callers in C and Rust: numbers, flags and slices. Only for comparison with another
+// implementation. An answer on a buffer is 0 for done, 1 for too little data and 2 for too little room.
 use bitfield::Found;
 use bitfield::Step;
-use bitfield::Stored;
+use bitfield_writes::Stored;
 ghost use mathlib.Core.Path.{_≡_};
 ghost use mathlib.Core.Bool.{true, false};
 ghost use lib.Dec.{eqb};
 ghost use lib.ListN.{length, take};
 ghost use Rattle.model.specs.Bep3.{partsOf, bitfieldBytes, bitAt, noneSet};
-ghost use Rattle.bitfield.specs.Bitfield.{getBit, countBits, allSet, firstSet, lastClear, nextBit, putBit, filled, grown, roomFor, roomFrom};
+ghost use Rattle.bitfield.specs.Bitfield.{getBit, countBits, allSet, firstSet, lastClear, nextBit};
+ghost use Rattle.bitfield_writes.specs.Writing.{putBit, filled, grown, roomFor, roomFrom};
 ghost use Rattle.link_bitfield.specs.Codes.{codeOf, Coded, isFound, foundAt, isBit, bitGiven, nextPlace};
 
 fn code(s: Stored) -> u8
@@ -25,28 +26,28 @@ fn code(s: Stored) -> u8
 pub extern "C" fn bf_with_size(buf: &mut [u8], bits: usize) -> u8
     ensures { λ r. ⌜ Coded (roomFor bits (now (buf .entry))) (filled bits (λ i. false) (now (buf .entry))) (now (buf .entry)) r (now (buf .exit)) ⌝ }
 {
-    code(bitfield::with_size(buf, bits))
+    code(bitfield_writes::with_size(buf, bits))
 }
 
 #[no_mangle]
 pub extern "C" fn bf_with_value(buf: &mut [u8], bits: usize, val: bool) -> u8
     ensures { λ r. ⌜ Coded (roomFor bits (now (buf .entry))) (filled bits (λ i. val) (now (buf .entry))) (now (buf .entry)) r (now (buf .exit)) ⌝ }
 {
-    code(bitfield::with_value(buf, bits, val))
+    code(bitfield_writes::with_value(buf, bits, val))
 }
 
 #[no_mangle]
 pub extern "C" fn bf_from_bytes(buf: &mut [u8], src: &[u8], bits: usize) -> u8
     ensures { λ r. ⌜ Coded (roomFrom bits (now (src .entry)) (now (buf .entry))) (filled bits (bitAt (now (src .entry))) (now (buf .entry))) (now (buf .entry)) r (now (buf .exit)) ⌝ }
 {
-    code(bitfield::from_bytes(buf, src, bits))
+    code(bitfield_writes::from_bytes(buf, src, bits))
 }
 
 #[no_mangle]
 pub extern "C" fn bf_assign(buf: &mut [u8], src: &[u8], bits: usize) -> u8
     ensures { λ r. ⌜ Coded (roomFrom bits (now (src .entry)) (now (buf .entry))) (filled bits (bitAt (now (src .entry))) (now (buf .entry))) (now (buf .entry)) r (now (buf .exit)) ⌝ }
 {
-    code(bitfield::assign(buf, src, bits))
+    code(bitfield_writes::assign(buf, src, bits))
 }
 
 #[no_mangle]
@@ -60,14 +61,14 @@ pub extern "C" fn bf_get_bit(bytes: &[u8], bits: usize, index: usize) -> bool
 pub extern "C" fn bf_set_bit(buf: &mut [u8], bits: usize, index: usize)
     ensures { λ _. ⌜ now (buf .exit) ≡ putBit bits index true (now (buf .entry)) ⌝ }
 {
-    bitfield::set_bit(buf, bits, index);
+    bitfield_writes::set_bit(buf, bits, index);
 }
 
 #[no_mangle]
 pub extern "C" fn bf_clear_bit(buf: &mut [u8], bits: usize, index: usize)
     ensures { λ _. ⌜ now (buf .exit) ≡ putBit bits index false (now (buf .entry)) ⌝ }
 {
-    bitfield::clear_bit(buf, bits, index);
+    bitfield_writes::clear_bit(buf, bits, index);
 }
 
 #[no_mangle]
@@ -161,28 +162,28 @@ pub extern "C" fn bf_find_last_clear(bytes: &[u8], bits: usize, at: &mut usize) 
 pub extern "C" fn bf_set_all(buf: &mut [u8], bits: usize)
     ensures { λ _. ⌜ now (buf .exit) ≡ filled bits (λ i. true) (now (buf .entry)) ⌝ }
 {
-    bitfield::set_all(buf, bits);
+    bitfield_writes::set_all(buf, bits);
 }
 
 #[no_mangle]
 pub extern "C" fn bf_clear_all(buf: &mut [u8], bits: usize)
     ensures { λ _. ⌜ now (buf .exit) ≡ filled bits (λ i. false) (now (buf .entry)) ⌝ }
 {
-    bitfield::clear_all(buf, bits);
+    bitfield_writes::clear_all(buf, bits);
 }
 
 #[no_mangle]
 pub extern "C" fn bf_resize(buf: &mut [u8], old: usize, bits: usize) -> u8
     ensures { λ r. ⌜ Coded (roomFor bits (now (buf .entry))) (filled bits (grown (now (buf .entry)) old false) (now (buf .entry))) (now (buf .entry)) r (now (buf .exit)) ⌝ }
 {
-    code(bitfield::resize(buf, old, bits))
+    code(bitfield_writes::resize(buf, old, bits))
 }
 
 #[no_mangle]
 pub extern "C" fn bf_resize_with(buf: &mut [u8], old: usize, bits: usize, val: bool) -> u8
     ensures { λ r. ⌜ Coded (roomFor bits (now (buf .entry))) (filled bits (grown (now (buf .entry)) old val) (now (buf .entry))) (now (buf .entry)) r (now (buf .exit)) ⌝ }
 {
-    code(bitfield::resize_with(buf, old, bits, val))
+    code(bitfield_writes::resize_with(buf, old, bits, val))
 }
 
 // Whether there is a bit at `index`; `bit` is then the bit and `next` the next place.
