@@ -17,7 +17,7 @@ use Rattle.model.specs.pick.Pick.{ExtentWalk, visitOutside, allFlushed, foundFi
 use Rattle.model.specs.image.WellFormed.{extentOk, extentsOk}
 use Rattle.model.specs.image.Sound.{Sound}
 use Rattle.model.proofs.base.Truths.{and-left, and-right}
-use Rattle.model.proofs.pick.SpanLaws.{least-right}
+use Rattle.pick_laws.proofs.SpanLaws.{least-right}
 use Rattle.geometry.specs.Numbers.{extentBegin}
 use Rattle.geometry.specs.Numbers.{extentEnd as endOf}
 use Rattle.memory_records.specs.declared.record.DownloadingPiece.{DownloadingPiece as Record}

@@ -17,7 +17,7 @@ use Rattle.model.specs.pick.Blocks.{spanFrom, spanOf, wholePieces, expandPiece,
 use Rattle.types.specs.Queue.{queueNumber}
 use Rattle.types.specs.Bits.{meets}
 use Rattle.model.proofs.base.Truths.{and-left}
-use Rattle.model.proofs.pick.SpanLaws.{span-around, pieces-size, span-blocks}
+use Rattle.pick_laws.proofs.SpanLaws.{span-around, pieces-size, span-blocks}
 use Rattle.geometry.proofs.ValidLaws.{bounds}
 use Rattle.memory_records.specs.declared.record.DownloadingPiece.{DownloadingPiece as Record}
 use Rattle.memory_records.specs.Rows.{recordsIn}

@@ -21,8 +21,8 @@ use Rattle.model.specs.pick.Blocks.{spanStep, takeSpan, takePayload, addNewPiec
 use Rattle.model.specs.pick.Blocks.{keepingContiguous, useFree, addBlocksDownloading, addPartialOf, addStanding, addBlocks, shorter}
 use Rattle.model.proofs.base.WalkLaws.{unless-keeps, when-keeps, walkUntil-keeps, forEach-keeps}
 use Rattle.model.proofs.base.Phases.{branch-arms}
-use Rattle.model.proofs.pick.AsideLaws.{aside-arms}
-use Rattle.model.proofs.pick.SpanLaws.{span-around}
+use Rattle.pick_laws.proofs.AsideLaws.{aside-arms}
+use Rattle.pick_laws.proofs.SpanLaws.{span-around}
 use Rattle.pick_runs.specs.Spans.{marks}
 use Rattle.pick_runs.proofs.AllLaws.{marks-more}
 

@@ -14,8 +14,8 @@ use Rattle.model.specs.pick.Blocks.{PickState, Span, expandPiece, piecesOf, tak
 use Rattle.model.specs.pick.Pick.{onward, takeAll, arrive, randomSpan}
 use Rattle.model.specs.image.Sound.{Sound}
 use Rattle.model.proofs.base.Counts.{count-le}
-use Rattle.model.proofs.pick.AddLaws.{holding-kept}
-use Rattle.model.proofs.pick.OutputLaws.{bounded-kept}
+use Rattle.pick_laws.proofs.AddLaws.{holding-kept}
+use Rattle.pick_laws.proofs.OutputLaws.{bounded-kept}
 use Rattle.memory_layout.specs.declared.shape.Shape.{Shape}
 use Rattle.pick_state.specs.declared.numbers.PickNumbers.{PickNumbers}
 use Rattle.pick_state.specs.declared.request.PickRequest.{PickRequest}

@@ -7,7 +7,7 @@ use native.Mathlib.Omega.{arith}
 use Rattle.model.specs.Lists.{least, range, from, branch, forEach}
 use Rattle.model.specs.State.{Picker, payloadBlocksInPiece}
 use Rattle.model.specs.pick.Blocks.{PickState, Span, contiguousIsZero, expandPiece, piecesOf, took, takeSpan, takePayload, addNewPiece}
-use Rattle.model.proofs.pick.SpanLaws.{least-left}
+use Rattle.pick_laws.proofs.SpanLaws.{least-left}
 use Rattle.memory_layout.specs.declared.shape.Shape.{Shape}
 use Rattle.memory_fields.specs.Reading.{WordsSay}
 use Rattle.pick_state.specs.declared.numbers.PickNumbers.{PickNumbers}

@@ -16,9 +16,9 @@ use Rattle.model.specs.pick.Blocks.{PickRequest, PickState, spent, flagged, wit
 use Rattle.model.specs.pick.Blocks.{enoughAside}
 use Rattle.model.specs.pick.Pick.{partialStep, walkPartials}
 use Rattle.model.specs.image.Sound.{Sound}
-use Rattle.model.proofs.pick.BoundLaws.{small}
-use Rattle.model.proofs.pick.AddLaws.{holding-kept}
-use Rattle.model.proofs.pick.OutputLaws.{bounded-kept}
+use Rattle.pick_laws.proofs.BoundLaws.{small}
+use Rattle.pick_laws.proofs.AddLaws.{holding-kept}
+use Rattle.pick_laws.proofs.OutputLaws.{bounded-kept}
 use Rattle.memory_layout.specs.Changes.{partialIn}
 use Rattle.pick_state.specs.declared.numbers.PickNumbers.{PickNumbers}
 use Rattle.pick_state.specs.PickStates.{contiguousOf, withFlags, stateOf}

@@ -15,8 +15,8 @@ use Rattle.model.specs.pick.Blocks.{PickRequest, PickState, withOut, withBackup
 use Rattle.model.specs.pick.Pick.{ring, pickRandom}
 use Rattle.model.proofs.pick.FrameLaws.{Blind, anyPartial}
 use Rattle.model.proofs.pick.PhaseLaws.{blind-kept, ring-keeps}
-use Rattle.model.proofs.pick.CounterLaws.{counter}
-use Rattle.model.proofs.pick.LoopFrame.{upto-random}
+use Rattle.pick_laws.proofs.CounterLaws.{counter}
+use Rattle.pick_laws.proofs.LoopFrame.{upto-random}
 use Rattle.memory_records.specs.Rows.{recordsIn}
 use Rattle.memory_layout.specs.declared.shape.Shape.{Shape}
 use Rattle.ask_picker.proofs.AskedLaws.{some-piece}

@@ -14,7 +14,7 @@ use Rattle.model.specs.pick.Blocks.{PickRequest, spent}
 use Rattle.model.specs.pick.Pick.{RandomWalk, trace, lapStep, walkOver, ringFuel, ring}
 use Rattle.model.specs.image.Sound.{Sound}
 use Rattle.model.proofs.base.Truths.{or-no-right}
-use Rattle.model.proofs.pick.RingLaws.{Ready, ring-over}
+use Rattle.pick_laws.proofs.RingLaws.{Ready, ring-over}
 use Rattle.memory_layout.specs.declared.shape.Shape.{Shape}
 use Rattle.pick_state.specs.declared.numbers.PickNumbers.{PickNumbers}
 use Rattle.pick_state.specs.PickStates.{contiguousOf, stateOf, OutKept}

@@ -10,9 +10,9 @@ use Rattle.model.specs.Lists.{each, len}
 use Rattle.model.specs.State.{DownloadingPiece, Picker, blocksPerPiece}
 use Rattle.model.specs.pick.Blocks.{PickRequest, Contiguous, PickState, spent, addBlocks, addBlocksDownloading}
 use Rattle.model.specs.image.Sound.{Sound}
-use Rattle.model.proofs.pick.BoundLaws.{Fits, sound-fits, small, Lean, Tight}
-use Rattle.model.proofs.pick.AddLaws.{addBlocks-contiguous, downloading-contiguous, Holding, holding-kept}
-use Rattle.model.proofs.pick.OutputLaws.{bounded-kept}
+use Rattle.pick_laws.proofs.BoundLaws.{Fits, sound-fits, small, Lean, Tight}
+use Rattle.pick_laws.proofs.AddLaws.{addBlocks-contiguous, downloading-contiguous, Holding, holding-kept}
+use Rattle.pick_laws.proofs.OutputLaws.{bounded-kept}
 use Rattle.pick_state.specs.declared.numbers.PickNumbers.{PickNumbers}
 use Rattle.pick_state.specs.PickStates.{contiguousOf, blocksBetween, withFlags, stateOf, Did, Roomy}
 use Rattle.pick_state.specs.Room.{Working, Underway, Worked}

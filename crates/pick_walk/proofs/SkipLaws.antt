@@ -16,7 +16,7 @@ use Rattle.model.specs.pick.Blocks.{PickRequest, isPieceFree, isIgnored, steps}
 use Rattle.model.specs.pick.Pick.{standsOpen, onward, RandomWalk, skipStep, skipDone, skip}
 use Rattle.model.proofs.base.Phases.{cond-arms}
 use Rattle.model.proofs.base.Truths.{or-no-left}
-use Rattle.model.proofs.pick.RoundLaws.{far, far-some, far-next, skip-ends}
+use Rattle.pick_laws.proofs.RoundLaws.{far, far-some, far-next, skip-ends}
 use Rattle.memory_layout.specs.declared.shape.Shape.{Shape}
 use Rattle.pick_state.specs.PickStates.{stateOf}
 use Rattle.pick_walk.specs.declared.walk.RandomWalk.{RandomWalk as Walk}

@@ -20,7 +20,7 @@ use Rattle.model.specs.pick.Pick.{takeAll}
 use Rattle.model.specs.Options.{prioritizePartials, randLoops}
 use Rattle.model.specs.change.Partials.{partialOf}
 use Rattle.model.proofs.base.WalkLaws.{unless-keeps, walkUntil-keeps}
-use Rattle.model.proofs.pick.AsideLaws.{aside-arms}
+use Rattle.pick_laws.proofs.AsideLaws.{aside-arms}
 use Rattle.model.proofs.pick.FrameLaws.{Closed, anyPartial, every-any, all-keeps, downloading-keeps, blocks-keeps, run-keeps}
 use Rattle.model.proofs.pick.PhaseLaws.{Kept, closed-kept}
 use Rattle.agreement.specs.Complete.{isGiven}

@@ -21,9 +21,9 @@ use Rattle.model.specs.pick.Pick.{randStep, takeAll}
 use Rattle.model.proofs.base.Phases.{branch-arms}
 use Rattle.model.proofs.base.Truths.{and-right, true-both}
 use Rattle.model.proofs.base.WalkLaws.{unless-keeps, when-keeps, walkUntil-keeps}
-use Rattle.model.proofs.pick.AsideLaws.{aside-arms}
-use Rattle.model.proofs.pick.RoundLaws.{member-span}
-use Rattle.model.proofs.pick.SpanLaws.{span-around}
+use Rattle.pick_laws.proofs.AsideLaws.{aside-arms}
+use Rattle.pick_laws.proofs.RoundLaws.{member-span}
+use Rattle.pick_laws.proofs.SpanLaws.{span-around}
 
 -- ---- the pieces of a span are Open
 module _ (a : PickRequest) (s : Picker) where

@@ -19,10 +19,10 @@ use Rattle.model.specs.pick.Pick.{randomVisit, ended, marked, lapEnds, lapFrom,
 use Rattle.model.proofs.base.Phases.{branch-arms}
 use Rattle.model.proofs.base.Truths.{and-left, and-right, true-both, or-no-right}
 use Rattle.model.proofs.base.WalkLaws.{repeat-keeps}
-use Rattle.model.proofs.pick.AddLaws.{addBlocks-picker}
+use Rattle.pick_laws.proofs.AddLaws.{addBlocks-picker}
 use Rattle.model.proofs.pick.FrameLaws.{Blind, blind-closed, anyPartial, run-keeps, all-keeps}
-use Rattle.model.proofs.pick.RoundLaws.{far, far-some, far-next}
-use Rattle.model.proofs.pick.SpanLaws.{Around, span-around}
+use Rattle.pick_laws.proofs.RoundLaws.{far, far-some, far-next}
+use Rattle.pick_laws.proofs.SpanLaws.{Around, span-around}
 use Rattle.agreement.proofs.complete.Reaching.{repeat-reaches}
 use Rattle.agreement.proofs.complete.Giving.{Sure, spent-sure, flags-sure, steps-sure, blocks-sure, span-sure}
 use Rattle.agreement.proofs.complete.Standing.{stands-range, any-cons}

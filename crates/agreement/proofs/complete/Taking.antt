@@ -24,7 +24,7 @@ use Rattle.model.proofs.base.Counts.{length-from}
 use Rattle.model.proofs.base.Phases.{branch-arms, cond-arms, unless-arms}
 use Rattle.model.proofs.base.Truths.{and-right, true-both}
 use Rattle.model.proofs.base.WalkLaws.{forEach-ends}
-use Rattle.model.proofs.pick.AsideLaws.{putAside-all}
+use Rattle.pick_laws.proofs.AsideLaws.{putAside-all}
 use Rattle.agreement.proofs.complete.Reaching.{walkUntil-reaches, forEach-reaches}
 use Rattle.agreement.proofs.complete.Giving.{Sure, enough, aside, spent-sure, contiguous-sure, took-sure, took-this, steps-sure}
 use Rattle.agreement.proofs.complete.Giving.{given-back}

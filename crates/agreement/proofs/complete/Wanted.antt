@@ -17,11 +17,11 @@ use Rattle.model.specs.pick.Pick.{effectiveRequest, startPick, forgetExtent, pi
 use Rattle.model.specs.pick.Pick.{pickRest, pickPieces}
 use Rattle.model.proofs.base.Phases.{branch-arms}
 use Rattle.model.proofs.base.WalkLaws.{unless-keeps}
-use Rattle.model.proofs.pick.AsideLaws.{aside-arms}
+use Rattle.pick_laws.proofs.AsideLaws.{aside-arms}
 use Rattle.model.proofs.pick.FrameLaws.{Closed, anyPartial, every-any}
 use Rattle.model.proofs.pick.PhaseLaws.{Kept, closed-kept, pickListed-keeps, ring-keeps, pickEndGame-keeps, phases-keeps, startPick-keeps}
 use Rattle.model.proofs.pick.PhaseLaws.{asked-wanted, start-more}
-use Rattle.model.proofs.pick.SpanLaws.{least-left}
+use Rattle.pick_laws.proofs.SpanLaws.{least-left}
 
 module _ (n : ℕ) where
   Covers : PickState → Type 0

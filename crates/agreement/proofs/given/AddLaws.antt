@@ -26,7 +26,7 @@ use Rattle.model.specs.pick.Pick.{randStep, takeAll}
 use Rattle.model.proofs.base.WalkLaws.{unless-keeps, when-keeps}
 use Rattle.model.proofs.base.Phases.{branch-arms}
 use Rattle.model.proofs.base.Truths.{true-both}
-use Rattle.model.proofs.pick.SpanLaws.{least-left}
+use Rattle.pick_laws.proofs.SpanLaws.{least-left}
 use Rattle.agreement.proofs.given.EachLaws.{Each, none-left, and-then, each-append, each-take, each-filter, each-image, each-so}
 use Rattle.agreement.proofs.given.EachLaws.{each-from, walk-each, forEach-each}
 use Rattle.agreement.proofs.given.LikeLaws.{Like, like-piece, like-blocks, like-payload, like-partial, like-can}

@@ -3,7 +3,7 @@ use mathlib.Core.Path.{refl}
 use mathlib.Core.Bool.{cond}
 use Prim.Native.Nat.{_+_}
 use native.Mathlib.Omega.{arith}
-use Rattle.model.proofs.pick.SpanLaws.{least-right}
+use Rattle.pick_laws.proofs.SpanLaws.{least-right}
 use Rattle.pick_free.proofs.FreeLaws.{span-told}
 use borrow.Author.Needs.{needs}
 use Rattle.pick_free.proofs.spans.span_of.Statement.{statement}

@@ -2,7 +2,7 @@
 use Rattle.pick_new.proofs.NewLaws.{new-few, new-span}
 use Rattle.pick_new.proofs.InLaws.{in-words, words-say, some-blocks, few-blocks, payload-few}
 use Rattle.pick_free.proofs.FreeLaws.{expanded-around}
-use Rattle.model.proofs.pick.SpanLaws.{least-left}
+use Rattle.pick_laws.proofs.SpanLaws.{least-left}
 use Rattle.model.specs.State.{payloadBlocksInPiece}
 use native.Mathlib.Omega.{arith}
 use Prim.Native.Nat.{_+_}

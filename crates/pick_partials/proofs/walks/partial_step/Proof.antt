@@ -8,7 +8,7 @@ use Rattle.pick_scan.proofs.KeyLaws.{blocks-small}
 use Rattle.pick_visits.proofs.VisitLaws.{picks-sound, flag-wanted, flag-underway}
 use Rattle.pick_blocks.proofs.AddingLaws.{partial-room}
 use Rattle.memory_rows.specs.Lookup.{pickerIn}
-use Rattle.model.proofs.pick.BoundLaws.{small}
+use Rattle.pick_laws.proofs.BoundLaws.{small}
 use Rattle.pick_partials.proofs.WalkLaws.{partial-stepped}
 use borrow.Author.Needs.{needs}
 use Rattle.pick_partials.proofs.walks.partial_step.Statement.{statement}

@@ -1,7 +1,7 @@
 -- `skip` meets its contract. Assumes nothing.
 use Rattle.pick_walk.proofs.SkipLaws.{ahead, SkipRest, skips-start, skips-next, skips-less, skips-end}
 use Rattle.pick_state.specs.Requests.{requestOf}
-use Rattle.model.proofs.pick.RoundLaws.{far-some}
+use Rattle.pick_laws.proofs.RoundLaws.{far-some}
 use borrow.Author.Tests.{not-true, not-false}
 use native.Mathlib.Omega.{arith}
 use borrow.Author.Needs.{needs}

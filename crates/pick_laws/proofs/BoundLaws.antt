@@ -11,28 +11,28 @@ use lib.Dec.{leb}
 use borrow.Author.Tests.{eqb-false, leb-true, le-leb}
 use Rattle.types.specs.declared.queue.DownloadQueue.the-variants.{Downloading}
 use Rattle.types.specs.Queue.{unreverse}
 use Rattle.model.specs.Lists.{least, from, each, every, len, when, branch, walk, forEach}
 use Rattle.model.specs.Bep3.{wholePieceBlocks, pieceBlocks}
 use Rattle.model.specs.State.{DownloadingPiece, Picker, sameQueue, isOpen, pieceAt, blocksPerPiece, blocksInPiece}
 use Rattle.model.specs.State.{payloadBlocksInPiece}
 use Rattle.model.specs.Options.{onParole, prioritizePartials, randomPieces, randLoops}
 use Rattle.model.specs.change.Partials.{findDlPiece, partialOf}
 use Rattle.model.specs.pick.Blocks.{PickRequest, option, hasBit, Contiguous, PickState, spent, withOut, withContiguous, withBackup}
 use Rattle.model.specs.pick.Blocks.{ignore, flagged, steps, isIgnored, contiguousIsZero, contiguousAbove, shorter, expandPiece}
 use Rattle.model.specs.pick.Blocks.{piecesOf, pieceBlock, took, contiguousMet, contiguousOver, spanStep, takeSpan, takePayload}
 use Rattle.model.specs.pick.Blocks.{addNewPiece, RequestedFrom, requestedFrom, freeFrom, setAside, freeHalt, takeFree}
 use Rattle.model.specs.pick.Blocks.{keepingContiguous, useFree, addBlocksDownloading, addPartialOf, addStanding, addBlocks}
 use Rattle.model.specs.pick.Blocks.{appendBlocks, PieceBlock}
 use Rattle.model.specs.pick.Pick.{randStep, takeAll}
 use Rattle.model.specs.image.Sound.{Sound}
 use Rattle.model.proofs.base.Bep3Laws.{blocksPerPiece-pos, blocksPerPiece-le, blocksInPiece-le}
 use Rattle.model.proofs.base.Counts.{length-from}
 use Rattle.model.proofs.base.WalkLaws.{unless-keeps, when-keeps, walkUntil-counts, walk-counts, forEach-counts}
-use Rattle.model.proofs.pick.SpanLaws.{least-left, least-right, span-blocks}
+use Rattle.pick_laws.proofs.SpanLaws.{least-left, least-right, span-blocks}
 use Rattle.model.proofs.pick.SoundPick.{sound-sized}
 use Rattle.model.proofs.base.Phases.{branch-arms}
-use Rattle.model.proofs.pick.AsideLaws.{aside-arms, free-size, added-most, mostAside}
+use Rattle.pick_laws.proofs.AsideLaws.{aside-arms, free-size, added-most, mostAside}
 use Rattle.model.proofs.pick.FoundLaws.{every-found, found-every}
 
 -- ---- the geometry
 -- at most 256 blocks

@@ -5,21 +5,21 @@ use mathlib.Core.Bool.{false, _||_}
 use mathlib.Core.List.{List, [], _∷_, _++_}
 use mathlib.Core.Option.{Option, none, some}
 use Rattle.types.specs.declared.queue.DownloadQueue.the-variants.{Downloading}
 use Rattle.model.specs.Lists.{len}
 use Rattle.model.specs.State.{piecesIn}
 use Rattle.model.specs.Options.{onParole, sequential, rarestFirst, backup1, endGame, partialLoops, suggestLoops, reverseRareLoops}
 use Rattle.model.specs.Options.{rareLoops, randStartLoops, randLoops, busyLoops}
 use Rattle.model.specs.list.Order.{draw}
 use Rattle.model.specs.change.Partials.{inQueue}
 use Rattle.model.specs.pick.Blocks.{PickRequest, option, PickState, spent, withOut, withPicker, flagged, steps, pieceBlock}
 use Rattle.model.specs.pick.Blocks.{appendBlocks, enoughAside}
 use Rattle.model.specs.pick.Pick.{pickPartials, pickSuggested, forgetExtent, pickRandom, pickEndGame, withListUpdated, pickListed}
 use Rattle.model.specs.pick.Pick.{pickMain, pickRest}
 use Rattle.model.proofs.base.WalkLaws.{unless-keeps}
 use Rattle.model.proofs.pick.FrameLaws.{backup-keeps, anyPartial}
 use Rattle.model.proofs.pick.PhaseLaws.{pickPartials-keeps, pickSuggested-keeps, ring-keeps, pickListed-keeps, pickEndGame-keeps}
-use Rattle.model.proofs.pick.CounterLaws.{counter, counter-blind, counter-flag, counter-keeps, counter-kept}
+use Rattle.pick_laws.proofs.CounterLaws.{counter, counter-blind, counter-flag, counter-keeps, counter-kept}
 use Rattle.model.proofs.base.Phases.{branch-arms}
 
 -- ---- what draws, lists and extents leave alone
 -- a draw

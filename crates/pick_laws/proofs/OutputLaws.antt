@@ -6,27 +6,27 @@ use mathlib.Core.Bool.{true, false, _||_}
 use mathlib.Core.List.{List, [], _∷_}
 use mathlib.Core.Option.{Option, none, some}
 use lib.ListN.{length-append}
 use Rattle.model.specs.Lists.{every, len}
 use Rattle.model.specs.State.{Picker, withRecentExtents, piecesIn, blocksPerPiece}
 use Rattle.model.specs.Options.{onParole, sequential, rarestFirst, backup1, partialLoops, suggestLoops, reverseRareLoops, rareLoops}
 use Rattle.model.specs.Options.{randStartLoops}
 use Rattle.model.specs.list.Order.{drawing, draw, updatePieces}
 use Rattle.model.specs.pick.Blocks.{PickRequest, option, PickState, startState, spent, withOut, withPicker, flagged, steps}
 use Rattle.model.specs.pick.Blocks.{pieceBlock, appendBlocks, enoughAside}
 use Rattle.model.specs.pick.Pick.{effectiveRequest, startPick, forgetExtent, takeAll, pickRandom, pickEndGame, withListUpdated}
 use Rattle.model.specs.pick.Pick.{pickListed, pickMain, pickRest, phases, pickPieces}
 use Rattle.model.specs.image.Sound.{Sound}
 use Rattle.model.specs.Calls.{requestFits}
 use Rattle.model.proofs.base.WalkLaws.{unless-keeps}
 use Rattle.model.proofs.pick.PhaseLaws.{flag-spent, Kept, pickListed-keeps, ring-keeps, pickEndGame-keeps, phases-keeps}
 use Rattle.model.proofs.pick.PhaseLaws.{startPick-keeps, asked-wanted, asked-run, start-more}
 use Rattle.model.proofs.list.ListingLaws.{OnlyListing, updatePieces-only}
 use Rattle.model.proofs.pick.SoundPick.{ask-fits}
-use Rattle.model.proofs.pick.BoundLaws.{small, Fits, sound-fits, Tight, tight-more, tight-unspent, mark-tight, flag-tight}
-use Rattle.model.proofs.pick.BoundLaws.{step-tight, all-tight, span-tight, downloading-tight, blocks-tight, backup-tight}
+use Rattle.pick_laws.proofs.BoundLaws.{small, Fits, sound-fits, Tight, tight-more, tight-unspent, mark-tight, flag-tight}
+use Rattle.pick_laws.proofs.BoundLaws.{step-tight, all-tight, span-tight, downloading-tight, blocks-tight, backup-tight}
 use Rattle.model.proofs.base.Truths.{or-no-left}
 use Rattle.model.proofs.base.Phases.{branch-arms}
-use Rattle.model.proofs.pick.AsideLaws.{mostAside}
+use Rattle.pick_laws.proofs.AsideLaws.{mostAside}
 
 only-of : (ds : List ℕ) (t : ℕ) (s : Picker) → OnlyListing s (updatePieces ds (drawing t s) .picker)
 unfolding drawing

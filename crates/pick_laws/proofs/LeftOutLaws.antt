@@ -11,23 +11,23 @@ use lib.ListN.{length, drop, length-drop}
 use lib.Dec.{eqb, leb}
 use borrow.Author.Tests.{eqb-false, ne-eqb, ltb-false, le-ltb}
 use Rattle.types.specs.declared.block.BlockState.the-variants.{Requested}
 use Rattle.model.specs.Lists.{least, from, any, len, unless, when, branch, forEach, walk, walkUntil}
 use Rattle.model.specs.State.{Block, DownloadingPiece, Picker, sameBlockState, hasPeer, blocksPerPiece, blocksInPiece}
 use Rattle.model.specs.State.{payloadBlocksInPiece}
 use Rattle.model.specs.Options.{onParole, suggestLoops, suggestedPieces, randLoops, randomPieces}
 use Rattle.model.specs.pick.Blocks.{PickRequest, option, hasBit, Contiguous, PickState, spent, withOut, withContiguous, withBackup}
 use Rattle.model.specs.pick.Blocks.{ignore, flagged, steps, isIgnored, contiguousIsZero, contiguousAbove, shorter, wholePieces}
 use Rattle.model.specs.pick.Blocks.{isPieceFree, spanOf, expandPiece, piecesOf, took, contiguousMet, contiguousOver, spanStep}
 use Rattle.model.specs.pick.Blocks.{takeSpan, takePayload, RequestedFrom, byAnother, requestedFrom, setAside, freeHalt, takeFree}
 use Rattle.model.specs.pick.Blocks.{keepingContiguous, useFree, addBlocksDownloading, appendBlocks, PieceBlock, addBlocks}
 use Rattle.model.specs.pick.Pick.{visit, suggest, randStep, takeAll}
 use Rattle.model.proofs.base.Counts.{length-from}
 use Rattle.model.proofs.base.WalkLaws.{walk-counts}
 use Rattle.model.proofs.base.Truths.{and-right}
 use Rattle.model.proofs.base.Phases.{branch-arms}
-use Rattle.model.proofs.pick.SpanLaws.{span-around, pieces-size}
+use Rattle.pick_laws.proofs.SpanLaws.{span-around, pieces-size}
 use mathlib.Core.Option.{Option}
 use Rattle.model.proofs.base.Bep3Laws.{blocksPerPiece-pos, blocksInPiece-le}
 
 -- ---- blocks past the run
 -- the Rust's step: the run falls only while it is above 0

@@ -7,20 +7,20 @@ use mathlib.Core.Option.{Option, none, some}
 use borrow.Author.Tests.{leb-true}
 use Rattle.types.specs.declared.queue.DownloadQueue.the-variants.{Downloading}
 use Rattle.types.specs.Queue.{unreverse}
 use Rattle.model.specs.Lists.{every, len, when, branch}
 use Rattle.model.specs.State.{DownloadingPiece, sameQueue, isOpen, pieceAt}
 use Rattle.model.specs.Options.{onParole, prioritizePartials}
 use Rattle.model.specs.change.Partials.{partialOf}
 use Rattle.model.specs.pick.Blocks.{PickRequest, option, hasBit, PickState, withOut, withContiguous, withBackup, ignore, flagged}
 use Rattle.model.specs.pick.Blocks.{steps, isIgnored, contiguousIsZero, contiguousAbove, took, addNewPiece, requestedFrom, setAside}
 use Rattle.model.specs.pick.Blocks.{takeFree, keepingContiguous, useFree, addBlocksDownloading, addPartialOf, addStanding, addBlocks}
 use Rattle.model.specs.pick.Blocks.{appendBlocks}
 use Rattle.model.proofs.base.WalkLaws.{unless-keeps, when-keeps}
 use Rattle.model.proofs.base.Phases.{branch-arms}
-use Rattle.model.proofs.pick.AsideLaws.{aside-arms, mostAside, added-most}
+use Rattle.pick_laws.proofs.AsideLaws.{aside-arms, mostAside, added-most}
 use Rattle.model.proofs.pick.FrameLaws.{Blind, blind-closed, Closed, anyPartial, downloading-keeps, blocks-keeps, backup-keeps}
 use Rattle.model.proofs.pick.PhaseLaws.{Kept, closed-kept}
-use Rattle.model.proofs.pick.BoundLaws.{small}
+use Rattle.pick_laws.proofs.BoundLaws.{small}
 
 -- ---- what is left alone
 -- from w to v only blocks, marks and the run change

@@ -6,27 +6,27 @@ use mathlib.Core.Bool.{true, false, _||_}
 use mathlib.Core.List.{List, [], _∷_, _++_}
 use mathlib.Core.Option.{Option, none, some}
 use lib.ListN.{take, length-append}
 use Rattle.model.specs.Lists.{least, from, len, walk}
 use Rattle.model.specs.State.{Picker, piecesIn, blocksInPiece}
 use Rattle.model.specs.Options.{onParole, sequential, rarestFirst, backup1, endGame, randomPieces, partialLoops, suggestLoops}
 use Rattle.model.specs.Options.{reverseRareLoops, rareLoops, randStartLoops, randLoops, busyLoops}
 use Rattle.model.specs.list.Order.{draw}
 use Rattle.model.specs.pick.Blocks.{PickRequest, option, PickState, startState, spent, withOut, withContiguous, withBackup}
 use Rattle.model.specs.pick.Blocks.{withPicker, ignore, flagged, steps, expandPiece, piecesOf, pieceBlock, took, contiguousOver}
 use Rattle.model.specs.pick.Blocks.{appendBlocks}
 use Rattle.model.specs.pick.Pick.{effectiveRequest, startPick, forgetExtent, randStep, takeAll, pickRandom, pickEndGame}
 use Rattle.model.specs.pick.Pick.{withListUpdated, pickListed, pickMain, pickRest, pickPieces}
 use Rattle.model.specs.image.Sound.{Sound}
 use Rattle.model.specs.Calls.{requestFits}
 use Rattle.model.proofs.base.WalkLaws.{unless-keeps, walkUntil-keeps}
 use Rattle.model.proofs.pick.FrameLaws.{Closed, run-keeps, downloading-keeps, blocks-keeps, anyPartial, every-any}
 use Rattle.model.proofs.pick.PhaseLaws.{Kept, ring-keeps, pickListed-keeps, pickEndGame-keeps, phases-keeps, startPick-keeps}
 use Rattle.model.proofs.pick.PhaseLaws.{start-more}
-use Rattle.model.proofs.pick.CounterLaws.{counter, counter-step, counter-other, begin-zero}
+use Rattle.pick_laws.proofs.CounterLaws.{counter, counter-step, counter-other, begin-zero}
 use Rattle.model.proofs.pick.SoundPick.{ask-fits}
-use Rattle.model.proofs.pick.OutputLaws.{pick-output}
+use Rattle.pick_laws.proofs.OutputLaws.{pick-output}
 use Rattle.model.proofs.base.Phases.{branch-arms}
-use Rattle.model.proofs.pick.AsideLaws.{aside-arms}
+use Rattle.pick_laws.proofs.AsideLaws.{aside-arms}
 
 -- no more counted than appended
 unfoldable Counted : PickState → Type 0

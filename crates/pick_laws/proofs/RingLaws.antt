@@ -9,29 +9,29 @@ use mathlib.Core.Bool.{Bool, true, false, cond, not, _&&_, true≢false}
 use lib.ListN.{length}
 use lib.Dec.{eqb}
 use borrow.Author.Tests.{eqb-false, not-true, not-false}
 use Rattle.model.specs.Lists.{repeat}
 use Rattle.model.specs.State.{Picker, isOpen, pieceAt, piecesIn, blocksPerPiece, blocksInPiece}
 use Rattle.model.specs.Options.{randomPieces, randStartLoops, randLoops}
 use Rattle.model.specs.pick.Blocks.{PickRequest, PickState, spent, flagged, steps, isIgnored, contiguousAbove, isPieceFree}
 use Rattle.model.specs.pick.Blocks.{wholePieces, expandPiece, piecesOf, takeSpan, addBlocks}
 use Rattle.model.specs.pick.Pick.{standsOpen, onward, Trace, trace, sameTrace, RandomWalk, skipStep, skipDone, skip, takeAll, arrive}
 use Rattle.model.specs.pick.Pick.{randomSpan, randomPiece, randomVisit, ended, marked, lapEnds, lapFrom, lapStep, walkOver, ringFuel}
 use Rattle.model.specs.pick.Pick.{ring}
 use Rattle.model.specs.image.Sound.{Sound}
 use Rattle.model.proofs.base.Bep3Laws.{blocksInPiece-pos}
 use Rattle.model.proofs.base.WalkLaws.{repeat-ends, repeat-enough, repeat-keeps}
 use Rattle.model.proofs.pick.FrameLaws.{blind-closed, run-keeps, blocks-keeps, all-keeps, anyPartial}
 use Rattle.model.proofs.pick.PhaseLaws.{step-spent, flag-spent}
 use Rattle.model.proofs.pick.SoundPick.{sound-sized}
-use Rattle.model.proofs.pick.SpanLaws.{Around, span-around}
-use Rattle.model.proofs.pick.BoundLaws.{Tight, tight-left}
-use Rattle.model.proofs.pick.OutputLaws.{bounded-kept}
-use Rattle.model.proofs.pick.CounterLaws.{counter, counter-step, counter-blind, counter-flag, counter-keeps}
-use Rattle.model.proofs.pick.TraceLaws.{weight, Rises, rises-weight, rises-same, rises-then, rises-differ, Grows, grows-flag}
-use Rattle.model.proofs.pick.TraceLaws.{blocks-grow, run-grow, run-rises, weight-most}
-use Rattle.model.proofs.pick.RoundLaws.{Torrent, far, far-some, far-next, far-on, member-span, ahead, not-done, skip-nearer}
+use Rattle.pick_laws.proofs.SpanLaws.{Around, span-around}
+use Rattle.pick_laws.proofs.BoundLaws.{Tight, tight-left}
+use Rattle.pick_laws.proofs.OutputLaws.{bounded-kept}
+use Rattle.pick_laws.proofs.CounterLaws.{counter, counter-step, counter-blind, counter-flag, counter-keeps}
+use Rattle.pick_laws.proofs.TraceLaws.{weight, Rises, rises-weight, rises-same, rises-then, rises-differ, Grows, grows-flag}
+use Rattle.pick_laws.proofs.TraceLaws.{blocks-grow, run-grow, run-rises, weight-most}
+use Rattle.pick_laws.proofs.RoundLaws.{Torrent, far, far-some, far-next, far-on, member-span, ahead, not-done, skip-nearer}
 use Rattle.model.proofs.base.Truths.{and-right, or-no-left, or-no-right}
 use Rattle.model.proofs.base.Phases.{branch-arms}
 
 -- ---- the walk, where it is under way
 module _ (n start b N R : ℕ) (start-in : start < n) (n-most : n ≤ 4096) (N-most : N ≤ 2048) where

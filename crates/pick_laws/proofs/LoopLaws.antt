@@ -8,39 +8,39 @@ use mathlib.Core.List.{List, [], _∷_}
 use mathlib.Core.Option.{Option, none, some}
 use lib.ListN.{length, length-append, length-set, length-replicate}
 use Rattle.types.specs.declared.queue.DownloadQueue.the-variants.{Downloading}
 use Rattle.model.specs.Lists.{nth, setNth, len, reversed, repeat, walk}
 use Rattle.model.specs.State.{Picker, maxPieces, listOf, withRecentExtents, piecesIn, blocksPerPiece}
 use Rattle.model.specs.Options.{onParole, sequential, rarestFirst, backup1, partialLoops, suggestLoops, reverseRareLoops, rareLoops}
 use Rattle.model.specs.Options.{randStartLoops, randLoops, busyLoops}
 use Rattle.model.specs.list.Order.{drawing, rank, draw, updatePieces}
 use Rattle.model.specs.change.Partials.{inQueue}
 use Rattle.model.specs.pick.Blocks.{PickRequest, option, PickState, startState, spent, withOut, withBackup, withPicker, ignore}
 use Rattle.model.specs.pick.Blocks.{flagged, steps, appendBlocks, enoughAside}
 use Rattle.model.specs.pick.Pick.{effectiveRequest, startPick, pickPartials, suggest, pickSuggested, rareStep, reverseRareStep}
 use Rattle.model.specs.pick.Pick.{forgetExtent, trace, lapStep, walkOver, ringFuel, pickRandom, pickEndGame, withListUpdated}
 use Rattle.model.specs.pick.Pick.{pickListed, pickMain, pickRest, pickPieces}
 use Rattle.model.specs.image.Sound.{Sound}
 use Rattle.model.specs.Calls.{requestFits}
 use Rattle.model.proofs.base.Bep3Laws.{numPieces-pos}
 use Rattle.model.proofs.base.WalkLaws.{unless-keeps, walk-raises}
 use Rattle.model.proofs.pick.FrameLaws.{Blind, backup-keeps, anyPartial}
 use Rattle.model.proofs.pick.PhaseLaws.{Kept, blind-kept, kept-both, pickPartials-keeps, suggest-keeps, pickSuggested-keeps}
 use Rattle.model.proofs.pick.PhaseLaws.{rare-keeps, reverseRare-keeps, rareWalk-keeps, reverseWalk-keeps, pickListed-ends}
 use Rattle.model.proofs.pick.PhaseLaws.{pickEndGame-keeps, beforeMain, beforeMain-keeps, phases-ends, startPick-keeps}
 use Rattle.model.proofs.pick.PhaseLaws.{asked-suggestions, start-more}
-use Rattle.model.proofs.pick.CounterLaws.{counter, begin-zero, counter-step, counter-blind, counter-flag, counter-keeps}
-use Rattle.model.proofs.pick.CounterLaws.{counter-kept}
+use Rattle.pick_laws.proofs.CounterLaws.{counter, begin-zero, counter-step, counter-blind, counter-flag, counter-keeps}
+use Rattle.pick_laws.proofs.CounterLaws.{counter-kept}
 use Rattle.model.proofs.list.ListedLaws.{listed-length-le}
 use Rattle.model.proofs.list.ListingLaws.{updatePieces-listed}
 use Rattle.model.proofs.pick.SoundPick.{Fitting, ask-fits, sound-sized}
-use Rattle.model.proofs.pick.BoundLaws.{Tight, small, step-tight}
-use Rattle.model.proofs.pick.OutputLaws.{bounded-kept, start-bounded}
-use Rattle.model.proofs.pick.RandLoops.{rand-loops}
-use Rattle.model.proofs.pick.RingLaws.{Ready, ring-over, ring-skips}
-use Rattle.model.proofs.pick.LoopFrame.{counter-drawn, counter-tried, counter-found, upto-partials, upto-suggested, upto-random}
-use Rattle.model.proofs.pick.LoopFrame.{upto-listed, upto-main, upto-rest}
+use Rattle.pick_laws.proofs.BoundLaws.{Tight, small, step-tight}
+use Rattle.pick_laws.proofs.OutputLaws.{bounded-kept, start-bounded}
+use Rattle.pick_laws.proofs.RandLoops.{rand-loops}
+use Rattle.pick_laws.proofs.RingLaws.{Ready, ring-over, ring-skips}
+use Rattle.pick_laws.proofs.LoopFrame.{counter-drawn, counter-tried, counter-found, upto-partials, upto-suggested, upto-random}
+use Rattle.pick_laws.proofs.LoopFrame.{upto-listed, upto-main, upto-rest}
 use Rattle.model.proofs.base.Phases.{branch-arms}
-use Rattle.model.proofs.pick.AsideLaws.{filter-size}
+use Rattle.pick_laws.proofs.AsideLaws.{filter-size}
 
 -- ---- where a pick begins
 queue-size : (q : Picker) → len (inQueue Downloading q) ≤ len (q .partials)

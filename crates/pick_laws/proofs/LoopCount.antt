@@ -8,23 +8,23 @@ use mathlib.Core.List.{List}
 use mathlib.Core.Option.{Option, none, some}
 use lib.ListN.{length, length-set}
 use Rattle.types.specs.declared.queue.DownloadQueue.the-variants.{Downloading}
 use Rattle.model.specs.Lists.{nth, setNth, len}
 use Rattle.model.specs.State.{Picker, piecesIn}
 use Rattle.model.specs.Options.{onParole, sequential, rarestFirst, backup1, partialLoops, suggestLoops, reverseRareLoops, rareLoops}
 use Rattle.model.specs.Options.{randStartLoops, randLoops, busyLoops}
 use Rattle.model.specs.list.Order.{draw}
 use Rattle.model.specs.change.Partials.{inQueue}
 use Rattle.model.specs.pick.Blocks.{PickRequest, option, PickState, startState, spent, withOut, withBackup, withPicker, ignore}
 use Rattle.model.specs.pick.Blocks.{flagged, steps, appendBlocks, enoughAside}
 use Rattle.model.specs.pick.Pick.{effectiveRequest, startPick, pickPartials, pickSuggested, forgetExtent, pickRandom, pickEndGame}
 use Rattle.model.specs.pick.Pick.{withListUpdated, pickListed, pickMain, pickRest, pickPieces}
 use Rattle.model.proofs.base.WalkLaws.{unless-keeps}
 use Rattle.model.proofs.pick.FrameLaws.{Blind, backup-keeps, anyPartial}
 use Rattle.model.proofs.pick.PhaseLaws.{Kept, blind-kept, pickPartials-keeps, pickSuggested-keeps, ring-keeps, pickListed-keeps}
 use Rattle.model.proofs.pick.PhaseLaws.{pickEndGame-keeps, phases-keeps, startPick-keeps, start-more}
-use Rattle.model.proofs.pick.CounterLaws.{counter, counter-up, counter-other}
-use Rattle.model.proofs.pick.LoopFrame.{counter-drawn, counter-refreshed, counter-forgets, counter-tried, counter-found}
+use Rattle.pick_laws.proofs.CounterLaws.{counter, counter-up, counter-other}
+use Rattle.pick_laws.proofs.LoopFrame.{counter-drawn, counter-refreshed, counter-forgets, counter-tried, counter-found}
 use Rattle.model.proofs.base.Phases.{branch-arms}
 
 -- ---- seven counters
 loops-blind : Blind (λ w. length (w .loops) ≡ 7)

@@ -11,20 +11,20 @@ use lib.ListN.{length, getD, set, length-append, length-set}
 use lib.Seq.{getD-set-other}
 use lib.Dec.{eqb}
 use borrow.Author.Tests.{eq-eqb, ne-eqb, leb-false}
 use Rattle.model.specs.Lists.{bit, count, from, each, nth, setNth, len, any, member, branch, walk, walkUntil}
 use Rattle.model.specs.State.{DownloadingPiece, blocksInPiece}
 use Rattle.model.specs.Options.{randomPieces, randLoops}
 use Rattle.model.specs.pick.Blocks.{PickRequest, Contiguous, PieceBlock, PickState, spent, withOut, withContiguous, withBackup}
 use Rattle.model.specs.pick.Blocks.{ignore, flagged, steps, isIgnored, shorter, pieceBlock, took, contiguousOver, spanStep, takeSpan}
 use Rattle.model.specs.pick.Blocks.{freeFrom, setAside, addBlocks, enoughAside}
 use Rattle.model.specs.pick.Pick.{Trace, trace, sameTrace, randStep, takeAll}
 use Rattle.model.proofs.base.WalkLaws.{unless-keeps, walkUntil-keeps, forEach-ends}
 use Rattle.model.proofs.pick.FrameLaws.{Closed, run-keeps, blocks-keeps, all-keeps, anyPartial, every-any}
 use Rattle.model.proofs.base.Counts.{count-le}
-use Rattle.model.proofs.pick.BoundLaws.{Tight, tight-unspent}
+use Rattle.pick_laws.proofs.BoundLaws.{Tight, tight-unspent}
 use Rattle.model.proofs.base.Truths.{true-both}
 use Rattle.model.proofs.base.Phases.{branch-arms}
-use Rattle.model.proofs.pick.AsideLaws.{aside-arms}
+use Rattle.pick_laws.proofs.AsideLaws.{aside-arms}
 
 -- ---- the number that rises
 -- blocks set aside count up to 2,048, since none is set aside beyond that

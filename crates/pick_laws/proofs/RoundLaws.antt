@@ -7,14 +7,14 @@ use native.Mathlib.Omega.{arith}
 use mathlib.Core.Bool.{true, false, cond}
 use lib.Dec.{eqb, ltb, leb}
 use borrow.Author.Tests.{eqb-false, eq-eqb, ne-eqb, lt-ltb, le-ltb, leb-true, leb-false}
 use Rattle.model.specs.Lists.{from, range, any, member}
 use Rattle.model.specs.State.{Picker, piecesIn, blocksInPiece}
 use Rattle.model.specs.pick.Blocks.{PickRequest, steps, Span, piecesOf}
 use Rattle.model.specs.pick.Pick.{standsOpen, onward, RandomWalk, skipStep, skipDone, skip}
 use Rattle.model.proofs.base.WalkLaws.{repeat-ends}
-use Rattle.model.proofs.pick.SpanLaws.{Around}
+use Rattle.pick_laws.proofs.SpanLaws.{Around}
 use Rattle.model.proofs.base.Truths.{or-no-left}
 use Rattle.model.proofs.base.Phases.{cond-arms}
 
 -- n pieces, each with a block
 pub record Torrent (n : ℕ) (q : Picker) : Type 0 where

@@ -1,0 +1,14 @@
+pub mod AsideLaws
+pub mod CounterLaws
+pub mod SpanLaws
+pub mod BoundLaws
+pub mod OutputLaws
+pub mod TraceLaws
+pub mod RoundLaws
+pub mod RingLaws
+pub mod RandLoops
+pub mod LoopFrame
+pub mod LoopCount
+pub mod LoopLaws
+pub mod LeftOutLaws
+pub mod AddLaws
