@@ -3,7 +3,7 @@ use change_state::queue_at;
 use change_state::queue_number;
 use memory_fields::mark_dirty;
 use memory_layout::Shape;
-use memory_list::rank_at;
+use memory_ranks::rank_at;
 use memory_list::update;
 use types::DownloadQueue;
 ghost use mathlib.Core.Path.{_≡_};

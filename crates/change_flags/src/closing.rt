@@ -4,7 +4,7 @@ use change_state::queue_number;
 use memory_fields::set_flushed;
 use memory_fields::set_state;
 use memory_layout::Shape;
-use memory_list::rank_at;
+use memory_ranks::rank_at;
 use memory_list::update;
 use memory_partials::drop_partial;
 use types::DownloadQueue;

@@ -6,7 +6,7 @@ use crate::states::Tally;
 use crate::states::new_state;
 use memory_fields::priority;
 use memory_layout::Shape;
-use memory_list::rank_at;
+use memory_ranks::rank_at;
 use memory_list::update;
 use types::DownloadQueue;
 ghost use Prim.Native.Nat.{_≤_, _<_};

@@ -40,7 +40,7 @@ pub extern "C" fn ls_rank(words: &[u64], cells: &[u16], g: Geometry, i: usize) -
     requires { ⌜ i < g .pieces ⌝ }
     ensures { λ r. ⌜ RankOf (now (words .entry)) (now (cells .entry)) i r ⌝ }
 {
-    memory_list::rank_at(words, cells, shape(g), i)
+    memory_ranks::rank_at(words, cells, shape(g), i)
 }
 
 // The list mended after piece i came from rank `old` to the one it has. Answers how many draws were used.

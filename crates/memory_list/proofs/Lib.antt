@@ -1,4 +1,3 @@
-pub mod Ranking
 pub mod Regions
 pub mod Updates
 pub mod Rebuilds

@@ -23,7 +23,8 @@ use Rattle.list_words.proofs.Writing.{words-pieces, words-ranks, length-words}
 use Rattle.list_sort.specs.Sorting.{rankIn, Ranked}
 use Rattle.list_rebuild.specs.Rebuilding.{rebuiltBelow, drawsBelow, IsRebuilt}
 use Rattle.list_rebuild.proofs.Building.{rebuilt-is, rebuildDraws-is}
-use Rattle.memory_list.specs.Listings.{ListBounds, RanksRight, RanksFilled, ListBecame}
+use Rattle.memory_ranks.specs.CellRanks.{RanksFilled}
+use Rattle.memory_list.specs.Listings.{ListBounds, RanksRight, ListBecame}
 use Rattle.memory_list.proofs.Regions.{lentAt, backAt, part-long, part-stored, flag-is, list-stored, list-left}
 use Rattle.memory_list.proofs.Updates.{pieces-many}
 

@@ -21,7 +21,8 @@ use Rattle.list_words.specs.Updating.{former, Ready, IsUpdated, Updates}
 use Rattle.list_words.proofs.Natural.{pieces-map}
 use Rattle.list_words.proofs.Mending.{former-same}
 use Rattle.list_words.proofs.Listing.{listed-ready, listed-room}
-use Rattle.memory_list.specs.Listings.{ListBounds, ListBefore, IsRankAt, ListBecame}
+use Rattle.memory_ranks.specs.CellRanks.{IsRankAt}
+use Rattle.memory_list.specs.Listings.{ListBounds, ListBefore, ListBecame}
 use Rattle.memory_list.proofs.Regions.{lentAt, backAt, part-long, front-pieces, front-ranks, part-stored, flag-is, list-clean}
 use Rattle.memory_list.proofs.Regions.{list-stored, list-left}
 

@@ -1,12 +1,12 @@
 // The list in its part of the words: read, mended, and rebuilt.
-use crate::ranks::rank_at;
-use crate::ranks::rank_pieces;
 use memory_fields::is_dirty;
 use memory_fields::list_length;
 use memory_layout::Shape;
 use memory_layout::list_start;
 use memory_layout::piece_word;
 use memory_layout::set_head_word;
+use memory_ranks::rank_at;
+use memory_ranks::rank_pieces;
 use types::u16_to_u64;
 use types::u64_to_usize;
 use types::usize_to_u64;

@@ -1,7 +1,7 @@
 -- `update_list` meets its contract: the list's places lent to the mending, and put back. Assumes nothing.
 use native.Mathlib.Omega.{arith}
 use borrow.Author.Needs.{needs}
-use Rattle.memory_list.proofs.Ranking.{rank-wide}
+use Rattle.memory_ranks.proofs.Ranking.{rank-wide}
 use Rattle.memory_list.proofs.Regions.{part-start, part-fits, back-head}
 use Rattle.memory_list.proofs.Updates.{update-asks, list-mended}
 use Rattle.memory_list.proofs.lists.update_list.Statement.{statement}

@@ -1,4 +1,5 @@
-// The ranks of the pieces, by their cells and the number of seeds.
+// The ranks of the pieces in the lent buffers, by their cells and the number of seeds: of one piece, and of all.
+// The rank by the numbers is that of `list_rank`; none of it reads the records of partials.
 use memory_fields::state_number;
 use memory_layout::Shape;
 use memory_layout::head_word;
@@ -13,7 +14,7 @@ ghost use Rattle.model.specs.State.{maxPeers, maxPriority};
 ghost use Rattle.memory_layout.specs.Decode.{queueFrom};
 ghost use Rattle.memory_layout.specs.Bounds.{Spans};
 ghost use Rattle.list_rank.specs.Ranks.{IsRank};
-ghost use Rattle.memory_list.specs.Listings.{Ranges, IsRankAt, RanksFilled};
+ghost use Rattle.memory_ranks.specs.CellRanks.{Ranges, IsRankAt, RanksFilled};
 
 // The rank by the four cells of a piece.
 fn rank_by(seeds: u64, peer_count: u16, state: u16, priority: u16, flushed: u16) -> u16

@@ -2,9 +2,9 @@
 use mathlib.Core.Path.{_∙_}
 use native.Mathlib.Omega.{arith}
 use borrow.Author.Needs.{needs}
-use Rattle.memory_list.proofs.Ranking.{rank-of-cells}
-use Rattle.memory_list.proofs.ranks.rank_by.Statement.{statement}
-use Rattle.memory_list.proofs.ranks.rank_by.Tie as tie
+use Rattle.memory_ranks.proofs.Ranking.{rank-of-cells}
+use Rattle.memory_ranks.proofs.rank_by.Statement.{statement}
+use Rattle.memory_ranks.proofs.rank_by.Tie as tie
 
 state-number-requires : tie.Need-state-number-requires
 state-number-requires c κs = search needs

@@ -18,7 +18,7 @@ use Rattle.memory_layout.specs.Tables.{tabulate}
 use Rattle.memory_layout.specs.Decode.{headWord, pieceCell, piecesOn, queueFrom, yes?, pieceHeld, piecesHeld, decode}
 use Rattle.memory_layout.proofs.TableLaws.{tabulate-nth}
 use Rattle.list_rank.specs.Ranks.{Numbers, IsRank}
-use Rattle.memory_list.specs.Listings.{Ranges, IsRankAt, RanksFilled}
+use Rattle.memory_ranks.specs.CellRanks.{Ranges, IsRankAt, RanksFilled}
 
 -- ---- one piece
 -- numbers in another width have the same rank

@@ -1,9 +1,9 @@
 -- `rank_at` meets its contract. Assumes nothing.
 use native.Mathlib.Omega.{arith}
 use Rattle.memory_layout.proofs.OffsetLaws.{head-in}
-use Rattle.memory_list.proofs.Ranking.{cells-most, rank-is}
-use Rattle.memory_list.proofs.ranks.rank_at.Statement.{statement}
-use Rattle.memory_list.proofs.ranks.rank_at.Tie as tie
+use Rattle.memory_ranks.proofs.Ranking.{cells-most, rank-is}
+use Rattle.memory_ranks.proofs.rank_at.Statement.{statement}
+use Rattle.memory_ranks.proofs.rank_at.Tie as tie
 
 head-word-requires : tie.Need-head-word-requires
 head-word-requires c κs =

@@ -2,9 +2,9 @@
 use Prim.Native.Nat.{_-_}
 use native.Mathlib.Omega.{arith}
 use borrow.Author.Needs.{needs}
-use Rattle.memory_list.proofs.Ranking.{Filling, filling-start, filling-next, filling-end}
-use Rattle.memory_list.proofs.ranks.rank_pieces.Statement.{statement}
-use Rattle.memory_list.proofs.ranks.rank_pieces.Tie as tie
+use Rattle.memory_ranks.proofs.Ranking.{Filling, filling-start, filling-next, filling-end}
+use Rattle.memory_ranks.proofs.rank_pieces.Statement.{statement}
+use Rattle.memory_ranks.proofs.rank_pieces.Tie as tie
 
 abbrev Inv-loop : tie.InvT-loop
 Inv-loop words cells s ranks₀ n i₀ ranks i = Filling s words cells i ranks₀ ranks
