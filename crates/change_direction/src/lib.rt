@@ -4,7 +4,7 @@ use change_state::queue_number;
 use memory_fields::mark_dirty;
 use memory_layout::Shape;
 use memory_ranks::rank_at;
-use memory_list::update;
+use memory_update::update;
 use types::DownloadQueue;
 ghost use mathlib.Core.Path.{_≡_};
 ghost use mathlib.Core.Bool.{_&&_};

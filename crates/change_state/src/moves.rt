@@ -7,7 +7,7 @@ use crate::states::new_state;
 use memory_fields::priority;
 use memory_layout::Shape;
 use memory_ranks::rank_at;
-use memory_list::update;
+use memory_update::update;
 use types::DownloadQueue;
 ghost use Prim.Native.Nat.{_≤_, _<_};
 ghost use lib.ListN.{length};

@@ -1,4 +1,2 @@
 pub mod Regions
-pub mod Updates
-pub mod Rebuilds
 pub mod Moving

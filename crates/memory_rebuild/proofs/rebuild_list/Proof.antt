@@ -1,10 +1,10 @@
 -- `rebuild_list` meets its contract: the list's places lent to the rebuilding, and put back. Assumes nothing.
 use native.Mathlib.Omega.{arith}
 use borrow.Author.Needs.{needs}
 use Rattle.memory_list.proofs.Regions.{part-start, part-fits, part-long, back-head}
-use Rattle.memory_list.proofs.Rebuilds.{ranks-room, ranks-low, ranks-long, list-rebuilt}
-use Rattle.memory_list.proofs.lists.rebuild_list.Statement.{statement}
-use Rattle.memory_list.proofs.lists.rebuild_list.Tie as tie
+use Rattle.memory_rebuild.proofs.Rebuilds.{ranks-room, ranks-low, ranks-long, list-rebuilt}
+use Rattle.memory_rebuild.proofs.rebuild_list.Statement.{statement}
+use Rattle.memory_rebuild.proofs.rebuild_list.Tie as tie
 
 slice-aggregate-rank-pieces : tie.Need-slice-aggregate-rank-pieces
 slice-aggregate-rank-pieces c = search needs

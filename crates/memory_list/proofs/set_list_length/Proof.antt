@@ -1,7 +1,7 @@
 -- `set_list_length` meets its contract. Assumes nothing.
 use borrow.Author.Needs.{needs}
-use Rattle.memory_list.proofs.lists.set_list_length.Statement.{statement}
-use Rattle.memory_list.proofs.lists.set_list_length.Tie as tie
+use Rattle.memory_list.proofs.set_list_length.Statement.{statement}
+use Rattle.memory_list.proofs.set_list_length.Tie as tie
 
 usize-to-u64-requires : tie.Need-usize-to-u64-requires
 usize-to-u64-requires c κs = search needs

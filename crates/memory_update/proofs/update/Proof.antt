@@ -1,9 +1,9 @@
 -- `update` meets its contract. Assumes nothing.
 use borrow.Author.Needs.{needs}
 use Rattle.memory_list.proofs.Regions.{flag-read}
-use Rattle.memory_list.proofs.Updates.{list-dirty}
-use Rattle.memory_list.proofs.lists.update.Statement.{statement}
-use Rattle.memory_list.proofs.lists.update.Tie as tie
+use Rattle.memory_update.proofs.Updates.{list-dirty}
+use Rattle.memory_update.proofs.update.Statement.{statement}
+use Rattle.memory_update.proofs.update.Tie as tie
 
 is-dirty-requires : tie.Need-is-dirty-requires
 is-dirty-requires c κs =

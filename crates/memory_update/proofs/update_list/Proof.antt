@@ -2,10 +2,10 @@
 use native.Mathlib.Omega.{arith}
 use borrow.Author.Needs.{needs}
 use Rattle.memory_ranks.proofs.Ranking.{rank-wide}
 use Rattle.memory_list.proofs.Regions.{part-start, part-fits, back-head}
-use Rattle.memory_list.proofs.Updates.{update-asks, list-mended}
-use Rattle.memory_list.proofs.lists.update_list.Statement.{statement}
-use Rattle.memory_list.proofs.lists.update_list.Tie as tie
+use Rattle.memory_update.proofs.Updates.{update-asks, list-mended}
+use Rattle.memory_update.proofs.update_list.Statement.{statement}
+use Rattle.memory_update.proofs.update_list.Tie as tie
 
 rank-at-requires : tie.Need-rank-at-requires
 rank-at-requires c κs =

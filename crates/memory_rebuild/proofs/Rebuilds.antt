@@ -24,9 +24,8 @@ use Rattle.list_sort.specs.Sorting.{rankIn, Ranked}
 use Rattle.list_rebuild.specs.Rebuilding.{rebuiltBelow, drawsBelow, IsRebuilt}
 use Rattle.list_rebuild.proofs.Building.{rebuilt-is, rebuildDraws-is}
 use Rattle.memory_ranks.specs.CellRanks.{RanksFilled}
 use Rattle.memory_list.specs.Listings.{ListBounds, RanksRight, ListBecame}
-use Rattle.memory_list.proofs.Regions.{lentAt, backAt, part-long, part-stored, flag-is, list-stored, list-left}
-use Rattle.memory_list.proofs.Updates.{pieces-many}
+use Rattle.memory_list.proofs.Regions.{lentAt, backAt, part-long, part-stored, flag-is, pieces-many, list-stored, list-left}
 
 -- ---- the model
 -- a dirty list rebuilt

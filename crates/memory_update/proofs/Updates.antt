@@ -14,17 +14,16 @@ use Rattle.model.specs.list.Order.{rank, updated, updateDraws, drawing, update,
 use Rattle.memory_records.specs.declared.record.DownloadingPiece.{DownloadingPiece as Record}
 use Rattle.memory_layout.specs.declared.shape.Shape.{Shape}
 use Rattle.memory_layout.specs.Offsets.{pieceWordAt}
-use Rattle.memory_layout.specs.Decode.{headWord, piecesOn, yes?, pieceHeld, piecesHeld, listHeld, decode}
-use Rattle.memory_layout.proofs.TableLaws.{tabulate-len}
+use Rattle.memory_layout.specs.Decode.{headWord, yes?, listHeld, decode}
 use Rattle.list_groups.specs.Words.{listedPiece, piecesOf, RanksIn}
 use Rattle.list_words.specs.Updating.{former, Ready, IsUpdated, Updates}
 use Rattle.list_words.proofs.Natural.{pieces-map}
 use Rattle.list_words.proofs.Mending.{former-same}
 use Rattle.list_words.proofs.Listing.{listed-ready, listed-room}
 use Rattle.memory_ranks.specs.CellRanks.{IsRankAt}
 use Rattle.memory_list.specs.Listings.{ListBounds, ListBefore, ListBecame}
 use Rattle.memory_list.proofs.Regions.{lentAt, backAt, part-long, front-pieces, front-ranks, part-stored, flag-is, list-clean}
-use Rattle.memory_list.proofs.Regions.{list-stored, list-left}
+use Rattle.memory_list.proofs.Regions.{pieces-many, list-stored, list-left}
 
 -- ---- the model
 -- a fresh list mended
@@ -43,12 +42,6 @@ update-dirty draws old i used d e = go (d .listing) e
     go : (k : Listing) → isDirty k ≡ true → updateIn k draws old i (drawing used d) ≡ drawing used d
     go dirty e = refl
     go (fresh l) e = absurd (true≢false (sym e))
-
--- as many pieces as the shape has
-pub pieces-many : (s : Shape) (records : List Record) (words cells : List ℕ) → s .pieces ≡ piecesOn words
-    → piecesIn (decode records words cells) ≡ s .pieces
-unfolding piecesIn piecesHeld
-pieces-many s records words cells e = tabulate-len (piecesOn words) (pieceHeld words cells (piecesOn words)) ∙ sym e
 
 -- ---- a list that is not dirty
 module _ (s : Shape) (words cells : List ℕ) (q : ListBounds s words cells) (old i : ℕ) (h : i < s .pieces)

@@ -1,9 +1,9 @@
 -- `update_pieces` meets its contract. Assumes nothing.
 use borrow.Author.Needs.{needs}
 use Rattle.memory_list.proofs.Regions.{flag-read}
-use Rattle.memory_list.proofs.Rebuilds.{list-fresh}
-use Rattle.memory_list.proofs.lists.update_pieces.Statement.{statement}
-use Rattle.memory_list.proofs.lists.update_pieces.Tie as tie
+use Rattle.memory_rebuild.proofs.Rebuilds.{list-fresh}
+use Rattle.memory_rebuild.proofs.update_pieces.Statement.{statement}
+use Rattle.memory_rebuild.proofs.update_pieces.Tie as tie
 
 is-dirty-requires : tie.Need-is-dirty-requires
 is-dirty-requires c κs =

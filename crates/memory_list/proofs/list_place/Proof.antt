@@ -2,8 +2,8 @@
 use native.Mathlib.Omega.{arith}
 use borrow.Author.Needs.{needs}
 use Rattle.memory_list.proofs.Regions.{place-read}
-use Rattle.memory_list.proofs.lists.list_place.Statement.{statement}
-use Rattle.memory_list.proofs.lists.list_place.Tie as tie
+use Rattle.memory_list.proofs.list_place.Statement.{statement}
+use Rattle.memory_list.proofs.list_place.Tie as tie
 
 piece-word-requires : tie.Need-piece-word-requires
 piece-word-requires c κs =
