@@ -1,8 +1,8 @@
 -- `some` meets its contract. Assumes nothing.
 use mathlib.Core.Path.{sym}
 use Rattle.model.proofs.base.Counts.{lt-bit, ge-bit}
-use Rattle.list_words.proofs.some.Statement.{statement}
-use Rattle.list_words.proofs.some.Tie as tie
+use Rattle.list_draws.proofs.some.Statement.{statement}
+use Rattle.list_draws.proofs.some.Tie as tie
 
 returns : tie.Need-returns
 returns c = sym (lt-bit 0 (c .before .args .size) (c .if1 .taken))

@@ -1,31 +1,18 @@
 -- Where a group stands tells how many words are of lower rank and how many of its own. Assumes nothing.
-use mathlib.Core.Path.{_≡_, sym, _∙_}
+use mathlib.Core.Path.{_≡_, _∙_}
 use mathlib.Core.Bool.{Bool, true, false}
 use mathlib.Core.List.{List, [], _∷_}
-use Prim.Native.Nat.{ℕ, zero, suc, _+_, _-_, _%_, _≤_, _<_}
-use native.Mathlib.Nat.{zero-mod, le-of-suc-le-suc}
-use native.Mathlib.Numerals.{add-one}
+use Prim.Native.Nat.{ℕ, zero, suc, _+_, _-_, _≤_, _<_}
+use native.Mathlib.Nat.{le-of-suc-le-suc}
 use native.Mathlib.Decide.{decLe}
 use native.Mathlib.Omega.{arith}
 use lib.Dec.{eqb, ltb}
-use lib.ListN.{length, getD, take, List·getD-eq-default}
+use lib.ListN.{length, getD, take}
 use lib.Seq.{getD-take, length-take-le}
 use borrow.Author.Tests.{lt-ltb, le-ltb, eq-eqb, ne-eqb}
-use Rattle.model.specs.Lists.{bit, count, nth}
-use Rattle.model.specs.list.Order.{draw, groupStart, groupSize}
+use Rattle.model.specs.Lists.{count}
 use Rattle.list_groups.specs.Words.{listedRank}
 use Rattle.list_groups.specs.Places.{Rises, IsGroup}
-
--- ---- draws
--- the word modulo one more than the limit
-pub drawn : (draws : List ℕ) (used limit x : ℕ) → x ≡ getD draws used 0 → x % (limit + 1) ≡ draw draws used limit
-unfolding draw nth
-drawn draws used limit x e = rw (e, add-one)
-
--- beyond the last word
-pub drawn-none : (draws : List ℕ) (used limit : ℕ) → length draws ≤ used → 0 ≡ draw draws used limit
-unfolding draw nth
-drawn-none draws used limit h = rw (List·getD-eq-default draws 0 h) (sym (zero-mod (suc limit)))
 
 -- ---- counts
 -- a test that passes from `low` to `high` and nowhere else

@@ -7,9 +7,10 @@ use native.Mathlib.Omega.{arith}
 use lib.ListN.{set}
 use Rattle.model.specs.list.Order.{earlier, swap}
 use Rattle.list_groups.specs.Words.{listedRank}
-use Rattle.list_words.proofs.Moving.{earlier-pushed, drawn-in}
-use Rattle.list_words.proofs.to_earlier.Statement.{statement}
-use Rattle.list_words.proofs.to_earlier.Tie as tie
+use Rattle.list_draws.proofs.Moving.{earlier-pushed}
+use Rattle.list_draws.proofs.Draws.{drawn-in}
+use Rattle.list_draws.proofs.to_earlier.Statement.{statement}
+use Rattle.list_draws.proofs.to_earlier.Tie as tie
 
 sub-draw : tie.Need-sub-draw
 sub-draw c = search needs

@@ -8,9 +8,9 @@ use lib.ListN.{set, length, length-set}
 use Rattle.model.specs.list.Order.{later, swap}
 use Rattle.model.proofs.list.GroupMoves.{draw-le}
 use Rattle.list_groups.specs.Words.{listedRank}
-use Rattle.list_words.proofs.Moving.{later-pulled}
-use Rattle.list_words.proofs.to_later.Statement.{statement}
-use Rattle.list_words.proofs.to_later.Tie as tie
+use Rattle.list_draws.proofs.Moving.{later-pulled}
+use Rattle.list_draws.proofs.to_later.Statement.{statement}
+use Rattle.list_draws.proofs.to_later.Tie as tie
 
 sub-draw : tie.Need-sub-draw
 sub-draw c = search needs

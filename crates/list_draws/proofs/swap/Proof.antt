@@ -3,8 +3,8 @@ use borrow.Author.Needs.{needs}
 use mathlib.Core.Path.{refl}
 use Rattle.model.specs.Lists.{nth, setNth}
 use Rattle.model.specs.list.Order.{swap}
-use Rattle.list_words.proofs.swap.Statement.{statement}
-use Rattle.list_words.proofs.swap.Tie as tie
+use Rattle.list_draws.proofs.swap.Statement.{statement}
+use Rattle.list_draws.proofs.swap.Tie as tie
 
 mul-w : tie.Need-mul-w
 mul-w c = search needs

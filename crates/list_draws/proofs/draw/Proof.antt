@@ -1,8 +1,8 @@
 -- `draw` meets its contract: the word modulo one more than the limit, and 0 beyond the last word. Assumes nothing.
 use borrow.Author.Needs.{needs}
-use Rattle.list_words.proofs.Groups.{drawn, drawn-none}
-use Rattle.list_words.proofs.draw.Statement.{statement}
-use Rattle.list_words.proofs.draw.Tie as tie
+use Rattle.list_draws.proofs.Draws.{drawn, drawn-none}
+use Rattle.list_draws.proofs.draw.Statement.{statement}
+use Rattle.list_draws.proofs.draw.Tie as tie
 
 mul-u32-to-usize : tie.Need-mul-u32-to-usize
 mul-u32-to-usize c = search needs

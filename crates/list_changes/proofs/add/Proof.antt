@@ -6,9 +6,9 @@ use native.Mathlib.Omega.{arith}
 use lib.Dec.{ltb}
 use Rattle.model.proofs.base.Counts.{bit-le}
 use Rattle.list_moves.specs.Moves.{pushed}
-use Rattle.list_words.proofs.Moving.{added-in, pushed-added, added-draws}
-use Rattle.list_words.proofs.add.Statement.{statement}
-use Rattle.list_words.proofs.add.Tie as tie
+use Rattle.list_changes.proofs.Adding.{added-in, pushed-added, added-draws}
+use Rattle.list_changes.proofs.add.Statement.{statement}
+use Rattle.list_changes.proofs.add.Tie as tie
 
 group-of-requires : tie.Need-group-of-requires
 group-of-requires c κs = let t = c .before .before .before in (omega arith, (omega (arith, t .pre .0), (t .pre .1 .0, t .pre .1 .1 .0)))

@@ -6,10 +6,10 @@ use native.Mathlib.Omega.{arith}
 use lib.Dec.{ltb}
 use Rattle.model.proofs.base.Counts.{bit-le}
 use Rattle.list_groups.specs.Words.{listedRank}
-use Rattle.list_words.proofs.Groups.{group-before, group-behind}
-use Rattle.list_words.proofs.Changing.{rank-fell, rank-rose, old-rank, change-draws, goes-earlier, goes-later}
-use Rattle.list_words.proofs.change.Statement.{statement}
-use Rattle.list_words.proofs.change.Tie as tie
+use Rattle.list_changes.proofs.Groups.{group-before, group-behind}
+use Rattle.list_changes.proofs.Changing.{rank-fell, rank-rose, old-rank, change-draws, goes-earlier, goes-later}
+use Rattle.list_changes.proofs.change.Statement.{statement}
+use Rattle.list_changes.proofs.change.Tie as tie
 
 start-of-requires : tie.Need-start-of-requires
 start-of-requires c κs = search needs

@@ -17,9 +17,10 @@ use Rattle.model.proofs.list.GroupMoves.{draw-le}
 use Rattle.list_groups.specs.Words.{listedRank}
 use Rattle.list_groups.specs.Places.{IsGroup}
 use Rattle.list_groups.proofs.Searching.{place-there}
-use Rattle.list_words.specs.Updating.{replaced}
-use Rattle.list_words.proofs.Groups.{group-start, group-size}
-use Rattle.list_words.proofs.Moving.{earlier-front, later-front, swap-front, drawn-in}
+use Rattle.list_changes.specs.Replacing.{replaced}
+use Rattle.list_changes.proofs.Groups.{group-start, group-size}
+use Rattle.list_changes.proofs.Fronts.{earlier-front, later-front, swap-front}
+use Rattle.list_draws.proofs.Draws.{drawn-in}
 
 -- ---- v replaced by w, which is no word of the list
 module _ (v w : ℕ) (ws : List ℕ) (h : placeOf v ws < length ws) where

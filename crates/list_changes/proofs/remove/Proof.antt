@@ -6,9 +6,9 @@ use native.Mathlib.Omega.{arith}
 use lib.ListN.{take}
 use Rattle.model.specs.Lists.{placeOf}
 use Rattle.list_moves.specs.Moves.{pulled}
-use Rattle.list_words.proofs.Moving.{removed-pulled}
-use Rattle.list_words.proofs.remove.Statement.{statement}
-use Rattle.list_words.proofs.remove.Tie as tie
+use Rattle.list_changes.proofs.Adding.{removed-pulled}
+use Rattle.list_changes.proofs.remove.Statement.{statement}
+use Rattle.list_changes.proofs.remove.Tie as tie
 
 place-of-requires : tie.Need-place-of-requires
 place-of-requires c κs = c .before .before .pre
