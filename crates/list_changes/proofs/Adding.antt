@@ -9,7 +9,7 @@ use lib.Seq.{take-take}
 use Rattle.model.specs.Lists.{bit}
 use Rattle.model.specs.list.Order.{draw, placed, added, addDraws, removed, groupStart, groupSize}
 use Rattle.model.proofs.list.GroupMoves.{draw-le}
-use Rattle.list_groups.specs.Words.{listedRank}
+use Rattle.list_entries.specs.Words.{listedRank}
 use Rattle.list_groups.specs.Places.{IsGroup}
 use Rattle.list_moves.specs.Moves.{pushed, pulled}
 use Rattle.list_changes.proofs.Groups.{group-start, group-size}

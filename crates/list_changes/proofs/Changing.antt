@@ -14,9 +14,9 @@ use Rattle.model.specs.list.Order.{draw, earlier, later, swap, groupStart, grou
 use Rattle.model.proofs.base.Counts.{lt-bit, ge-bit, eq-bit, ne-bit, bit-le, count-set, place-only}
 use Rattle.model.proofs.list.GroupTurns.{length-earlier, length-later}
 use Rattle.model.proofs.list.GroupMoves.{draw-le}
-use Rattle.list_groups.specs.Words.{listedRank}
+use Rattle.list_entries.specs.Words.{listedRank}
 use Rattle.list_groups.specs.Places.{IsGroup}
-use Rattle.list_groups.proofs.Searching.{place-there}
+use Rattle.list_places.proofs.Seeking.{place-there}
 use Rattle.list_changes.specs.Replacing.{replaced}
 use Rattle.list_changes.proofs.Groups.{group-start, group-size}
 use Rattle.list_changes.proofs.Fronts.{earlier-front, later-front, swap-front}

@@ -3,11 +3,11 @@ use mathlib.Core.Path.{_≡_}
 use mathlib.Core.List.{List, _++_, append-assoc}
 use Prim.Native.Nat.{ℕ, suc, _≤_, _<_}
 use native.Mathlib.Omega.{arith}
-use lib.ListN.{length, getD, set, take, drop, length-set, List·getD-append}
-use lib.Seq.{slice, take-append-le, drop-append-le, set-append-left}
+use lib.ListN.{length, getD, set, length-set, List·getD-append}
+use lib.Seq.{take-append-le, drop-append-le, set-append-left}
 use Rattle.model.specs.Lists.{nth, setNth}
 use Rattle.model.specs.list.Order.{earlier, later, swap}
-use Rattle.list_groups.specs.Words.{listedRank}
+use Rattle.list_entries.specs.Words.{listedRank}
 
 module _ (ws rest : List ℕ) where
   -- forward

@@ -12,7 +12,7 @@ ghost use lib.Dec.{eqb};
 ghost use lib.ListN.{length, take, drop};
 ghost use Rattle.model.specs.Lists.{count, placeOf};
 ghost use Rattle.model.specs.list.Order.{added, addDraws, removed, changed, changeDraws};
-ghost use Rattle.list_groups.specs.Words.{listedRank};
+ghost use Rattle.list_entries.specs.Words.{listedRank};
 ghost use Rattle.list_groups.specs.Places.{Rises};
 ghost use Rattle.list_changes.specs.Replacing.{replaced};
 
@@ -42,7 +42,7 @@ pub fn remove(list: &mut [u64], n: usize, w: u64)
     ensures { λ _. ⌜ now (list .exit)
         ≡ removed listedRank (placeOf w (take n (now (list .entry)))) (take n (now (list .entry))) ++ drop (n - 1) (now (list .entry)) ⌝ }
 {
-    let k = list_groups::place_of(list, n, w);
+    let k = list_places::place_of(list, n, w);
     list_moves::pull(list, k, n - 1);
 }
 
@@ -61,8 +61,8 @@ pub fn change(list: &mut [u64], n: usize, v: u64, w: u64, draws: &[u32], used: u
         ++ drop n (now (list .entry)) ⌝ }
     ensures { λ r. ⌜ r ≡ used + changeDraws listedRank w (replaced v w (take n (now (list .entry)))) ⌝ }
 {
-    let low = list_groups::start_of(list, n, v);
-    let k = list_groups::place_from(list, low, n, v);
+    let low = list_places::start_of(list, n, v);
+    let k = list_places::place_from(list, low, n, v);
     if w < v {
         let g = list_groups::group_before(list, low, w);
         to_earlier(list, k, g.low, g.high, w, draws, used);

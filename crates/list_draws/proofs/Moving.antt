@@ -8,7 +8,7 @@ use lib.Seq.{slice, length-slice, length-take-le, set-at, drop-cons, take-set-le
 use Rattle.model.specs.Lists.{nth}
 use Rattle.model.specs.list.Order.{earlier, later, turnRight}
 use Rattle.model.proofs.list.GroupTurns.{stirred-right, length-keys}
-use Rattle.list_groups.specs.Words.{listedRank}
+use Rattle.list_entries.specs.Words.{listedRank}
 use Rattle.list_moves.specs.Moves.{pushed, pulled}
 
 -- w pushed in at `to`, over what stood at k

@@ -6,7 +6,7 @@ ghost use lib.Dec.{ltb};
 ghost use lib.ListN.{length, set};
 ghost use Rattle.model.specs.Lists.{bit};
 ghost use Rattle.model.specs.list.Order.{draw, swap, earlier, later};
-ghost use Rattle.list_groups.specs.Words.{listedRank};
+ghost use Rattle.list_entries.specs.Words.{listedRank};
 ghost use Rattle.list_groups.specs.Places.{Rises};
 
 // 1 where there is one, and 0 where there is none.

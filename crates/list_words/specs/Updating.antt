@@ -11,7 +11,7 @@ use lib.Dec.{eqb, ltb}
 use Rattle.model.specs.Lists.{bit, count, len}
 use Rattle.model.specs.list.Listed.{rising}
 use Rattle.model.specs.list.Order.{Draws, Rank, Ranks, updated, updateDraws}
-use Rattle.list_groups.specs.Words.{listedRank, listWord, piecesOf, RanksIn}
+use Rattle.list_entries.specs.Words.{listedRank, listWord, piecesOf, RanksIn}
 
 -- the ranks as they were: i had rank `old`
 unfoldable pub former : (r : Ranks) (old : Rank) (i : ℕ) → Ranks

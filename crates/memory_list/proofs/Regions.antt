@@ -24,7 +24,7 @@ use Rattle.memory_layout.proofs.Meanings.{listed-is}
 use Rattle.memory_layout.proofs.Parts.{pieces-same}
 use Rattle.memory_layout.proofs.BoundsLaws.{cells-kept-none, became-named, became-none, words-kept-none}
 use Rattle.memory_layout.proofs.stores.ListStores.{part-put-long, lent-long, lent-word, ListPut, list-became, list-ranks, list-put}
-use Rattle.list_groups.specs.Words.{listedPiece, piecesOf, RanksIn}
+use Rattle.list_entries.specs.Words.{listedPiece, piecesOf, RanksIn}
 use Rattle.list_words.proofs.Listing.{ranks-places}
 use Rattle.memory_fields.specs.Reading.{HeadSays, WordsSay}
 use Rattle.memory_list.specs.Listings.{RanksRight, ListBecame}

@@ -18,7 +18,7 @@ use Rattle.memory_layout.specs.declared.shape.Shape.{Shape}
 use Rattle.memory_layout.specs.Offsets.{pieceWordAt}
 use Rattle.memory_layout.specs.Decode.{headWord, yes?, decode}
 use Rattle.memory_layout.specs.Bounds.{Sizes}
-use Rattle.list_groups.specs.Words.{piecesOf, wordsOf, RanksIn}
+use Rattle.list_entries.specs.Words.{piecesOf, wordsOf, RanksIn}
 use Rattle.list_words.proofs.Writing.{words-pieces, words-ranks, length-words}
 use Rattle.list_sort.specs.Sorting.{rankIn, Ranked}
 use Rattle.list_rebuild.specs.Rebuilding.{rebuiltBelow, drawsBelow, IsRebuilt}

@@ -15,7 +15,7 @@ use Rattle.memory_records.specs.declared.record.DownloadingPiece.{DownloadingPi
 use Rattle.memory_layout.specs.declared.shape.Shape.{Shape}
 use Rattle.memory_layout.specs.Offsets.{pieceWordAt}
 use Rattle.memory_layout.specs.Decode.{headWord, yes?, listHeld, decode}
-use Rattle.list_groups.specs.Words.{listedPiece, piecesOf, RanksIn}
+use Rattle.list_entries.specs.Words.{listedPiece, piecesOf, RanksIn}
 use Rattle.list_words.specs.Updating.{former, Ready, IsUpdated, Updates}
 use Rattle.list_words.proofs.Natural.{pieces-map}
 use Rattle.list_words.proofs.Mending.{former-same}

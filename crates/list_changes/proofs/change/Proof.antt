@@ -5,7 +5,7 @@ use Prim.Native.Nat.{ℕ, _+_, _-_, _<_}
 use native.Mathlib.Omega.{arith}
 use lib.Dec.{ltb}
 use Rattle.model.proofs.base.Counts.{bit-le}
-use Rattle.list_groups.specs.Words.{listedRank}
+use Rattle.list_entries.specs.Words.{listedRank}
 use Rattle.list_changes.proofs.Groups.{group-before, group-behind}
 use Rattle.list_changes.proofs.Changing.{rank-fell, rank-rose, old-rank, change-draws, goes-earlier, goes-later}
 use Rattle.list_changes.proofs.change.Statement.{statement}

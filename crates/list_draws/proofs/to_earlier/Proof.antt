@@ -6,7 +6,7 @@ use Prim.Native.Nat.{ℕ, suc, _+_, _-_}
 use native.Mathlib.Omega.{arith}
 use lib.ListN.{set}
 use Rattle.model.specs.list.Order.{earlier, swap}
-use Rattle.list_groups.specs.Words.{listedRank}
+use Rattle.list_entries.specs.Words.{listedRank}
 use Rattle.list_draws.proofs.Moving.{earlier-pushed}
 use Rattle.list_draws.proofs.Draws.{drawn-in}
 use Rattle.list_draws.proofs.to_earlier.Statement.{statement}

@@ -7,7 +7,7 @@ use native.Mathlib.Omega.{arith}
 use lib.ListN.{set, length, length-set}
 use Rattle.model.specs.list.Order.{later, swap}
 use Rattle.model.proofs.list.GroupMoves.{draw-le}
-use Rattle.list_groups.specs.Words.{listedRank}
+use Rattle.list_entries.specs.Words.{listedRank}
 use Rattle.list_draws.proofs.Moving.{later-pulled}
 use Rattle.list_draws.proofs.to_later.Statement.{statement}
 use Rattle.list_draws.proofs.to_later.Tie as tie

@@ -1,8 +1,8 @@
 -- `top_of` meets its contract. Assumes nothing.
 use borrow.Author.Needs.{needs}
-use Rattle.list_groups.proofs.WordLaws.{top-is}
-use Rattle.list_groups.proofs.top_of.Statement.{statement}
-use Rattle.list_groups.proofs.top_of.Tie as tie
+use Rattle.list_entries.proofs.WordLaws.{top-is}
+use Rattle.list_entries.proofs.top_of.Statement.{statement}
+use Rattle.list_entries.proofs.top_of.Tie as tie
 
 sub-result : tie.Need-sub-result
 sub-result c = search needs

@@ -2,9 +2,9 @@
 use borrow.Author.Needs.{needs}
 use Prim.Native.Nat.{_-_}
 use native.Mathlib.Omega.{arith}
-use Rattle.list_groups.proofs.Searching.{Seeks, seeks-fours}
-use Rattle.list_groups.proofs.pass_fours.Statement.{statement}
-use Rattle.list_groups.proofs.pass_fours.Tie as tie
+use Rattle.list_places.proofs.Seeking.{Seeks, seeks-fours}
+use Rattle.list_places.proofs.pass_fours.Statement.{statement}
+use Rattle.list_places.proofs.pass_fours.Tie as tie
 
 abbrev Inv-loop : tie.InvT-loop
 Inv-loop list from end w k₀ k = Seeks w end list k

@@ -4,7 +4,7 @@ use Prim.Native.Nat.{ℕ, suc, _+_, _*_, _-_, _/_, _%_, _≤_, _<_}
 use mathlib.Core.Path.{_≡_}
 use native.Mathlib.Omega.{arith}
 use lib.Arith.{digits-div, digits-mod}
-use Rattle.list_groups.specs.Words.{listedPiece, listedRank, listWord, topOf}
+use Rattle.list_entries.specs.Words.{listedPiece, listedRank, listWord, topOf}
 
 module _ (rank i : ℕ) (h : i < 65536) where
   -- a word has the piece that was put into it

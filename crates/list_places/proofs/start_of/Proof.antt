@@ -1,10 +1,11 @@
 -- `start_of` meets its contract: the first word above the rank below. Assumes nothing.
 use borrow.Author.Needs.{needs}
 use native.Mathlib.Omega.{arith}
-use Rattle.list_groups.proofs.WordLaws.{top-below, top-least}
-use Rattle.list_groups.proofs.Searching.{rises-splits, seeks-start, start-rank}
-use Rattle.list_groups.proofs.start_of.Statement.{statement}
-use Rattle.list_groups.proofs.start_of.Tie as tie
+use Rattle.list_entries.proofs.WordLaws.{top-below, top-least}
+use Rattle.list_groups.proofs.Searching.{rises-splits}
+use Rattle.list_places.proofs.Seeking.{seeks-start, start-rank}
+use Rattle.list_places.proofs.start_of.Statement.{statement}
+use Rattle.list_places.proofs.start_of.Tie as tie
 
 top-of-requires : tie.Need-top-of-requires
 top-of-requires c κs = tt

@@ -1,9 +1,9 @@
 -- `list_word` meets its contract. Assumes nothing.
 use borrow.Author.Needs.{needs}
 use mathlib.Core.Path.{refl}
-use Rattle.list_groups.specs.Words.{listWord}
-use Rattle.list_groups.proofs.list_word.Statement.{statement}
-use Rattle.list_groups.proofs.list_word.Tie as tie
+use Rattle.list_entries.specs.Words.{listWord}
+use Rattle.list_entries.proofs.list_word.Statement.{statement}
+use Rattle.list_entries.proofs.list_word.Tie as tie
 
 mul-result : tie.Need-mul-result
 mul-result c = search needs

@@ -1,7 +1,7 @@
 -- `place_of` meets its contract: from the start of the word's group on. Assumes nothing.
 use borrow.Author.Needs.{needs}
-use Rattle.list_groups.proofs.place_of.Statement.{statement}
-use Rattle.list_groups.proofs.place_of.Tie as tie
+use Rattle.list_places.proofs.place_of.Statement.{statement}
+use Rattle.list_places.proofs.place_of.Tie as tie
 
 start-of-requires : tie.Need-start-of-requires
 start-of-requires c κs = c .before .pre

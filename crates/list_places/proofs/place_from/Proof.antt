@@ -2,9 +2,9 @@
 use borrow.Author.Needs.{needs}
 use Prim.Native.Nat.{_-_}
 use native.Mathlib.Omega.{arith}
-use Rattle.list_groups.proofs.Searching.{Seeks, seeks-next, seeks-found}
-use Rattle.list_groups.proofs.place_from.Statement.{statement}
-use Rattle.list_groups.proofs.place_from.Tie as tie
+use Rattle.list_places.proofs.Seeking.{Seeks, seeks-next, seeks-found}
+use Rattle.list_places.proofs.place_from.Statement.{statement}
+use Rattle.list_places.proofs.place_from.Tie as tie
 
 abbrev Inv-loop : tie.InvT-loop
 Inv-loop list from end w k₀ k = Seeks w end list k
