@@ -23,7 +23,7 @@ use Rattle.memory_layout.specs.Bounds.{ShapeOf}
 use Rattle.memory_layout.specs.Standing.{StandsBeside}
 use Rattle.memory_layout.proofs.Meanings.{pieces-number, peer-count-is, priority-is}
 use Rattle.memory_fields.specs.Reading.{HeadSays, CellsSay, WordsSay}
-use Rattle.memory_list.specs.Listings.{Ranges, IsRankAt}
+use Rattle.memory_ranks.specs.CellRanks.{Ranges, IsRankAt}
 use Rattle.ask_picker.specs.Telling.{BothSay}
 use Rattle.ask_picker.proofs.AskedLaws.{peers-few}
 use Rattle.ask_piece.specs.declared.stats.PieceStats.{PieceStats}

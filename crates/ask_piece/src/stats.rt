@@ -3,7 +3,7 @@ use memory_fields::flushed;
 use memory_fields::peer_count;
 use memory_fields::seeds;
 use memory_layout::Shape;
-use memory_list::rank_at;
+use memory_ranks::rank_at;
 use types::u16_to_u64;
 ghost use mathlib.Core.Path.{_≡_};
 ghost use Prim.Native.Nat.{_-_, _<_};

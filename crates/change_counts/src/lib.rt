@@ -2,8 +2,8 @@
 use change_seeds::break_one_seed;
 use memory_fields::peer_count;
 use memory_layout::Shape;
-use memory_list::rank_at;
-use memory_list::update;
+use memory_ranks::rank_at;
+use memory_update::update;
 ghost use Prim.Native.Nat.{_+_, _≤_, _<_};
 ghost use lib.ListN.{length};
 ghost use Rattle.model.specs.State.{maxPeers, withPiece, withPeerCount};

@@ -17,7 +17,8 @@ use Rattle.memory_layout.specs.Decode.{decode, queueFrom}
 use Rattle.memory_layout.specs.Stores.{CellsBecame}
 use Rattle.memory_fields.specs.Reading.{CellsSay}
 use Rattle.memory_fields.specs.Storing.{DirtyMarked}
-use Rattle.memory_list.specs.Listings.{IsRankAt, ListBecame}
+use Rattle.memory_ranks.specs.CellRanks.{IsRankAt}
+use Rattle.memory_list.specs.Listings.{ListBecame}
 use Rattle.change_steps.specs.Working.{Works, Goes}
 use Rattle.change_steps.proofs.WorkLaws.{went-nowhere, went-named}
 use Rattle.change_steps.proofs.MendLaws.{given-up}

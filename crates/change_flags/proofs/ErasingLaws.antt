@@ -17,7 +17,8 @@ use Rattle.memory_layout.specs.Stores.{CellsBecame}
 use Rattle.memory_layout.proofs.Numbers.{number-queue}
 use Rattle.memory_partials.specs.Partials.{Closed}
 use Rattle.memory_partials.proofs.RisingLaws.{live-some}
-use Rattle.memory_list.specs.Listings.{ListBounds, ListBefore, IsRankAt, ListBecame}
+use Rattle.memory_ranks.specs.CellRanks.{IsRankAt}
+use Rattle.memory_list.specs.Listings.{ListBounds, ListBefore, ListBecame}
 use Rattle.change_steps.proofs.MendLaws.{mend-bounds, mend-before, mended}
 use Rattle.change_state.proofs.MoveLaws.{state-stored}
 use Rattle.change_flags.specs.Closing.{HasPartial, PartialBeside, without, Erased, ErasedAndUpdated}

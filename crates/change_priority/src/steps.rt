@@ -2,8 +2,8 @@
 use change_cursors::cursors_on_filter;
 use memory_fields::flushed;
 use memory_layout::Shape;
-use memory_list::rank_at;
-use memory_list::update;
+use memory_ranks::rank_at;
+use memory_update::update;
 ghost use mathlib.Core.Path.{_≡_};
 ghost use mathlib.Core.Bool.{not};
 ghost use Prim.Native.Nat.{_≤_, _<_};

@@ -15,7 +15,8 @@ use Rattle.memory_layout.specs.declared.shape.Shape.{Shape}
 use Rattle.memory_layout.specs.Decode.{decode, queueFrom}
 use Rattle.memory_layout.specs.Stores.{CellsBecame}
 use Rattle.memory_layout.proofs.Numbers.{number-queue}
-use Rattle.memory_list.specs.Listings.{ListBounds, ListBefore, IsRankAt, ListBecame}
+use Rattle.memory_ranks.specs.CellRanks.{IsRankAt}
+use Rattle.memory_list.specs.Listings.{ListBounds, ListBefore, ListBecame}
 use Rattle.memory_list.proofs.Moving.{PieceInRange, range-state}
 use Rattle.change_steps.specs.Working.{Works, WorksBeside, Goes, Stored}
 use Rattle.change_steps.proofs.FieldLaws.{works-range, works-piece, field-stored}

@@ -10,7 +10,7 @@ use Rattle.memory_layout.specs.Stores.{CellsBecame}
 use Rattle.memory_layout.proofs.Meanings.{pieces-number, peer-count-is, priority-is}
 use Rattle.memory_layout.proofs.BoundsLaws.{words-kept-none}
 use Rattle.memory_layout.proofs.stores.ListFrames.{list-kept-none}
-use Rattle.memory_list.specs.Listings.{Ranges}
+use Rattle.memory_ranks.specs.CellRanks.{Ranges}
 use Rattle.memory_list.proofs.Moving.{PieceInRange, InRange, range-piece, ranges-held}
 use Rattle.change_steps.specs.Working.{Works, Stored}
 

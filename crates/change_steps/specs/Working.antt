@@ -11,7 +11,8 @@ use Rattle.memory_layout.specs.declared.shape.Shape.{Shape}
 use Rattle.memory_layout.specs.Decode.{decode}
 use Rattle.memory_layout.specs.Bounds.{InBounds, Plain}
 use Rattle.memory_layout.specs.Stores.{WordsKept, CellsKept, ListKept}
-use Rattle.memory_list.specs.Listings.{Ranges, RanksRight}
+use Rattle.memory_ranks.specs.CellRanks.{Ranges}
+use Rattle.memory_list.specs.Listings.{RanksRight}
 
 -- in bounds and plain, peer counts and priorities in range; the list dirty or right, and beside each of its pieces the piece's rank
 pub record Works (s : Shape) (records : List Record) (words cells : List ℕ) : Type 0 where

@@ -16,7 +16,7 @@ use Rattle.model.specs.list.Order.{rank, withBucket}
 use Rattle.model.specs.image.WellFormed.{placeOk, orderOk, listingOk}
 use Rattle.model.proofs.base.Counts.{lt-bit, ge-bit, length-filter}
 use Rattle.model.proofs.base.Truths.{both-true}
-use Rattle.list_groups.specs.Words.{listedPiece, listedRank}
+use Rattle.list_entries.specs.Words.{listedPiece, listedRank}
 use Rattle.memory_records.specs.declared.record.DownloadingPiece.{DownloadingPiece as Record}
 use Rattle.memory_layout.specs.declared.shape.Shape.{Shape}
 use Rattle.memory_layout.specs.Tables.{tabulate}

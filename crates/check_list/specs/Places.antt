@@ -8,7 +8,7 @@ use mathlib.Core.List.{List}
 use lib.ListN.{length, getD, set}
 use lib.Dec.{eqb, ltb, leb}
 use Rattle.model.specs.Lists.{count, from}
-use Rattle.list_groups.specs.Words.{listedPiece, listedRank}
+use Rattle.list_entries.specs.Words.{listedPiece, listedRank}
 
 -- how many of the first n ranks are not 0
 unfoldable pub rankedIn : (ranks : List ℕ) (n : ℕ) → ℕ

@@ -17,7 +17,7 @@ use Rattle.model.specs.State.{piecesIn, validGeometry}
 use Rattle.model.specs.list.Order.{rank}
 use Rattle.model.specs.image.WellFormed.{headOk, piecesOk, partialsOk, extentsOk, listingOk, wellFormed}
 use Rattle.model.proofs.base.Truths.{both-true, and-left, and-right, true-both, not-both}
-use Rattle.list_groups.specs.Words.{listedPiece, listedRank}
+use Rattle.list_entries.specs.Words.{listedPiece, listedRank}
 use Rattle.memory_records.specs.declared.record.DownloadingPiece.{DownloadingPiece as Record}
 use Rattle.memory_records.specs.Rows.{liveRecords, recordsIn}
 use Rattle.memory_records.proofs.laws.RowLaws.{length-records}

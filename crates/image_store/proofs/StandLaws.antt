@@ -17,8 +17,8 @@ use Rattle.model.specs.image.WellFormed.{wellFormed}
 use Rattle.model.specs.image.Image.{got, field, pieceOf, getExtents, accepted, readImage}
 use Rattle.model.proofs.image.Codec.{got-value, got-rest}
 use Rattle.model.proofs.image.ImageLaws.{accepted-image}
-use Rattle.list_groups.specs.Words.{listedPiece, listedRank}
-use Rattle.list_groups.proofs.WordLaws.{piece-of-word, rank-of-word}
+use Rattle.list_entries.specs.Words.{listedPiece, listedRank}
+use Rattle.list_entries.proofs.WordLaws.{piece-of-word, rank-of-word}
 use Rattle.memory_records.specs.declared.record.DownloadingPiece.{DownloadingPiece as Record}
 use Rattle.memory_records.specs.Rows.{rowAt}
 use Rattle.memory_layout.specs.declared.shape.Shape.{Shape}

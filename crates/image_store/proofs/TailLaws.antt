@@ -10,7 +10,7 @@ use lib.Seq.{getD-set-same, getD-set-other}
 use Rattle.model.specs.Lists.{nth}
 use Rattle.model.specs.State.{maxExtents}
 use Rattle.model.specs.image.Image.{bodyLength, extentKind, startsWith, field}
-use Rattle.list_groups.specs.Words.{listWord}
+use Rattle.list_entries.specs.Words.{listWord}
 use Rattle.memory_layout.specs.Offsets.{cell, pieceWordAt}
 use Rattle.memory_layout.specs.Decode.{headWord, pieceWord}
 use Rattle.image_bytes.specs.Put.{FieldRead}

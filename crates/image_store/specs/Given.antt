@@ -7,7 +7,7 @@ use lib.ListN.{length, getD, drop}
 use Rattle.model.specs.State.{DownloadingPiece, Picker, maxPeers, maxPriority, maxExtents}
 use Rattle.model.specs.list.Order.{bucket, rankOf}
 use Rattle.model.specs.image.Image.{extentKind, got, startsWith, field, lastQueue, getPartials, accepted, readImage}
-use Rattle.list_groups.specs.Words.{listWord}
+use Rattle.list_entries.specs.Words.{listWord}
 use Rattle.image_pieces.specs.declared.head.Head.{Head}
 use Rattle.image_pieces.specs.Heads.{headPicker}
 use Rattle.image_pieces.specs.Pieces.{piecePlace, pieceBody, pieceIn, firstPieces}

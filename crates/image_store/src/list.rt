@@ -1,6 +1,6 @@
 // The places of the list: each a word of the piece and its rank.
 use image_bytes::read4;
-use list_groups::list_word;
+use list_entries::list_word;
 use types::u64_to_usize;
 ghost use Prim.Native.Nat.{_+_, _*_, _≤_, _<_};
 ghost use lib.ListN.{length};

@@ -12,7 +12,7 @@ use Rattle.model.specs.image.WellFormed.{wellFormed}
 use Rattle.model.specs.image.Image.{headRecord, pieceRecord, partialRecords, numberRecord, extentKind, placeKind, bytesOf, image}
 use Rattle.model.specs.image.Image.{readImage}
 use Rattle.model.proofs.image.ImageLaws.{image-accepted}
-use Rattle.list_groups.specs.Words.{listedPiece}
+use Rattle.list_entries.specs.Words.{listedPiece}
 use Rattle.memory_records.specs.Rows.{recordsIn}
 use Rattle.memory_layout.specs.declared.shape.Shape.{Shape}
 use Rattle.memory_layout.specs.Decode.{headWord, pieceWord, pieceHeld, piecesHeld, partialsHeld, extentsHeld, listHeld}

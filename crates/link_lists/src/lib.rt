@@ -40,7 +40,7 @@ pub extern "C" fn ls_rank(words: &[u64], cells: &[u16], g: Geometry, i: usize) -
     requires { ⌜ i < g .pieces ⌝ }
     ensures { λ r. ⌜ RankOf (now (words .entry)) (now (cells .entry)) i r ⌝ }
 {
-    memory_list::rank_at(words, cells, shape(g), i)
+    memory_ranks::rank_at(words, cells, shape(g), i)
 }
 
 // The list mended after piece i came from rank `old` to the one it has. Answers how many draws were used.
@@ -60,7 +60,7 @@ pub extern "C" fn ls_update(
         (now (words .entry)) (now (words .exit)) (now (cells .entry)) 0 r ⌝ }
 {
     let s = shape(g);
-    memory_list::update(words, cells, s, i, old, draws, 0)
+    memory_update::update(words, cells, s, i, old, draws, 0)
 }
 
 // The list rebuilt where it is dirty. Answers how many draws were used.
@@ -77,7 +77,7 @@ pub extern "C" fn ls_update_pieces(
         (now (words .entry)) (now (words .exit)) (now (cells .entry)) 0 r ⌝ }
 {
     let s = shape(g);
-    memory_list::update_pieces(words, cells, s, draws, 0)
+    memory_rebuild::update_pieces(words, cells, s, draws, 0)
 }
 
 // Place k of queue q among the partials; 512 where the queue has none. The first `live` rows are the live records.

@@ -1,27 +1,12 @@
-// The words of the bucket list, and their groups: where one starts and ends, and where a word stands.
-// A word is rank · 65,536 + piece, and ranks never fall along the list. A group's end is found by wider and wider steps, then by
-// halving; words are compared with the highest word of a rank, and nothing is divided.
+// The groups of the bucket list: where one starts and ends. Ranks never fall along the list of words.
+// A group's end is found by wider and wider steps, then by halving; words are compared with the highest word of a rank, which
+// `list_entries` gives, and nothing is divided.
+use list_entries::top_of;
 ghost use mathlib.Core.Path.{_≡_};
 ghost use Prim.Native.Nat.{_≤_, _<_};
-ghost use lib.ListN.{length, getD, take};
-ghost use Rattle.model.specs.Lists.{placeOf};
-ghost use Rattle.list_groups.specs.Words.{listWord, listedRank, topOf};
+ghost use lib.ListN.{length};
+ghost use Rattle.list_entries.specs.Words.{listedRank};
 ghost use Rattle.list_groups.specs.Places.{Rises, Splits, Parted, IsGroup};
-
-// The word of piece i with its rank.
-pub fn list_word(rank: u16, i: u64) -> u64
-    requires { ⌜ i < 65536 ⌝ }
-    ensures { λ r. ⌜ r ≡ listWord rank i ⌝ }
-{
-    (rank as u64) * 65536 + i
-}
-
-// The highest word of w's rank.
-pub fn top_of(w: u64) -> u64
-    ensures { λ r. ⌜ r ≡ topOf (listedRank w) ⌝ }
-{
-    w - w % 65536 + 65535
-}
 
 // Places that a search has come to: words up to the one sought stand before `low`, higher ones from `high` on.
 pub struct Span {
@@ -143,59 +128,4 @@ pub fn group_ahead(list: &[u64], from: usize, end: usize, w: u64) -> Span
     let low = group_end(list, from, end, 1, top - 65536);
     let high = group_end(list, low, end, 64, top);
     Span { low, high }
-}
-
-// A place from `from` on before which w does not stand: four words are looked at in a turn.
-fn pass_fours(list: &[u64], from: usize, end: usize, w: u64) -> usize
-    requires { ⌜ end ≤ length (now list) ⌝ }
-    requires { ⌜ from ≤ placeOf w (take end (now list)) ⌝ }
-    requires { ⌜ placeOf w (take end (now list)) < end ⌝ }
-    ensures { λ r. ⌜ r ≤ placeOf w (take end (now (list .entry))) ⌝ }
-{
-    let mut k = from;
-    while 4 <= end - k {
-        if (list[k] == w) | (list[k + 1] == w) | (list[k + 2] == w) | (list[k + 3] == w) {
-            return k;
-        }
-        k += 4;
-    }
-    k
-}
-
-// The start of the group of w, a word that is among the first.
-pub fn start_of(list: &[u64], end: usize, w: u64) -> usize
-    requires { ⌜ end ≤ length (now list) ⌝ }
-    requires { ⌜ Rises 0 end (now list) ⌝ }
-    requires { ⌜ 0 < listedRank w ⌝ }
-    requires { ⌜ placeOf w (take end (now list)) < end ⌝ }
-    ensures { λ r. ⌜ (r ≤ placeOf w (take end (now (list .entry)))) × (listedRank w ≤ listedRank (getD (now (list .entry)) r 0)) ⌝ }
-{
-    let top = top_of(w);
-    halve(list, 0, end, top - 65536)
-}
-
-// Where the word w stands, which is among the first and not before `from`.
-pub fn place_from(list: &[u64], from: usize, end: usize, w: u64) -> usize
-    requires { ⌜ end ≤ length (now list) ⌝ }
-    requires { ⌜ from ≤ placeOf w (take end (now list)) ⌝ }
-    requires { ⌜ placeOf w (take end (now list)) < end ⌝ }
-    ensures { λ r. ⌜ r ≡ placeOf w (take end (now (list .entry))) ⌝ }
-{
-    let mut k = pass_fours(list, from, end, w);
-    while list[k] != w {
-        k += 1;
-    }
-    k
-}
-
-// Where the word w stands, which is among the first. Its group is scanned.
-pub fn place_of(list: &[u64], end: usize, w: u64) -> usize
-    requires { ⌜ end ≤ length (now list) ⌝ }
-    requires { ⌜ Rises 0 end (now list) ⌝ }
-    requires { ⌜ 0 < listedRank w ⌝ }
-    requires { ⌜ placeOf w (take end (now list)) < end ⌝ }
-    ensures { λ r. ⌜ r ≡ placeOf w (take end (now (list .entry))) ⌝ }
-{
-    let low = start_of(list, end, w);
-    place_from(list, low, end, w)
 }

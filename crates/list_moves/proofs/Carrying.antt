@@ -8,10 +8,10 @@ use lib.ListN.{length, getD, set, take, length-set}
 use lib.Seq.{slice-cons, slice-empty, take-suc, take-suc-set, take-set-lt, drop-set-lt, append-snoc, set-split, getD-set-other}
 use borrow.Author.Tests.{eq-eqb, ne-eqb}
 use Rattle.model.specs.list.Order.{carry, turnLeft}
-use Rattle.list_groups.specs.Words.{listedRank, topOf}
+use Rattle.list_entries.specs.Words.{listedRank, topOf}
 use Rattle.list_groups.specs.Places.{Rises, Parted}
 use Rattle.list_moves.specs.Moves.{NoLower, carried, pushed}
-use Rattle.list_groups.proofs.WordLaws.{under-top, over-top}
+use Rattle.list_entries.proofs.WordLaws.{under-top, over-top}
 use Rattle.list_groups.proofs.Searching.{rises-splits, rises-within, parted-all}
 
 -- ---- ranks after a store

@@ -12,10 +12,10 @@ use lib.Seq.{getD-take, getD-drop}
 use borrow.Author.Tests.{eq-eqb, ne-eqb}
 use Rattle.model.specs.list.Order.{bring, turnRight}
 use Rattle.model.proofs.list.GroupTurns.{stirred-right, length-keys}
-use Rattle.list_groups.specs.Words.{listedRank, topOf}
+use Rattle.list_entries.specs.Words.{listedRank, topOf}
 use Rattle.list_groups.specs.Places.{Rises, Parted}
 use Rattle.list_moves.specs.Moves.{pulled}
-use Rattle.list_groups.proofs.WordLaws.{under-top, over-top}
+use Rattle.list_entries.proofs.WordLaws.{under-top, over-top}
 use Rattle.list_groups.proofs.Searching.{rises-splits, rises-within, parted-all}
 use Rattle.list_moves.proofs.Carrying.{rises-set}
 

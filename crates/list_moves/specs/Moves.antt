@@ -5,7 +5,7 @@ use mathlib.Core.List.{List, _∷_, _++_}
 use lib.ListN.{getD, take, drop}
 use lib.Seq.{slice}
 use Rattle.model.specs.list.Order.{carry, turnLeft, turnRight}
-use Rattle.list_groups.specs.Words.{listedRank}
+use Rattle.list_entries.specs.Words.{listedRank}
 
 -- none is of a lower rank than the held word
 abbrev pub NoLower : (held from end : ℕ) (l : List ℕ) → Type 0

@@ -1,7 +1,7 @@
 // Groups of a list of words turned by one place: a word comes in or goes out, and one word of each group on the way moves.
 // Ranks never fall along the list.
+use list_entries::top_of;
 use list_groups::group_end;
-use list_groups::top_of;
 ghost use mathlib.Core.Path.{_≡_};
 ghost use Prim.Native.Nat.{suc, _≤_, _<_};
 ghost use lib.ListN.{length};

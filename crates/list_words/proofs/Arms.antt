@@ -18,11 +18,12 @@ use Rattle.model.proofs.list.GroupTurns.{count-removed, length-placed, length-r
 use Rattle.model.proofs.list.GroupRise.{Rising, rising-is}
 use Rattle.model.proofs.list.GroupMoves.{count-added, changed-kept}
 use Rattle.model.proofs.list.ListedMoves.{keys-same}
-use Rattle.list_groups.specs.Words.{listedPiece, listedRank, listWord, piecesOf, RanksIn}
+use Rattle.list_entries.specs.Words.{listedPiece, listedRank, listWord, piecesOf, RanksIn}
 use Rattle.list_groups.specs.Places.{Rises}
-use Rattle.list_groups.proofs.WordLaws.{piece-of-word, rank-of-word}
-use Rattle.list_words.specs.Updating.{former, replaced, Ready, IsUpdated, Updates}
-use Rattle.list_words.proofs.Changing.{old-there, new-there, new-place, length-replaced}
+use Rattle.list_entries.proofs.WordLaws.{piece-of-word, rank-of-word}
+use Rattle.list_words.specs.Updating.{former, Ready, IsUpdated, Updates}
+use Rattle.list_changes.specs.Replacing.{replaced}
+use Rattle.list_changes.proofs.Changing.{old-there, new-there, new-place, length-replaced}
 use Rattle.list_words.proofs.Natural.{Same, ranks-same, same-count, count-same, wrong, pieces-map, pieces-at, map-set}
 use Rattle.list_words.proofs.Natural.{removed-pieces, added-pieces, addDraws-pieces, changed-pieces, changeDraws-pieces}
 use Rattle.list_words.proofs.Mending.{rises-of, former-same, former-other, former-keys, arm}

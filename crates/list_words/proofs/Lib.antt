@@ -1,6 +1,3 @@
-pub mod Groups
-pub mod Moving
-pub mod Changing
 pub mod Natural
 pub mod Mending
 pub mod Arms

@@ -18,8 +18,8 @@ use Rattle.model.proofs.list.GroupTurns.{length-placed}
 use Rattle.model.proofs.list.GroupRise.{rising-is}
 use Rattle.model.proofs.list.ListedMoves.{keys-same, updated-keeps}
 use Rattle.model.proofs.list.ListedLaws.{listed-length-le}
-use Rattle.list_groups.specs.Words.{listedPiece, listedRank, listWord, piecesOf, RanksIn}
-use Rattle.list_groups.proofs.WordLaws.{piece-of-word, word-of-both}
+use Rattle.list_entries.specs.Words.{listedPiece, listedRank, listWord, piecesOf, RanksIn}
+use Rattle.list_entries.proofs.WordLaws.{piece-of-word, word-of-both}
 use Rattle.list_words.specs.Updating.{former, Ready}
 use Rattle.list_words.proofs.Natural.{Same, ranks-same, same-ranks, pieces-map}
 use Rattle.list_words.proofs.Mending.{former-same, former-other}

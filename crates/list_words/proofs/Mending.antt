@@ -17,7 +17,7 @@ use Rattle.model.specs.list.Order.{updated, updateDraws}
 use Rattle.model.proofs.base.Counts.{eq-bit, ne-bit, stands}
 use Rattle.model.proofs.list.GroupRise.{Rising, rising-is}
 use Rattle.model.proofs.list.ListedMoves.{keys-same}
-use Rattle.list_groups.specs.Words.{listedPiece, listedRank, piecesOf}
+use Rattle.list_entries.specs.Words.{listedPiece, listedRank, piecesOf}
 use Rattle.list_groups.specs.Places.{Rises}
 use Rattle.list_words.specs.Updating.{former, IsUpdated}
 use Rattle.list_words.proofs.Natural.{Same, same-ranks, pieces-map}

@@ -18,7 +18,7 @@ use Rattle.model.specs.list.Order.{groupStart, groupSize, groupLast, groupDrawn
 use Rattle.model.proofs.list.GroupTurns.{each-map, map-append, map-take, map-drop, stirred-right}
 use Rattle.model.proofs.list.GroupMoves.{start-below, size-equal}
 use Rattle.model.proofs.list.GroupRise.{below, equal}
-use Rattle.list_groups.specs.Words.{listedPiece, listedRank, piecesOf, ranksOf, RanksIn}
+use Rattle.list_entries.specs.Words.{listedPiece, listedRank, piecesOf, ranksOf, RanksIn}
 
 -- ---- words and their pieces
 -- the pieces, by the library's name

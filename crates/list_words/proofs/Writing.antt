@@ -6,8 +6,8 @@ use native.Mathlib.Omega.{arith}
 use lib.ListN.{length, getD, length-map}
 use Rattle.model.specs.Lists.{each}
 use Rattle.model.proofs.list.GroupTurns.{each-map}
-use Rattle.list_groups.specs.Words.{listWord, piecesOf, ranksOf, wordsOf, RanksIn}
-use Rattle.list_groups.proofs.WordLaws.{piece-of-word, rank-of-word}
+use Rattle.list_entries.specs.Words.{listWord, piecesOf, ranksOf, wordsOf, RanksIn}
+use Rattle.list_entries.proofs.WordLaws.{piece-of-word, rank-of-word}
 
 module _ (r : ℕ → ℕ) where
   -- they have the pieces

@@ -8,18 +8,14 @@ use mathlib.Core.Bool.{true, cond}
 use mathlib.Core.List.{List}
 use lib.ListN.{take, drop}
 use lib.Dec.{eqb, ltb}
-use Rattle.model.specs.Lists.{bit, count, len, placeOf, setNth}
+use Rattle.model.specs.Lists.{bit, count, len}
 use Rattle.model.specs.list.Listed.{rising}
 use Rattle.model.specs.list.Order.{Draws, Rank, Ranks, updated, updateDraws}
-use Rattle.list_groups.specs.Words.{listedRank, listWord, piecesOf, RanksIn}
+use Rattle.list_entries.specs.Words.{listedRank, listWord, piecesOf, RanksIn}
 
 -- the ranks as they were: i had rank `old`
 unfoldable pub former : (r : Ranks) (old : Rank) (i : ℕ) → Ranks
 former r old i other = cond (eqb other i) old (r other)
-
--- the words with w in the place of v
-unfoldable pub replaced : (v w : ℕ) (ws : List ℕ) → List ℕ
-replaced v w ws = setNth (placeOf v ws) w ws
 
 -- ranks never fall; and i stands in the list once, with its old rank, if it had one, and not if it had none
 pub record Ready (old : Rank) (i : ℕ) (ws : List ℕ) : Type 0 where

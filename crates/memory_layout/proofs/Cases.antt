@@ -11,7 +11,7 @@ use Rattle.types.specs.declared.block.BlockState.the-variants.{Requested}
 use Rattle.model.specs.Lists.{least, nth}
 use Rattle.model.specs.Bep3.{partsOf, partLength, numPieces, pieceLength, blockLength, blockCount, wholePieceBlocks, pieceBlocks, bitOf}
 use Rattle.model.specs.State.{Picker, fresh, validGeometry}
-use Rattle.list_groups.specs.Words.{listedPiece}
+use Rattle.list_entries.specs.Words.{listedPiece}
 use Rattle.memory_records.specs.declared.record.DownloadingPiece.{DownloadingPiece as Record}
 use Rattle.memory_layout.specs.declared.shape.Shape.{Shape}
 use Rattle.memory_layout.specs.Tables.{tabulate}

@@ -9,7 +9,7 @@ use Rattle.model.specs.State.{Piece, Block, DownloadingPiece, Picker, dirty, fr
 use Rattle.model.specs.State.{blocksInPiece}
 use Rattle.model.specs.pick.Pick.{noPartial}
 use Rattle.model.specs.change.Partials.{blockAt}
-use Rattle.list_groups.specs.Words.{listedPiece}
+use Rattle.list_entries.specs.Words.{listedPiece}
 use Rattle.memory_records.specs.declared.record.DownloadingPiece.{DownloadingPiece as Record}
 use Rattle.memory_layout.specs.declared.shape.Shape.{Shape}
 use Rattle.memory_layout.specs.Tables.{tabulate}

@@ -7,7 +7,7 @@ use Prim.Native.Nat.{ℕ, _+_, _<_}
 use native.Mathlib.Omega.{arith}
 use Rattle.model.specs.Bep3.{pieceBlocks}
 use Rattle.model.specs.State.{dirty, fresh}
-use Rattle.list_groups.specs.Words.{listedPiece}
+use Rattle.list_entries.specs.Words.{listedPiece}
 use Rattle.memory_records.specs.declared.record.DownloadingPiece.{DownloadingPiece as Record}
 use Rattle.memory_layout.specs.Tables.{tabulate}
 use Rattle.memory_layout.specs.Decode.{headWord, pieceWord, peerWord, pieceCell, blockCell, recordAt, blocksOf, queueFrom, yes?}

@@ -16,7 +16,7 @@ use Rattle.types.specs.Block.{blockStates}
 use Rattle.model.specs.Lists.{nth}
 use Rattle.model.specs.Bep3.{numPieces, wholePieceBlocks, pieceBlocks, bitOf}
 use Rattle.model.specs.State.{Piece, Block, DownloadingPiece, Listing, dirty, fresh, Picker}
-use Rattle.list_groups.specs.Words.{listedPiece}
+use Rattle.list_entries.specs.Words.{listedPiece}
 use Rattle.memory_records.specs.declared.record.DownloadingPiece.{DownloadingPiece as Record}
 use Rattle.memory_records.specs.Records.{noRecord}
 use Rattle.memory_layout.specs.Tables.{tabulate}

@@ -13,7 +13,7 @@ use Rattle.model.specs.State.{maxExtents, validGeometry}
 use Rattle.model.specs.list.Order.{rank}
 use Rattle.model.specs.Memory.{Memory, memoryFor, isShort}
 use Rattle.model.specs.image.WellFormed.{headOk, piecesOk, partialsOk, extentsOk, listingOk}
-use Rattle.list_groups.specs.Words.{listedPiece, listedRank}
+use Rattle.list_entries.specs.Words.{listedPiece, listedRank}
 use Rattle.memory_records.specs.declared.record.DownloadingPiece.{DownloadingPiece as Record}
 use Rattle.memory_layout.specs.Tables.{tabulate}
 use Rattle.memory_layout.specs.Offsets.{placesFor, headLength}

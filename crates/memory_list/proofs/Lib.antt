@@ -1,5 +1,2 @@
-pub mod Ranking
 pub mod Regions
-pub mod Updates
-pub mod Rebuilds
 pub mod Moving

@@ -33,7 +33,8 @@ use Rattle.memory_layout.proofs.BoundsLaws.{became-again, became-named}
 use Rattle.memory_layout.proofs.stores.ListFrames.{ranks-kept, list-kept-none}
 use Rattle.list_words.specs.Updating.{former}
 use Rattle.list_words.proofs.Mending.{former-same, former-other}
-use Rattle.memory_list.specs.Listings.{Ranges, ListBounds, RanksRight, ListBefore, ListBecame}
+use Rattle.memory_ranks.specs.CellRanks.{Ranges}
+use Rattle.memory_list.specs.Listings.{ListBounds, RanksRight, ListBefore, ListBecame}
 
 -- ---- peer counts and priorities in range
 -- those of a piece

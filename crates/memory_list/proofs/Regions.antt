@@ -9,22 +9,22 @@ use lib.Seq.{getD-take, length-take-le}
 use borrow.Rule.Slice.PartMut.{putMid, midOf}
 use Rattle.model.specs.Lists.{nth}
 use Rattle.model.specs.Bep3.{numPieces}
-use Rattle.model.specs.State.{dirty, fresh, isDirty, listOf, withListing}
+use Rattle.model.specs.State.{dirty, fresh, isDirty, listOf, piecesIn, withListing}
 use Rattle.model.specs.list.Order.{rank, Drawing, drawing}
 use Rattle.model.proofs.list.RankLaws.{rank-same}
 use Rattle.memory_records.specs.declared.record.DownloadingPiece.{DownloadingPiece as Record}
 use Rattle.memory_layout.specs.declared.shape.Shape.{Shape}
 use Rattle.memory_layout.specs.Tables.{front}
 use Rattle.memory_layout.specs.Offsets.{cell, pieceWordAt}
-use Rattle.memory_layout.specs.Decode.{headWord, pieceWord, piecesOn, yes?, piecesHeld, listHeld, listingHeld, decode}
+use Rattle.memory_layout.specs.Decode.{headWord, pieceWord, piecesOn, yes?, pieceHeld, piecesHeld, listHeld, listingHeld, decode}
 use Rattle.memory_layout.specs.Bounds.{Sizes, WordsSpan, RanksHeld}
-use Rattle.memory_layout.proofs.TableLaws.{tabulate-each}
+use Rattle.memory_layout.proofs.TableLaws.{tabulate-len, tabulate-each}
 use Rattle.memory_layout.proofs.OffsetLaws.{words-from, head-in}
 use Rattle.memory_layout.proofs.Meanings.{listed-is}
 use Rattle.memory_layout.proofs.Parts.{pieces-same}
 use Rattle.memory_layout.proofs.BoundsLaws.{cells-kept-none, became-named, became-none, words-kept-none}
 use Rattle.memory_layout.proofs.stores.ListStores.{part-put-long, lent-long, lent-word, ListPut, list-became, list-ranks, list-put}
-use Rattle.list_groups.specs.Words.{listedPiece, piecesOf, RanksIn}
+use Rattle.list_entries.specs.Words.{listedPiece, piecesOf, RanksIn}
 use Rattle.list_words.proofs.Listing.{ranks-places}
 use Rattle.memory_fields.specs.Reading.{HeadSays, WordsSay}
 use Rattle.memory_list.specs.Listings.{RanksRight, ListBecame}
@@ -127,6 +127,12 @@ pub list-clean : (s : Shape) (records : List Record) (words cells : List ℕ) �
     → decode records words cells .listing ≡ fresh (listHeld words (s .pieces))
 unfolding listingHeld
 list-clean s records words cells e clean = ap₂ (λ (t : Bool) (n : ℕ). cond t dirty (fresh (listHeld words n))) clean (sym e)
+
+-- as many pieces as the shape has
+pub pieces-many : (s : Shape) (records : List Record) (words cells : List ℕ) → s .pieces ≡ piecesOn words
+    → piecesIn (decode records words cells) ≡ s .pieces
+unfolding piecesIn piecesHeld
+pieces-many s records words cells e = tabulate-len (piecesOn words) (pieceHeld words cells (piecesOn words)) ∙ sym e
 
 -- ---- a step of the picker and its draws that leaves all but the list
 module _ (s : Shape) (step : Drawing → Drawing) (words cells : List ℕ) (used : ℕ) where

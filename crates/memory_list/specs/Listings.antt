@@ -1,27 +1,21 @@
--- What the list's functions ask of words and cells, and what they leave. The list and the ranks do not depend on the records: what is
--- said of a picker is said whatever records stand beside. Assumes nothing.
-use Prim.Native.Nat.{ℕ, _≤_, _<_}
+-- What the list's functions ask of words and cells, and what they leave. The list does not depend on the records: what is said of a
+-- picker is said whatever records stand beside. Assumes nothing.
+use Prim.Native.Nat.{ℕ, _≤_}
 use mathlib.Core.Path.{_≡_}
 use mathlib.Core.Bool.{true}
 use mathlib.Core.List.{List}
-use lib.ListN.{length, getD}
-use Rattle.model.specs.State.{maxPeers, maxPriority, piecesIn}
+use Rattle.model.specs.State.{piecesIn}
 use Rattle.model.specs.list.Order.{rank, Drawing, drawing}
 use Rattle.model.specs.list.Listed.{ListingOf}
 use Rattle.memory_records.specs.declared.record.DownloadingPiece.{DownloadingPiece as Record}
 use Rattle.memory_layout.specs.declared.shape.Shape.{Shape}
-use Rattle.memory_layout.specs.Decode.{headWord, pieceCell, piecesOn, yes?, decode}
+use Rattle.memory_layout.specs.Decode.{headWord, piecesOn, yes?, decode}
 use Rattle.memory_layout.specs.Bounds.{Spans, RanksHeld}
 use Rattle.memory_layout.specs.Stores.{BothBecame}
-use Rattle.list_rank.specs.Ranks.{maxRank}
+use Rattle.memory_ranks.specs.CellRanks.{Ranges}
 use Rattle.list_words.specs.Updating.{former}
 
 -- ---- what is asked
--- peer count and priority of each piece are in range, so that its rank has a place in the table
-pub record Ranges (n : ℕ) (cells : List ℕ) : Type 0 where
-  pub peerCount : (i : ℕ) → i < n → pieceCell cells n 0 i ≤ maxPeers
-  pub priority : (i : ℕ) → i < n → pieceCell cells n 2 i ≤ maxPriority
-
 -- the buffers have room, the shape has the pieces that the head gives, the list's length is in bounds, and peer counts and priorities are
 -- in range
 pub record ListBounds (s : Shape) (words cells : List ℕ) : Type 0 where
@@ -42,17 +36,6 @@ pub record ListBefore (s : Shape) (words cells : List ℕ) (old i : ℕ) : Type 
   pub ranks : (records : List Record) → RanksHeld (s .pieces) words (former (rank (decode records words cells)) old i)
 
 -- ---- what is left
--- r is the rank of piece i
-pub record IsRankAt (s : Shape) (words cells : List ℕ) (i r : ℕ) : Type 0 where
-  pub is : s .pieces ≡ piecesOn words → (records : List Record) → r ≡ rank (decode records words cells) i
-  pub low : r ≤ maxRank
-
--- the first n of `filled` are the ranks of the first n pieces, the others are as they were
-pub record RanksFilled (s : Shape) (words cells : List ℕ) (n : ℕ) (before filled : List ℕ) : Type 0 where
-  pub ranks : (i : ℕ) → i < n → IsRankAt s words cells i (getD filled i 0)
-  pub rest : (i : ℕ) → n ≤ i → getD filled i 0 ≡ getD before i 0
-  pub long : length filled ≡ length before
-
 -- the picker and its draws went through `step`: the picker is what that gives, the next draw has the number that it gives, and beside each
 -- piece of the list stands its rank
 pub record ListBecame (s : Shape) (step : Drawing → Drawing) (words words′ cells : List ℕ) (used next : ℕ) : Type 0 where

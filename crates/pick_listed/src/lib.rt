@@ -1,6 +1,6 @@
 // The phases of a pick that go by the list: it is made anew where it is dirty, then a sequential walk, then the one by rarity.
 use memory_layout::Shape;
-use memory_list::update_pieces;
+use memory_rebuild::update_pieces;
 use pick_rarest::pick_rarest;
 use pick_sequential::pick_sequential;
 use pick_state::PickNumbers;

@@ -1,5 +1,5 @@
 // The random walk: from a drawn piece round the torrent, until no block is wanted or the walk is over.
-use list_words::draw;
+use list_draws::draw;
 use memory_layout::Shape;
 use pick_lap::lap_step;
 use pick_state::PickNumbers;

@@ -1,5 +1,5 @@
 // The end game: Full pieces drawn in turn, until one has a block for this peer.
-use list_words::draw;
+use list_draws::draw;
 use memory_layout::Shape;
 use pick_busy::busy_blocks;
 use pick_busy::full_partials;

@@ -1,7 +1,7 @@
 -- `group_ahead` meets its contract: the first word above the rank below, and from there the first above the rank. Assumes nothing.
 use borrow.Author.Needs.{needs}
 use native.Mathlib.Omega.{arith}
-use Rattle.list_groups.proofs.WordLaws.{top-below, top-least}
+use Rattle.list_entries.proofs.WordLaws.{top-below, top-least}
 use Rattle.list_groups.proofs.Searching.{rises-within, rises-splits, grouped}
 use Rattle.list_groups.proofs.group_ahead.Statement.{statement}
 use Rattle.list_groups.proofs.group_ahead.Tie as tie

@@ -3,7 +3,7 @@ use borrow.Author.Needs.{needs}
 use mathlib.Core.Path.{sym, _∙_}
 use native.Mathlib.Omega.{arith}
 use lib.ListN.{take}
-use Rattle.list_groups.specs.Words.{listWord}
+use Rattle.list_entries.specs.Words.{listWord}
 use Rattle.list_words.proofs.Arms.{in-words, one-more, words-rise, word-in-list, ranked, ranks-differ, word-none}
 use Rattle.list_words.proofs.Arms.{update-same, update-added, update-removed, update-changed}
 use Rattle.list_words.proofs.update.Statement.{statement}

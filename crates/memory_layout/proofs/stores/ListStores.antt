@@ -10,7 +10,7 @@ use lib.Seq.{getD-take, getD-drop, length-take-le, getD-append-add}
 use borrow.Rule.Slice.PartMut.{putMid, midOf, postOf}
 use Rattle.model.specs.Lists.{each}
 use Rattle.model.specs.State.{Listing, dirty, fresh, listOf, withListing, markDirty}
-use Rattle.list_groups.specs.Words.{listedPiece, listedRank}
+use Rattle.list_entries.specs.Words.{listedPiece, listedRank}
 use Rattle.memory_records.specs.declared.record.DownloadingPiece.{DownloadingPiece as Record}
 use Rattle.memory_layout.specs.declared.shape.Shape.{Shape}
 use Rattle.memory_layout.specs.Tables.{tabulate, front}

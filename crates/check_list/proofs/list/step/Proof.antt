@@ -1,6 +1,6 @@
 -- `check_pieces::step` meets its contract: each way out by one law.
 use native.Mathlib.Omega.{arith}
-use Rattle.list_groups.specs.Words.{listedPiece, listedRank}
+use Rattle.list_entries.specs.Words.{listedPiece, listedRank}
 use Rattle.check_list.proofs.ListTests.{falls, outside, other-rank, stepped}
 use borrow.Author.Needs.{needs}
 use Rattle.check_list.proofs.list.step.Statement.{statement}

@@ -5,7 +5,7 @@ use mathlib.Core.Path.{_≡_, ap, _∙_}
 use Prim.Native.Nat.{_-_, _≤_, _<_}
 use Rattle.model.specs.Lists.{nth}
 use Rattle.model.specs.image.Image.{bodyLength, placeKind, numberRecord}
-use Rattle.list_groups.specs.Words.{listedPiece}
+use Rattle.list_entries.specs.Words.{listedPiece}
 use Rattle.memory_layout.specs.Decode.{headWord, pieceWord, listHeld}
 use Rattle.image_parts.specs.Parts.{Appended}
 use Rattle.image_parts.proofs.RunLaws.{runOf, run-start, run-step, run-end, run-fits}

@@ -1,0 +1,4 @@
+pub mod Groups
+pub mod Adding
+pub mod Fronts
+pub mod Changing
