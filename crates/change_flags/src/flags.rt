@@ -2,8 +2,8 @@
 use crate::closing::piece_flushed;
 use memory_counts::finished;
 use memory_layout::Shape;
-use memory_partials::blocks_in_piece;
 use memory_partials::with_flags;
+use memory_piece_blocks::blocks_in_piece;
 use memory_records::DownloadingPiece;
 use memory_records::Edit;
 use memory_records::Found;

@@ -7,7 +7,7 @@ use memory_counts::finished;
 use memory_counts::requested;
 use memory_counts::writing;
 use memory_layout::Shape;
-use memory_partials::blocks_in_piece;
+use memory_piece_blocks::blocks_in_piece;
 use memory_records::row;
 pub use standing::Standing;
 pub use standing::standing_in;

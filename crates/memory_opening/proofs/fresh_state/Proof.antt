@@ -4,8 +4,8 @@ use borrow.Author.Tests.{lt-ltb, le-ltb}
 use Rattle.model.specs.Lists.{nth}
 use Rattle.model.specs.change.Partials.{freshBlock}
 use Rattle.memory_layout.specs.Decode.{stateFrom}
-use Rattle.memory_partials.proofs.opening.fresh_state.Statement.{statement}
-use Rattle.memory_partials.proofs.opening.fresh_state.Tie as tie
+use Rattle.memory_opening.proofs.fresh_state.Statement.{statement}
+use Rattle.memory_opening.proofs.fresh_state.Tie as tie
 
 returns : tie.Need-returns
 unfolding freshBlock stateFrom nth

@@ -3,10 +3,10 @@ use native.Mathlib.Omega.{arith}
 use mathlib.Core.Path.{refl}
 use Rattle.memory_layout.proofs.OffsetLaws.{head-in, places-min}
 use Rattle.memory_layout.proofs.BoundsLaws.{blocks-within}
-use Rattle.memory_partials.proofs.AddLaws.{bounds-shape, rows-below, rows-apart, opened-all}
+use Rattle.memory_opening.proofs.AddLaws.{bounds-shape, rows-below, rows-apart, opened-all}
 use borrow.Author.Needs.{needs}
-use Rattle.memory_partials.proofs.opening.add_partial.Statement.{statement}
-use Rattle.memory_partials.proofs.opening.add_partial.Tie as tie
+use Rattle.memory_opening.proofs.add_partial.Statement.{statement}
+use Rattle.memory_opening.proofs.add_partial.Tie as tie
 
 free-place-requires : tie.Need-free-place-requires
 free-place-requires c κs =

@@ -27,11 +27,12 @@ use Rattle.memory_blocks.specs.declared.info.BlockInfo.{BlockInfo}
 use Rattle.memory_blocks.specs.Blocks.{blockOf, BlockStored}
 use Rattle.memory_places.specs.Places.{placesTaken, PlacesBelow, PlacesApart, lowestFree}
 use Rattle.memory_places.proofs.PlaceLaws.{place-free}
-use Rattle.memory_partials.specs.Partials.{Edited, Fresh, Opened}
+use Rattle.memory_partials.specs.Partials.{Edited}
+use Rattle.memory_opening.specs.Opening.{Fresh, Opened}
 use Rattle.memory_partials.proofs.RecordLaws.{at-live, slot}
 use Rattle.memory_partials.proofs.CountLaws.{Counted, counted-store, counted-kept, counted-list, opened-rising}
-use Rattle.memory_partials.proofs.OpenLaws.{opened-low, opened-here, opened}
+use Rattle.memory_opening.proofs.OpenLaws.{opened-low, opened-here, opened}
 use Rattle.memory_partials.proofs.MarkLaws.{Standing, standing-found, block-replaced}
 
 -- the shape is the head's
 pub bounds-shape : (s : Shape) (records : List Record) (words cells : List ℕ) → InBounds s records words cells → ShapeOf s words

@@ -1,11 +1,11 @@
 -- `fresh_blocks` meets its contract: the first j blocks are fresh. Assumes nothing.
 use Prim.Native.Nat.{_-_, _≤_}
 use native.Mathlib.Omega.{arith}
-use Rattle.memory_partials.specs.Partials.{Fresh}
-use Rattle.memory_partials.proofs.FreshLaws.{fresh-start, fresh-span, fresh-next, fresh-end}
+use Rattle.memory_opening.specs.Opening.{Fresh}
+use Rattle.memory_opening.proofs.FreshLaws.{fresh-start, fresh-span, fresh-next, fresh-end}
 use borrow.Author.Needs.{needs}
-use Rattle.memory_partials.proofs.opening.fresh_blocks.Statement.{statement}
-use Rattle.memory_partials.proofs.opening.fresh_blocks.Tie as tie
+use Rattle.memory_opening.proofs.fresh_blocks.Statement.{statement}
+use Rattle.memory_opening.proofs.fresh_blocks.Tie as tie
 
 abbrev Inv-loop : tie.InvT-loop
 Inv-loop cells₀ s p many payload j₀ cells j = (j ≤ many) × Fresh s cells₀ cells p j payload

@@ -1,10 +1,10 @@
 -- `payload_blocks` meets its contract. Assumes nothing.
 use native.Mathlib.Omega.{arith}
 use Rattle.memory_layout.proofs.OffsetLaws.{head-in}
-use Rattle.memory_partials.proofs.FreshLaws.{piece-low, payload-is}
+use Rattle.memory_piece_blocks.proofs.NumberLaws.{piece-low, payload-is}
 use borrow.Author.Needs.{needs}
-use Rattle.memory_partials.proofs.opening.payload_blocks.Statement.{statement}
-use Rattle.memory_partials.proofs.opening.payload_blocks.Tie as tie
+use Rattle.memory_piece_blocks.proofs.payload_blocks.Statement.{statement}
+use Rattle.memory_piece_blocks.proofs.payload_blocks.Tie as tie
 
 head-word-requires : tie.Need-head-word-requires
 head-word-requires c κs = (head-in _ _ (c .before .pre .0 .0), omega arith)

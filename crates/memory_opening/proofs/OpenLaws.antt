@@ -24,11 +24,12 @@ use Rattle.memory_layout.specs.Decode.{partialsHeld, decode, decodeAt}
 use Rattle.memory_layout.specs.Bounds.{InBounds, PlainRecord, Plain}
 use Rattle.memory_layout.proofs.TableLaws.{tabulate-ext}
 use Rattle.memory_layout.proofs.BoundsLaws.{decode-at, blocks-within, place-room}
-use Rattle.memory_partials.specs.Partials.{Edited, Fresh}
+use Rattle.memory_partials.specs.Partials.{Edited}
+use Rattle.memory_opening.specs.Opening.{Fresh}
 use Rattle.memory_partials.proofs.RecordLaws.{at-live, insert-each, slot}
 use Rattle.memory_partials.proofs.CountLaws.{Counted, counted-blocks, counted-bounds, counted-plain, counted-is}
 use Rattle.memory_partials.proofs.CountLaws.{counted-record, counted-held}
 use Rattle.memory_partials.proofs.RisingLaws.{held-piece, held-each}
 
 -- ---- the blocks one after another
 tabulate-from : {A : Type 0} (g : ℕ → A) (k n : ℕ) → tabulate n (λ j. g (k + j)) ≡ each g (from k n)

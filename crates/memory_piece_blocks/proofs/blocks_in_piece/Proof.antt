@@ -1,10 +1,10 @@
 -- `blocks_in_piece` meets its contract. Assumes nothing.
 use native.Mathlib.Omega.{arith}
 use Rattle.memory_layout.proofs.OffsetLaws.{head-in}
-use Rattle.memory_partials.proofs.FreshLaws.{piece-low, blocks-whole, blocks-is}
+use Rattle.memory_piece_blocks.proofs.NumberLaws.{piece-low, blocks-whole, blocks-is}
 use borrow.Author.Needs.{needs}
-use Rattle.memory_partials.proofs.opening.blocks_in_piece.Statement.{statement}
-use Rattle.memory_partials.proofs.opening.blocks_in_piece.Tie as tie
+use Rattle.memory_piece_blocks.proofs.blocks_in_piece.Statement.{statement}
+use Rattle.memory_piece_blocks.proofs.blocks_in_piece.Tie as tie
 
 add-if1 : tie.Need-add-if1
 add-if1 c = search needs

@@ -1,15 +1,10 @@
-// A partial opened for a piece: the lowest free place, its blocks as those of a piece just opened, one partial more.
-use geometry::blocks_at;
-use geometry::payload_blocks_in_piece;
+// A partial opened for a piece: the lowest free place, its blocks as those of a piece just opened, one partial more. The records are not
+// written: the walk above puts in the one that is answered, and the contract speaks of the picker with it there.
 use memory_blocks::fresh_block;
-use memory_fields::pad_bytes;
 use memory_layout::Shape;
-use memory_layout::head_word;
 use memory_layout::set_head_word;
 use memory_places::free_place;
 use memory_records::DownloadingPiece;
-use types::PieceIndex;
-use types::u64_to_usize;
 use types::usize_to_u32;
 use types::usize_to_u64;
 ghost use mathlib.Core.Path.{_≡_};
@@ -19,36 +14,9 @@ ghost use Rattle.model.specs.State.{payloadBlocksInPiece};
 ghost use Rattle.model.specs.change.Partials.{freshBlock};
 ghost use Rattle.memory_records.specs.Rows.{recordsIn};
 ghost use Rattle.memory_layout.specs.Decode.{headWord, blocksOf, stateFrom};
-ghost use Rattle.memory_layout.specs.Bounds.{WordsSpan, CellsSpan, ShapeOf, InBounds};
+ghost use Rattle.memory_layout.specs.Bounds.{CellsSpan, InBounds};
 ghost use Rattle.memory_fields.specs.Reading.{WordsSay};
-ghost use Rattle.memory_partials.specs.Partials.{Fresh, Opened};
-
-// The number of blocks of piece i. Every piece but the last one is whole.
-pub fn blocks_in_piece(words: &[u64], s: Shape, i: usize) -> usize
-    requires { ⌜ (WordsSpan s (now words)) × (ShapeOf s (now words)) ⌝ }
-    requires { ⌜ i < s .pieces ⌝ }
-    ensures { λ r. ⌜ r ≡ blocksOf (now (words .entry)) i ⌝ }
-{
-    if i + 1 < s.pieces {
-        return s.blocks;
-    }
-    let total = head_word(words, 0);
-    let size = head_word(words, 1);
-    u64_to_usize(blocks_at(total, size, usize_to_u64(i)))
-}
-
-// The number of blocks of piece i that hold more than pad bytes.
-pub fn payload_blocks(words: &[u64], s: Shape, i: usize) -> usize
-    requires { ⌜ (WordsSpan s (now words)) × (ShapeOf s (now words)) ⌝ }
-    requires { ⌜ i < s .pieces ⌝ }
-    ensures { λ r. ⌜ WordsSay s (now (words .entry)) (λ d. payloadBlocksInPiece d i) r ⌝ }
-{
-    let total = head_word(words, 0);
-    let size = head_word(words, 1);
-    let pad = pad_bytes(words, s, i);
-    let piece = PieceIndex::at(i);
-    u64_to_usize(payload_blocks_in_piece(total, size, piece, pad))
-}
+ghost use Rattle.memory_opening.specs.Opening.{Fresh, Opened};
 
 // The number of the state of block j of a piece just opened: Finished where it holds pad bytes alone.
 fn fresh_state(payload: usize, j: usize) -> u16
