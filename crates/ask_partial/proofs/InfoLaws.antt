@@ -25,7 +25,7 @@ use Rattle.memory_layout.proofs.Meanings.{partial-piece-is, passed-is, locked-i
 use Rattle.memory_layout.proofs.BoundsLaws.{blocks-within}
 use Rattle.memory_fields.specs.Reading.{HeadSays, CellsSay}
 use Rattle.memory_rows.specs.Lookup.{pickerIn, FoundIn}
-use Rattle.memory_rows.specs.Counted.{CountSays}
+use Rattle.memory_counts.specs.Counted.{CountSays}
 use Rattle.ask_picker.specs.Telling.{BothSay}
 use Rattle.ask_picker.proofs.AskedLaws.{asked-rows}
 use Rattle.ask_piece.proofs.ReplyLaws.{one-is}

@@ -1,13 +1,13 @@
 // How many blocks of a piece are in each state, by what the memory test counted.
 use ask_piece::blocks_in_piece;
+use memory_counts::finished;
+use memory_counts::requested;
+use memory_counts::writing;
 use memory_fields::flushed;
 use memory_layout::Shape;
 use memory_records::Found;
 use memory_records::row;
 use memory_rows::find;
-use memory_rows::finished;
-use memory_rows::requested;
-use memory_rows::writing;
 use types::u16_to_u64;
 use types::u32_to_usize;
 use types::u64_to_u16;

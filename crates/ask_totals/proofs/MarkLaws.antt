@@ -27,7 +27,8 @@ use Rattle.memory_layout.specs.declared.shape.Shape.{Shape}
 use Rattle.memory_layout.specs.Decode.{recordAt, partialFrom, partialHeld}
 use Rattle.memory_layout.proofs.Meanings.{partial-nth}
 use Rattle.memory_rows.specs.Lookup.{LiveRows, pickerIn}
-use Rattle.memory_rows.proofs.RisingLaws.{rows-rise, live-number, live-nth, rise-is}
+use Rattle.memory_halving.proofs.RowLaws.{rows-rise}
+use Rattle.memory_rows.proofs.RisingLaws.{live-number, live-nth, rise-is}
 use Rattle.ask_totals.specs.Marks.{PiecesLow, Marked}
 
 zeros-at : (n i : ℕ) → getD (replicate {A = ℕ} n 0) i 0 ≡ 0

@@ -32,7 +32,7 @@ fn set_peer_count(
         (now (words .entry)) (now (cells .entry)) used (now (words .exit)) (now (cells .exit)) r ⌝ }
 {
     let old = rank_at(words, cells, s, i);
-    memory_fields::set_peer_count(cells, s, i, count);
+    memory_piece_stores::set_peer_count(cells, s, i, count);
     update(words, cells, s, i, old, draws, used)
 }
 

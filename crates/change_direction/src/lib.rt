@@ -1,7 +1,7 @@
 // The direction of a piece in lent memory: under REVERSE a piece turns reverse, without it a reverse piece turns back. Steps of a change.
 use change_state::queue_at;
 use change_state::queue_number;
-use memory_fields::mark_dirty;
+use memory_head_stores::mark_dirty;
 use memory_layout::Shape;
 use memory_ranks::rank_at;
 use memory_update::update;
@@ -41,7 +41,7 @@ pub fn set_direction(
 {
     let old = rank_at(words, cells, s, i);
     let n = queue_number(q);
-    memory_fields::set_state(cells, s, i, n);
+    memory_piece_stores::set_state(cells, s, i, n);
     let new = rank_at(words, cells, s, i);
     if gains_bucket(old, new) {
         mark_dirty(words, s);

@@ -2,8 +2,8 @@
 use crate::neighbours::worth_recording;
 use geometry_needs::extent_for;
 use memory_fields::num_recent_extents;
-use memory_fields::push_recent_extent;
 use memory_fields::recent_extent;
+use memory_head_stores::push_recent_extent;
 use memory_layout::Shape;
 use types::MAX_EXTENTS;
 use types::MAX_PIECE_AFFINITY_EXTENT;

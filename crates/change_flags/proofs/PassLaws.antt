@@ -28,7 +28,7 @@ use Rattle.memory_layout.specs.Changes.{partialIn}
 use Rattle.memory_layout.proofs.Meanings.{partial-is, partial-piece-is, blocks-of-is}
 use Rattle.memory_partials.specs.Partials.{Flagged}
 use Rattle.memory_rows.specs.Lookup.{FoundIn}
-use Rattle.memory_rows.specs.Counted.{CountSays}
+use Rattle.memory_counts.specs.Counted.{CountSays}
 use Rattle.change_steps.proofs.MendLaws.{went-changed}
 use Rattle.change_steps.proofs.RoomLaws.{keep-room, replace-room}
 use Rattle.change_tally.specs.RowsStanding.{RowsStand}

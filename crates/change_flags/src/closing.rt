@@ -1,10 +1,10 @@
 // A partial closed: its piece is Open again, or on disk. It relies on a partial of the piece, among partials by rising piece.
 use change_cursors::advance_cursors;
 use change_state::queue_number;
-use memory_fields::set_flushed;
-use memory_fields::set_state;
 use memory_layout::Shape;
 use memory_partials::drop_partial;
+use memory_piece_stores::set_flushed;
+use memory_piece_stores::set_state;
 use memory_ranks::rank_at;
 use memory_update::update;
 use types::DownloadQueue;

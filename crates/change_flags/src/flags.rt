@@ -1,14 +1,14 @@
 // The flags of a piece's partial, which the rows name: locked, or passed and flushed at once where every block is on disk.
 use crate::closing::piece_flushed;
+use memory_counts::finished;
 use memory_layout::Shape;
-use memory_partials::blocks_in_piece;
 use memory_partials::with_flags;
+use memory_piece_blocks::blocks_in_piece;
 use memory_records::DownloadingPiece;
 use memory_records::Edit;
 use memory_records::Found;
 use memory_records::row;
 use memory_rows::find;
-use memory_rows::finished;
 use types::u16_to_usize;
 ghost use mathlib.Core.Path.{_≡_};
 ghost use mathlib.Core.Bool.{true};

@@ -23,10 +23,11 @@ use Rattle.memory_layout.proofs.Meanings.{blocks-of-is, partials-number}
 use Rattle.memory_layout.proofs.BoundsLaws.{blocks-within}
 use Rattle.memory_layout.proofs.ReadLaws.{read-bounds}
 use Rattle.memory_fields.specs.Reading.{WordsSay}
-use Rattle.memory_partials.specs.Partials.{Edited, Opened}
-use Rattle.memory_partials.proofs.AddLaws.{rows-read, opened-standing}
+use Rattle.memory_partials.specs.Partials.{Edited}
 use Rattle.memory_partials.proofs.CountLaws.{opened-rising}
 use Rattle.memory_partials.proofs.MarkLaws.{standing-found}
+use Rattle.memory_opening.specs.Opening.{Opened}
+use Rattle.memory_opening.proofs.AddLaws.{rows-read, opened-standing}
 use Rattle.change_steps.specs.Working.{Works, WorksBeside, Went}
 use Rattle.change_steps.proofs.WorkLaws.{went-then, went-named}
 use Rattle.change_steps.proofs.BesideLaws.{SameList, beside-went}

@@ -2,9 +2,9 @@
 use change_state::Tally;
 use change_state::update_piece_state;
 use memory_layout::Shape;
-use memory_partials::add_partial;
-use memory_partials::blocks_in_piece;
-use memory_partials::payload_blocks;
+use memory_opening::add_partial;
+use memory_piece_blocks::blocks_in_piece;
+use memory_piece_blocks::payload_blocks;
 use memory_records::DownloadingPiece;
 ghost use mathlib.Core.Path.{_≡_};
 ghost use Prim.Native.Nat.{_≤_, _<_};

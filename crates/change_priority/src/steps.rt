@@ -57,7 +57,7 @@ fn set_priority(
         (now (words .entry)) (now (cells .entry)) used (now (words .exit)) (now (cells .exit)) r ⌝ }
 {
     let old = rank_at(words, cells, s, i);
-    memory_fields::set_priority(cells, s, i, priority);
+    memory_piece_stores::set_priority(cells, s, i, priority);
     update(words, cells, s, i, old, draws, used)
 }
 

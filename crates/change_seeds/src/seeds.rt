@@ -1,9 +1,9 @@
 // The number of seeds, and the list that depends on whether there is one.
 use crate::lowering::lower_all;
 use crate::raising::raise_all;
-use memory_fields::mark_dirty;
 use memory_fields::seeds;
-use memory_fields::set_seeds;
+use memory_head_stores::mark_dirty;
+use memory_head_stores::set_seeds;
 use memory_layout::Shape;
 ghost use Prim.Native.Nat.{_≤_};
 ghost use Rattle.model.specs.change.Changes.{breakOneSeed, incRefcountAll, decRefcountAll};

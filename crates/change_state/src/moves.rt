@@ -33,7 +33,7 @@ pub fn set_state(
 {
     let old = rank_at(words, cells, s, i);
     let n = queue_number(q);
-    memory_fields::set_state(cells, s, i, n);
+    memory_piece_stores::set_state(cells, s, i, n);
     update(words, cells, s, i, old, draws, used)
 }
 

@@ -22,7 +22,7 @@ use Rattle.memory_layout.proofs.BoundsLaws.{blocks-within}
 use Rattle.memory_layout.proofs.StandingLaws.{stands-shape}
 use Rattle.memory_layout.proofs.Meanings.{hashing-is, blocks-number}
 use Rattle.check_partials.specs.Records.{CountsHeld}
-use Rattle.memory_rows.specs.Counted.{CountSays}
+use Rattle.memory_counts.specs.Counted.{CountSays}
 use Rattle.memory_rows.specs.Lookup.{LiveRows, pickerIn}
 use Rattle.change_tally.specs.Tallied.{TalliesBeside, Tallied}
 

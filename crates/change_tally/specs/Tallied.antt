@@ -7,7 +7,7 @@ use Rattle.memory_records.specs.Rows.{rowAt}
 use Rattle.memory_layout.specs.declared.shape.Shape.{Shape}
 use Rattle.memory_layout.specs.Changes.{partialIn}
 use Rattle.check_partials.specs.Records.{CountsHeld}
-use Rattle.memory_rows.specs.Counted.{CountSays}
+use Rattle.memory_counts.specs.Counted.{CountSays}
 use Rattle.memory_rows.specs.Lookup.{LiveRows, pickerIn}
 use Rattle.change_state.specs.declared.states.Tally.{Tally}
 use Rattle.change_state.specs.Numbers.{IsTally}

@@ -3,12 +3,12 @@
 mod standing;
 
 use change_state::Tally;
+use memory_counts::finished;
+use memory_counts::requested;
+use memory_counts::writing;
 use memory_layout::Shape;
-use memory_partials::blocks_in_piece;
+use memory_piece_blocks::blocks_in_piece;
 use memory_records::row;
-use memory_rows::finished;
-use memory_rows::requested;
-use memory_rows::writing;
 pub use standing::Standing;
 pub use standing::standing_in;
 ghost use mathlib.Core.Path.{_≡_};

@@ -1,9 +1,9 @@
 // A standing partial, as a change of its blocks needs it.
 use crate::tally_of;
 use change_state::Tally;
+use memory_counts::finished;
 use memory_layout::Shape;
 use memory_records::row;
-use memory_rows::finished;
 use types::u32_to_usize;
 ghost use mathlib.Core.Path.{_≡_};
 ghost use Prim.Native.Nat.{_<_};

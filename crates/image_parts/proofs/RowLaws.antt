@@ -15,7 +15,7 @@ use Rattle.memory_layout.specs.declared.shape.Shape.{Shape}
 use Rattle.memory_layout.specs.Decode.{headWord, recordAt, piecesOn, blocksOf, partialHeld, partialsHeld}
 use Rattle.memory_layout.specs.Bounds.{ShapeOf, PlainRecord, PlainBlock}
 use Rattle.memory_layout.proofs.BoundsLaws.{blocks-within}
-use Rattle.memory_rows.proofs.RisingLaws.{row-index}
+use Rattle.memory_halving.proofs.RowLaws.{row-index}
 use Rattle.ask_picker.specs.Asked.{Asked}
 use Rattle.ask_picker.proofs.AskedLaws.{asked-queues}
 use Rattle.image_parts.specs.Parts.{Appended, PlainBlocks}

@@ -19,7 +19,8 @@ use Rattle.memory_layout.proofs.BoundsLaws.{decode-at, blocks-within}
 use Rattle.memory_layout.proofs.TableLaws.{tabulate-len}
 use Rattle.memory_layout.proofs.Meanings.{pieces-number, list-length-is, extents-number}
 use Rattle.memory_rows.specs.Lookup.{pickerIn}
-use Rattle.memory_rows.proofs.RisingLaws.{row-index, live-number}
+use Rattle.memory_halving.proofs.RowLaws.{row-index}
+use Rattle.memory_rows.proofs.RisingLaws.{live-number}
 use Rattle.ask_picker.specs.Asked.{Asked}
 use Rattle.ask_picker.proofs.AskedLaws.{asked-rows, asked-queues}
 

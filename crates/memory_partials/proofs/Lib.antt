@@ -2,9 +2,6 @@ pub mod RecordLaws
 pub mod CountLaws
 pub mod RisingLaws
 pub mod MarkLaws
-pub mod FreshLaws
-pub mod OpenLaws
-pub mod AddLaws
 pub mod CloseLaws
 pub mod FlagLaws
 pub mod Cases

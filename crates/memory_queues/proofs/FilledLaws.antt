@@ -10,7 +10,8 @@ use Rattle.memory_layout.specs.declared.shape.Shape.{Shape}
 use Rattle.memory_layout.specs.Decode.{queueFrom}
 use Rattle.memory_layout.specs.Changes.{partialIn}
 use Rattle.memory_rows.specs.Lookup.{LiveRows, pickerIn}
-use Rattle.memory_rows.proofs.RisingLaws.{rows-rise, live-number, live-piece, well-formed-rise}
+use Rattle.memory_halving.proofs.RowLaws.{rows-rise}
+use Rattle.memory_rows.proofs.RisingLaws.{live-number, live-piece, well-formed-rise}
 use Rattle.memory_queues.specs.Queues.{queueIn, queueHeld, placesIn, Queued, Entered, InQueues, Filled}
 use Rattle.memory_queues.proofs.PlaceLaws.{places-rising}
 use Rattle.memory_queues.proofs.EnterLaws.{entered-same, place-is, size-is, row-queue}

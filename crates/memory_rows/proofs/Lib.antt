@@ -1,4 +1,2 @@
 pub mod RisingLaws
 pub mod LookupLaws
-pub mod StepLaws
-pub mod CountedLaws

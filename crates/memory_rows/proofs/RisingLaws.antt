@@ -1,4 +1,4 @@
--- The rows of rising pieces: as numbers, as records and as the partials of a picker. Assumes nothing.
+-- The rows of rising pieces, as records and as the partials of a picker. Assumes nothing.
 use mathlib.Core.Path.{_≡_, refl, sym, ap, ap₂, _∙_}
 use mathlib.Core.Bool.{true, _&&_}
 use mathlib.Core.List.{List, [], _∷_}
@@ -15,13 +15,13 @@ use Rattle.model.specs.image.Sound.{partialsFrom}
 use Rattle.model.proofs.sound.SoundLaws.{wellFormed-sound}
 use Rattle.memory_records.specs.declared.record.DownloadingPiece.{DownloadingPiece as Record}
 use Rattle.memory_records.specs.Records.{noRecord, risingFrom}
-use Rattle.memory_records.specs.Rows.{rowAt, recordsIn}
-use Rattle.memory_records.proofs.laws.RowLaws.{length-records, records-at}
-use Rattle.memory_records.proofs.laws.RisingLaws.{index-rises}
+use Rattle.memory_records.specs.Rows.{recordsIn}
+use Rattle.memory_records.proofs.laws.RowLaws.{length-records}
 use Rattle.memory_layout.specs.declared.shape.Shape.{Shape}
 use Rattle.memory_layout.specs.Decode.{recordAt, partialFrom, partialHeld}
 use Rattle.memory_layout.specs.Changes.{partialIn}
 use Rattle.memory_layout.proofs.Meanings.{partials-number, partial-nth}
+use Rattle.memory_halving.proofs.RowLaws.{row-index}
 use Rattle.memory_rows.specs.Lookup.{LiveRows, pickerIn}
 
 -- ---- records
@@ -36,24 +36,6 @@ rise-same low (x ∷ xs) (d ∷ ds) e h =
     let f : x .index ≡ d .piece = h 0 (omega arith) in
     ap₂ _&&_ (ap (λ (i : ℕ). ltb low (suc i)) f)
     (ap (λ (i : ℕ). risingFrom (suc i) xs) f ∙ rise-same (suc (d .piece)) xs ds (omega arith) (λ k l. h (suc k) (omega arith)))
-
--- ---- rows
--- the piece in row k
-pub row-index : (live : ℕ) (rows : List ℕ) (k : ℕ) → k < live → getD (recordsIn live rows) k noRecord .index ≡ getD rows k 0
-unfolding rowAt
-row-index live rows k h = ap (λ (x : Record). x .index) (records-at live rows k h)
-
--- they rise
-pub rows-rise : (live : ℕ) (rows : List ℕ) → risingFrom 0 (recordsIn live rows) ≡ true → (k l : ℕ) → k < l → l < live
-    → getD rows k 0 < getD rows l 0
-rows-rise live rows r k l e h =
-    let m = length-records live rows in
-    omega (
-      arith,
-      row-index live rows k (omega arith),
-      row-index live rows l h,
-      index-rises 0 (recordsIn live rows) k l r e (omega arith),
-    )
 
 -- ---- a picker's rows
 module _ (s : Shape) (live : ℕ) (rows words cells : List ℕ) (g : LiveRows s live rows words cells) where

@@ -3,7 +3,7 @@ use geometry_needs::extent_pieces;
 use memory_fields::flushed;
 use memory_fields::num_recent_extents;
 use memory_fields::recent_extent;
-use memory_fields::remove_recent_extent;
+use memory_head_stores::remove_recent_extent;
 use memory_layout::Shape;
 use pick_state::PickNumbers;
 use pick_state::PickRequest;

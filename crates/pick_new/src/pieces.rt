@@ -2,7 +2,7 @@
 use crate::blocks::take_blocks;
 use crate::spans::take_span;
 use memory_layout::Shape;
-use memory_partials::payload_blocks;
+use memory_piece_blocks::payload_blocks;
 use pick_free::expand_piece;
 use pick_state::PickNumbers;
 use pick_state::PickRequest;

@@ -1,7 +1,7 @@
 // The pieces of a span in turn.
 use crate::blocks::take_payload;
 use memory_layout::Shape;
-use memory_partials::payload_blocks;
+use memory_piece_blocks::payload_blocks;
 use pick_state::PickNumbers;
 use pick_state::shorter;
 ghost use Prim.Native.Nat.{_-_, _*_, _≤_, _<_};

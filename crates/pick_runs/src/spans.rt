@@ -1,7 +1,7 @@
 // The pieces of a span in turn.
 use crate::blocks::take_all;
 use memory_layout::Shape;
-use memory_partials::blocks_in_piece;
+use memory_piece_blocks::blocks_in_piece;
 use pick_state::PickNumbers;
 use pick_state::shorter;
 ghost use mathlib.Core.Path.{_≡_};

@@ -18,7 +18,7 @@ use Rattle.memory_layout.proofs.TableLaws.{tabulate-len}
 use Rattle.memory_fields.specs.Reading.{CellsSay}
 use Rattle.check_partials.specs.Records.{CountsHeld}
 use Rattle.memory_rows.specs.Lookup.{pickerIn}
-use Rattle.memory_rows.specs.Counted.{CountSays}
+use Rattle.memory_counts.specs.Counted.{CountSays}
 use Rattle.memory_rows.proofs.RisingLaws.{live-piece}
 use Rattle.ask_picker.specs.Asked.{Asked}
 use Rattle.ask_picker.proofs.AskedLaws.{asked-rows, asked-queues, peers-few}

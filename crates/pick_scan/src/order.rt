@@ -1,10 +1,10 @@
 // The order of partials in a pick by rarity: fewer peers first, then more blocks at work, then the lower piece. Each partial is one number,
 // so that its blocks and its peers are looked at once; the number ends with its place.
+use memory_counts::finished;
+use memory_counts::requested;
+use memory_counts::writing;
 use memory_fields::peer_count;
 use memory_layout::Shape;
-use memory_rows::finished;
-use memory_rows::requested;
-use memory_rows::writing;
 use types::u16_to_usize;
 use types::u32_to_usize;
 use types::usize_to_u32;

@@ -1,6 +1,6 @@
 // 4 and 5 of the table, of a block.
 use memory_layout::Shape;
-use memory_partials::blocks_in_piece;
+use memory_piece_blocks::blocks_in_piece;
 use picker_calls::Judgement;
 use types::Refusal;
 ghost use Rattle.memory_layout.specs.Bounds.{WordsSpan, ShapeOf};

@@ -1,6 +1,6 @@
 -- `add_download_piece` meets its contract. Assumes nothing.
 use mathlib.Core.Path.{refl}
-use Rattle.memory_partials.proofs.AddLaws.{bounds-shape}
+use Rattle.memory_opening.proofs.AddLaws.{bounds-shape}
 use Rattle.change_opening.proofs.AddLaws.{rows-bounds, fresh-fits, add-beside, add-done}
 use borrow.Author.Needs.{needs}
 use Rattle.change_opening.proofs.adding.add_download_piece.Statement.{statement}
