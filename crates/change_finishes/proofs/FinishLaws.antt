@@ -37,8 +37,8 @@ use Rattle.change_state.specs.declared.states.Tally.{Tally}
 use Rattle.change_blocks.specs.Replacing.{withBlockAt, Retallied, TallyAt, TallyBeside, BlockSet}
 use Rattle.change_blocks.proofs.TallyLaws.{count-most}
 use Rattle.change_blocks.proofs.StandingLaws.{block-there, block-within, set-there}
-use Rattle.change_flags.specs.Closing.{HasPartial, PartialBeside, Flushed}
-use Rattle.change_flags.proofs.FlushLaws.{flushed-partials}
+use Rattle.change_closing.specs.Closing.{HasPartial, PartialBeside, Flushed}
+use Rattle.change_closing.proofs.FlushLaws.{flushed-partials}
 use Rattle.change_finishes.specs.Finishing.{FinishAt, FinishBeside, FinishedInfo, BlockFinished}
 use Rattle.change_finishes.proofs.DoneLaws.{one-finished, set-partials-are, set-many, set-found, set-sound, flush-is, flush-rank}
 

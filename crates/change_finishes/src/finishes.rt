@@ -1,7 +1,7 @@
 // A block of a standing partial that is on disk now, and the flush that it can cause.
 use change_blocks::retally;
 use change_blocks::set_block;
-use change_flags::piece_flushed;
+use change_closing::piece_flushed;
 use change_returns::Given;
 use change_returns::is_done;
 use change_state::Tally;

@@ -20,7 +20,7 @@ use Rattle.memory_partials.proofs.RisingLaws.{live-some}
 use Rattle.memory_list.specs.Listings.{ListBounds, ListBefore, IsRankAt, ListBecame}
 use Rattle.change_steps.proofs.MendLaws.{mend-bounds, mend-before, mended}
 use Rattle.change_state.proofs.MoveLaws.{state-stored}
-use Rattle.change_flags.specs.Closing.{HasPartial, PartialBeside, without, Erased, ErasedAndUpdated}
+use Rattle.change_closing.specs.Closing.{HasPartial, PartialBeside, without, Erased, ErasedAndUpdated}
 
 -- a partial is counted
 pub some-partial : (s : Shape) (i : ℕ) (words cells : List ℕ) → PartialBeside s i words cells → 0 < headWord words 7

@@ -24,7 +24,7 @@ use Rattle.memory_layout.proofs.stores.ListFrames.{ranks-kept, list-kept-again}
 use Rattle.memory_fields.specs.Storing.{StoredBeside}
 use Rattle.memory_list.proofs.Moving.{InRange, range-piece, range-flushed, ranges-held, ranks-right}
 use Rattle.change_steps.proofs.FieldLaws.{cells-range}
-use Rattle.change_flags.specs.Closing.{without, Erased, Flushed}
+use Rattle.change_closing.specs.Closing.{without, Erased, Flushed}
 
 -- ---- in the picker
 -- a picker with the same pieces, seeds, partials and list

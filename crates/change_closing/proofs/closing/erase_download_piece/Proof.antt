@@ -1,9 +1,9 @@
 -- `erase_download_piece` meets its contract: one partial less is counted, then the state stored. Assumes nothing.
 use native.Mathlib.Omega.{arith}
 use borrow.Author.Needs.{needs}
-use Rattle.change_flags.proofs.ErasingLaws.{some-partial, erased}
-use Rattle.change_flags.proofs.closing.erase_download_piece.Statement.{statement}
-use Rattle.change_flags.proofs.closing.erase_download_piece.Tie as tie
+use Rattle.change_closing.proofs.ErasingLaws.{some-partial, erased}
+use Rattle.change_closing.proofs.closing.erase_download_piece.Statement.{statement}
+use Rattle.change_closing.proofs.closing.erase_download_piece.Tie as tie
 
 drop-partial-requires : tie.Need-drop-partial-requires
 drop-partial-requires c κs =

@@ -1,10 +1,10 @@
 -- `piece_flushed` meets its contract: the partial is closed, flushed stored, a cursor at the piece moved on. Assumes nothing.
 use borrow.Author.Needs.{needs}
 use Rattle.memory_layout.proofs.StandingLaws.{cells-span-kept}
-use Rattle.change_flags.proofs.ErasingLaws.{erased-spans}
-use Rattle.change_flags.proofs.FlushLaws.{flushed}
-use Rattle.change_flags.proofs.closing.piece_flushed.Statement.{statement}
-use Rattle.change_flags.proofs.closing.piece_flushed.Tie as tie
+use Rattle.change_closing.proofs.ErasingLaws.{erased-spans}
+use Rattle.change_closing.proofs.FlushLaws.{flushed}
+use Rattle.change_closing.proofs.closing.piece_flushed.Statement.{statement}
+use Rattle.change_closing.proofs.closing.piece_flushed.Tie as tie
 
 erase-download-piece-requires : tie.Need-erase-download-piece-requires
 erase-download-piece-requires c κs = c .before .before .before .before .pre

@@ -1,8 +1,8 @@
 -- `erase_and_update` meets its contract: the partial is closed, then the list mended. Assumes nothing.
 use borrow.Author.Needs.{needs}
-use Rattle.change_flags.proofs.ErasingLaws.{erased-asks, erased-mended}
-use Rattle.change_flags.proofs.closing.erase_and_update.Statement.{statement}
-use Rattle.change_flags.proofs.closing.erase_and_update.Tie as tie
+use Rattle.change_closing.proofs.ErasingLaws.{erased-asks, erased-mended}
+use Rattle.change_closing.proofs.closing.erase_and_update.Statement.{statement}
+use Rattle.change_closing.proofs.closing.erase_and_update.Tie as tie
 
 rank-at-requires : tie.Need-rank-at-requires
 rank-at-requires c κs =

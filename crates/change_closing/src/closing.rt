@@ -10,7 +10,7 @@ use memory_partials::drop_partial;
 use types::DownloadQueue;
 ghost use Prim.Native.Nat.{_≤_, _<_};
 ghost use lib.ListN.{length};
-ghost use Rattle.change_flags.specs.Closing.{PartialBeside, Erased, ErasedAndUpdated, Flushed};
+ghost use Rattle.change_closing.specs.Closing.{PartialBeside, Erased, ErasedAndUpdated, Flushed};
 
 // The partial gone and its piece Open; the list is not mended.
 pub fn erase_download_piece(words: &mut [u64], cells: &mut [u16], s: Shape, i: usize)
