@@ -1,10 +1,10 @@
 -- `mark_first` meets its contract. Assumes nothing.
 use mathlib.Core.Path.{refl}
 use Rattle.change_blocks.proofs.SetLaws.{put-places}
-use Rattle.change_opening.proofs.FirstLaws.{first-beside, first-tally, first-left, first-set}
+use Rattle.change_first_mark.proofs.FirstLaws.{first-beside, first-tally, first-left, first-set}
 use borrow.Author.Needs.{needs}
-use Rattle.change_opening.proofs.marks.mark_first.Statement.{statement}
-use Rattle.change_opening.proofs.marks.mark_first.Tie as tie
+use Rattle.change_first_mark.proofs.marks.mark_first.Statement.{statement}
+use Rattle.change_first_mark.proofs.marks.mark_first.Tie as tie
 
 u32-to-usize-requires : tie.Need-u32-to-usize-requires
 u32-to-usize-requires c κs = search needs

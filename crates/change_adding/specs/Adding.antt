@@ -16,10 +16,10 @@ use Rattle.memory_records.specs.Rows.{recordsIn}
 use Rattle.memory_layout.specs.declared.shape.Shape.{Shape}
 use Rattle.memory_layout.specs.Decode.{headWord, recordAt, decode}
 use Rattle.memory_layout.specs.Changes.{partialIn}
-use Rattle.change_steps.specs.Working.{Works, Went, Goes}
+use Rattle.change_steps.specs.Working.{Works, Went}
 use Rattle.change_state.specs.declared.states.Tally.{Tally}
 use Rattle.change_state.specs.Numbers.{IsTally}
-use Rattle.change_opening.specs.declared.adding.Opening.{Opening}
+use Rattle.change_adding.specs.declared.adding.Opening.{Opening}
 
 -- the numbers of a piece just opened that has so many blocks, of which `payload` hold more than pad bytes
 pub record FreshTallied (many payload : ℕ) (t : Tally) : Type 0 where
@@ -57,7 +57,3 @@ pub record Added (s : Shape) (step : Drawing → Drawing) (i live : ℕ) (rows w
       → Went s step records words cells used (edited live (Insert (r .partial)) records) words′ cells′ (r .used)
   pub held : (records : List Record) → Vacant s i live rows records words cells
       → Held i (r .partial .«info_idx») (r .tally) (edited live (Insert (r .partial)) records) words′ cells′
-
--- a step that draws nothing, with whichever records stand beside, which stay
-pub record Undrawn (s : Shape) (step : Drawing → Drawing) (words cells words′ cells′ : List ℕ) : Type 0 where
-  pub goes : (used : ℕ) → Goes s step words cells used words′ cells′ used

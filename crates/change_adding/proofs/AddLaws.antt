@@ -32,8 +32,8 @@ use Rattle.change_steps.proofs.WorkLaws.{went-then, went-named}
 use Rattle.change_steps.proofs.BesideLaws.{SameList, beside-went}
 use Rattle.change_state.specs.declared.states.Tally.{Tally}
 use Rattle.change_state.specs.Numbers.{IsTally, StateUpdated}
-use Rattle.change_opening.specs.declared.adding.Opening.{Opening}
-use Rattle.change_opening.specs.Adding.{FreshTallied, Vacant, VacantBeside, Held, Added}
+use Rattle.change_adding.specs.declared.adding.Opening.{Opening}
+use Rattle.change_adding.specs.Adding.{FreshTallied, Vacant, VacantBeside, Held, Added}
 use Rattle.change_state.proofs.KeptLaws.{SamePartials, update-same}
 
 -- ---- what is asked

@@ -1,9 +1,9 @@
 -- `fresh_tally` meets its contract. Assumes nothing.
 use mathlib.Core.Path.{refl}
 use native.Mathlib.Omega.{arith}
-use Rattle.change_opening.proofs.FreshTallies.{fresh-tallied}
-use Rattle.change_opening.proofs.adding.fresh_tally.Statement.{statement}
-use Rattle.change_opening.proofs.adding.fresh_tally.Tie as tie
+use Rattle.change_adding.proofs.FreshTallies.{fresh-tallied}
+use Rattle.change_adding.proofs.adding.fresh_tally.Statement.{statement}
+use Rattle.change_adding.proofs.adding.fresh_tally.Tie as tie
 
 cast-t3 : tie.Need-cast-t3
 cast-t3 c = omega (arith, c .pre .1)

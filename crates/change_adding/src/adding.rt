@@ -10,7 +10,7 @@ ghost use mathlib.Core.Path.{_≡_};
 ghost use Prim.Native.Nat.{_≤_, _<_};
 ghost use lib.ListN.{length};
 ghost use Rattle.model.specs.change.Partials.{addDownloadPiece};
-ghost use Rattle.change_opening.specs.Adding.{FreshTallied, VacantBeside, Added};
+ghost use Rattle.change_adding.specs.Adding.{FreshTallied, VacantBeside, Added};
 
 // A piece opened: the record of its partial, the numbers of the partial's blocks, and the number of the next draw.
 pub struct Opening {

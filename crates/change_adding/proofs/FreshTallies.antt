@@ -12,7 +12,7 @@ use Rattle.model.specs.change.Partials.{freshBlock, freshPartial, blocksInState
 use Rattle.model.proofs.base.Counts.{length-from}
 use Rattle.model.proofs.sound.PieceLaws.{size-each}
 use Rattle.change_state.specs.declared.states.Tally.{Tally}
-use Rattle.change_opening.specs.Adding.{FreshTallied}
+use Rattle.change_adding.specs.Adding.{FreshTallied}
 
 -- a fresh block is free where it holds more than pad bytes, and never requested
 fresh-free : (payload j : ℕ) → bit (sameBlockState (freshBlock payload j .state) None) ≡ bit (ltb j payload)

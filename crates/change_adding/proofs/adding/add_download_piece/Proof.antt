@@ -1,10 +1,10 @@
 -- `add_download_piece` meets its contract. Assumes nothing.
 use mathlib.Core.Path.{refl}
 use Rattle.memory_partials.proofs.AddLaws.{bounds-shape}
-use Rattle.change_opening.proofs.AddLaws.{rows-bounds, fresh-fits, add-beside, add-done}
+use Rattle.change_adding.proofs.AddLaws.{rows-bounds, fresh-fits, add-beside, add-done}
 use borrow.Author.Needs.{needs}
-use Rattle.change_opening.proofs.adding.add_download_piece.Statement.{statement}
-use Rattle.change_opening.proofs.adding.add_download_piece.Tie as tie
+use Rattle.change_adding.proofs.adding.add_download_piece.Statement.{statement}
+use Rattle.change_adding.proofs.adding.add_download_piece.Tie as tie
 
 blocks-in-piece-requires : tie.Need-blocks-in-piece-requires
 blocks-in-piece-requires c κs =

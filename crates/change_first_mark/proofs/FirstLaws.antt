@@ -31,10 +31,10 @@ use Rattle.change_steps.proofs.WorkLaws.{went-nowhere, went-named}
 use Rattle.change_state.specs.declared.states.Tally.{Tally}
 use Rattle.change_blocks.specs.Replacing.{Retallied, PartialAt, PartialBeside, BlockSet}
 use Rattle.change_blocks.proofs.TallyLaws.{busy-counts, requested-counts}
-use Rattle.change_opening.specs.declared.adding.Opening.{Opening}
-use Rattle.change_opening.specs.declared.marks.Marked.{Marked}
-use Rattle.change_opening.specs.Adding.{Held}
-use Rattle.change_opening.specs.Marking.{HeldBeside, FirstMarked}
+use Rattle.change_adding.specs.declared.adding.Opening.{Opening}
+use Rattle.change_adding.specs.Adding.{Held}
+use Rattle.change_first_mark.specs.declared.marks.Marked.{Marked}
+use Rattle.change_first_mark.specs.Marking.{HeldBeside, FirstMarked}
 
 -- ---- the definition, by the number of the block's state
 module _ (draws : Draws) (i : ℕ) (d : DownloadingPiece) (j : ℕ) (b : Block) (w : Drawing) where
