@@ -1,8 +1,8 @@
 -- `turn_cursors` meets its contract. Assumes nothing.
 use borrow.Author.Needs.{needs}
-use Rattle.change_priority.proofs.StepLaws.{cursors-left, cursors-moved}
-use Rattle.change_priority.proofs.steps.turn_cursors.Statement.{statement}
-use Rattle.change_priority.proofs.steps.turn_cursors.Tie as tie
+use Rattle.change_filter.proofs.FilterLaws.{cursors-left, cursors-moved}
+use Rattle.change_filter.proofs.filters.turn_cursors.Statement.{statement}
+use Rattle.change_filter.proofs.filters.turn_cursors.Tie as tie
 
 flushed-requires : tie.Need-flushed-requires
 flushed-requires c κs =

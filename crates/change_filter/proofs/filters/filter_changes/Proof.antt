@@ -1,7 +1,7 @@
 -- `filter_changes` meets its contract. Assumes nothing.
-use Rattle.change_priority.proofs.StepLaws.{filter-from, filter-to}
-use Rattle.change_priority.proofs.steps.filter_changes.Statement.{statement}
-use Rattle.change_priority.proofs.steps.filter_changes.Tie as tie
+use Rattle.change_filter.proofs.FilterLaws.{filter-from, filter-to}
+use Rattle.change_filter.proofs.filters.filter_changes.Statement.{statement}
+use Rattle.change_filter.proofs.filters.filter_changes.Tie as tie
 
 returns : tie.Need-returns
 returns c = filter-from (c .before .args .old) (c .before .args .new) (c .if1 .taken)
