@@ -1,4 +1,2 @@
-pub mod ErasingLaws
-pub mod FlushLaws
 pub mod RowEdits
 pub mod PassLaws

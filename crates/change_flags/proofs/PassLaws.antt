@@ -32,9 +32,9 @@ use Rattle.memory_counts.specs.Counted.{CountSays}
 use Rattle.change_steps.proofs.MendLaws.{went-changed}
 use Rattle.change_steps.proofs.RoomLaws.{keep-room, replace-room}
 use Rattle.change_tally.specs.RowsStanding.{RowsStand}
-use Rattle.change_flags.specs.Closing.{without, Flushed}
+use Rattle.change_closing.specs.Closing.{without, Flushed}
+use Rattle.change_closing.proofs.FlushLaws.{flushed-partials}
 use Rattle.change_flags.specs.Flagging.{RowsChanged, EditAlone}
-use Rattle.change_flags.proofs.FlushLaws.{flushed-partials}
 use Rattle.change_flags.proofs.RowEdits.{rows-live, rows-kept, low, found-is, has-partial, row-is, rows-flagged, rows-closed}
 
 -- ---- locked

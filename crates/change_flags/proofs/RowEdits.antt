@@ -34,7 +34,7 @@ use Rattle.memory_partials.proofs.RecordLaws.{without-each}
 use Rattle.memory_partials.proofs.RisingLaws.{held-piece, held-each}
 use Rattle.memory_rows.specs.Lookup.{LiveRows, FoundIn}
 use Rattle.change_steps.proofs.MendLaws.{stands-works}
-use Rattle.change_flags.specs.Closing.{HasPartial, without}
+use Rattle.change_closing.specs.Closing.{HasPartial, without}
 use Rattle.change_flags.specs.Flagging.{RowsChanged}
 
 module _ (s : Shape) (live : ℕ) (rows words cells : List ℕ) (g : Stands s (recordsIn live rows) words cells)

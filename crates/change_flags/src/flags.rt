@@ -1,5 +1,5 @@
 // The flags of a piece's partial, which the rows name: locked, or passed and flushed at once where every block is on disk.
-use crate::closing::piece_flushed;
+use change_closing::piece_flushed;
 use memory_counts::finished;
 use memory_layout::Shape;
 use memory_partials::with_flags;

@@ -23,7 +23,7 @@ use Rattle.change_steps.proofs.WorkLaws.{went-named}
 use Rattle.change_state.specs.declared.states.Tally.{Tally}
 use Rattle.change_blocks.specs.Replacing.{Retallied, TallyAt, TallyBeside, BlockSet}
 use Rattle.change_blocks.proofs.StandingLaws.{set-there}
-use Rattle.change_flags.specs.Closing.{HasPartial, PartialBeside, ErasedAndUpdated}
+use Rattle.change_closing.specs.Closing.{HasPartial, PartialBeside, ErasedAndUpdated}
 use Rattle.change_returns.specs.Giving.{closing}
 
 -- the definition's `freeBlock` of block j, which becomes x, with whichever records stand beside, once their one edit is made

@@ -30,9 +30,10 @@ use Rattle.change_tally.specs.declared.standing.Standing.{Standing}
 use Rattle.change_tally.specs.Tallied.{StandsIn}
 use Rattle.change_tally.specs.RowsStanding.{RowsStand}
 use Rattle.change_returns.proofs.WholeLaws.{partial-found, flags-here, finished-here, tally-here}
-use Rattle.change_marking.specs.declared.answers.Marked.{Marked}
-use Rattle.change_marking.specs.Marking.{RequestBeside, Marks}
-use Rattle.change_marking.specs.Finishing.{FinishAt, FinishBeside}
+use Rattle.change_receipts.specs.declared.answers.Marked.{Marked}
+use Rattle.change_receipts.specs.Marking.{Marks}
+use Rattle.change_requests.specs.Requesting.{RequestBeside}
+use Rattle.change_finishes.specs.Finishing.{FinishAt, FinishBeside}
 use Rattle.change_vacant.specs.Marks.{MarkDone}
 
 module _ (s : Shape) (live : ℕ) (rows counts words cells : List ℕ) (g : RowsStand s live rows counts words cells) (i : ℕ) where

@@ -1,5 +1,5 @@
 // A block asked for.
-use change_marking::request_block;
+use change_requests::request_block;
 use change_tally::standing_in;
 use change_vacant::Marking;
 use change_vacant::first_state;

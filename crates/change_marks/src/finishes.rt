@@ -1,5 +1,5 @@
 // A block on disk.
-use change_marking::finish_block;
+use change_finishes::finish_block;
 use change_returns::Given;
 use change_tally::standing_in;
 use change_vacant::open_arrived;

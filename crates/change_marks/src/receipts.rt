@@ -1,5 +1,5 @@
 // A block brought.
-use change_marking::write_block;
+use change_receipts::write_block;
 use change_tally::standing_in;
 use change_vacant::Marking;
 use change_vacant::open_arrived;

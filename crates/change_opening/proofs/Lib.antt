@@ -1,6 +1,3 @@
-pub mod FreshTallies
 pub mod StepLaws
-pub mod AddLaws
 pub mod OpenLaws
-pub mod FirstLaws
 pub mod MarkLaws

@@ -16,10 +16,11 @@ use Rattle.memory_layout.proofs.Parts.{blocks-of-same}
 use Rattle.memory_blocks.specs.declared.info.BlockInfo.{BlockInfo}
 use Rattle.memory_blocks.specs.Blocks.{blockOf}
 use Rattle.change_steps.proofs.WorkLaws.{went-then, went-named}
-use Rattle.change_opening.specs.declared.adding.Opening.{Opening}
-use Rattle.change_opening.specs.declared.marks.Marked.{Marked}
-use Rattle.change_opening.specs.Adding.{VacantBeside, Added}
-use Rattle.change_opening.specs.Marking.{HeldBeside, FirstMarked, OpeningMarked}
+use Rattle.change_adding.specs.declared.adding.Opening.{Opening}
+use Rattle.change_adding.specs.Adding.{VacantBeside, Added}
+use Rattle.change_first_mark.specs.declared.marks.Marked.{Marked}
+use Rattle.change_first_mark.specs.Marking.{HeldBeside, FirstMarked}
+use Rattle.change_opening.specs.Marking.{OpeningMarked}
 use Rattle.change_opening.proofs.StepLaws.{opened-draws}
 
 module _ (s : Shape) (draws : Draws) (i : ℕ) (q : DownloadQueue) (affinity : Bool) (live : ℕ) (rows words cells : List ℕ) (used : ℕ)

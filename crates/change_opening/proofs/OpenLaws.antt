@@ -22,11 +22,12 @@ use Rattle.memory_fields.specs.Storing.{StoredBeside}
 use Rattle.change_steps.specs.Working.{WorksBeside, Went, Goes}
 use Rattle.change_steps.proofs.WorkLaws.{went-nowhere, went-then, went-named}
 use Rattle.change_steps.proofs.BesideLaws.{SameList, beside-went}
-use Rattle.change_opening.specs.declared.adding.Opening.{Opening}
-use Rattle.change_opening.specs.Adding.{Vacant, VacantBeside, Added, Undrawn}
 use Rattle.change_state.proofs.KeptLaws.{state-same}
+use Rattle.change_adding.specs.declared.adding.Opening.{Opening}
+use Rattle.change_adding.specs.Adding.{Vacant, VacantBeside, Added}
+use Rattle.change_adding.proofs.AddLaws.{step-draws, vacant-still}
+use Rattle.change_opening.specs.Opening.{Undrawn}
 use Rattle.change_opening.proofs.StepLaws.{record-same}
-use Rattle.change_opening.proofs.AddLaws.{step-draws, vacant-still}
 
 -- ---- the extent
 -- a piece has a block

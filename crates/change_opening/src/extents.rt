@@ -6,7 +6,7 @@ ghost use Rattle.model.specs.Lists.{when};
 ghost use Rattle.model.specs.list.Order.{noDraw};
 ghost use Rattle.model.specs.change.Changes.{recordDownloadingPiece};
 ghost use Rattle.change_steps.specs.Working.{WorksBeside};
-ghost use Rattle.change_opening.specs.Adding.{Undrawn};
+ghost use Rattle.change_opening.specs.Opening.{Undrawn};
 
 // It is recorded where affinity is asked.
 pub fn record_if_asked(words: &mut [u64], cells: &[u16], s: Shape, i: usize, affinity: bool)

@@ -1,7 +1,7 @@
 // A piece opened.
-use crate::adding::Opening;
-use crate::adding::add_download_piece;
 use crate::extents::record_if_asked;
+use change_adding::Opening;
+use change_adding::add_download_piece;
 use change_state::set_state;
 use memory_layout::Shape;
 use types::DownloadQueue;
@@ -9,7 +9,7 @@ ghost use mathlib.Core.Path.{_≡_};
 ghost use Prim.Native.Nat.{_<_};
 ghost use lib.ListN.{length};
 ghost use Rattle.model.specs.change.Changes.{opened};
-ghost use Rattle.change_opening.specs.Adding.{VacantBeside, Added};
+ghost use Rattle.change_adding.specs.Adding.{VacantBeside, Added};
 
 // First in state q. At most two draws are used.
 pub fn open_piece(

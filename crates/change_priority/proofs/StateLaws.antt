@@ -39,7 +39,8 @@ use Rattle.change_state.specs.declared.states.Tally.{Tally}
 use Rattle.change_state.specs.Numbers.{IsTally, StateUpdated}
 use Rattle.change_tally.specs.Tallied.{TalliesBeside, Tallied}
 use Rattle.change_tally.specs.RowsStanding.{RowsStand}
-use Rattle.change_priority.specs.Steps.{cursorsTurned, priorityListed, priorityStored, TalliesAt, TalliedAt}
+use Rattle.change_filter.specs.Turning.{cursorsTurned}
+use Rattle.change_priority.specs.Steps.{priorityListed, priorityStored, TalliesAt, TalliedAt}
 use Rattle.change_priority.specs.Saying.{Said}
 use Rattle.change_priority.proofs.StepLaws.{listed-partial}
 

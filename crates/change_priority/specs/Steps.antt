@@ -1,26 +1,22 @@
 -- The steps of a new priority, and the numbers of a partial that its last one looks at. Assumes nothing.
 use Prim.Native.Nat.{ℕ}
 use mathlib.Core.Path.{_≡_}
-use mathlib.Core.Bool.{Bool, not, _&&_}
+use mathlib.Core.Bool.{Bool}
 use mathlib.Core.List.{List}
 use mathlib.Core.Option.{some}
-use Rattle.model.specs.Lists.{when, unless}
+use Rattle.model.specs.Lists.{unless}
 use Rattle.model.specs.State.{DownloadingPiece, isOpen, pieceAt, withPiece, withPriority}
-use Rattle.model.specs.list.Order.{Draws, Drawing, noDraw, changeAndUpdate}
+use Rattle.model.specs.list.Order.{Draws, Drawing, changeAndUpdate}
 use Rattle.model.specs.change.Partials.{partialOf, updatePieceState}
-use Rattle.model.specs.change.Changes.{cursorsOnFilter}
 use Rattle.memory_layout.specs.declared.shape.Shape.{Shape}
 use Rattle.change_tally.specs.RowsStanding.{RowsStand}
 use Rattle.check_partials.specs.Records.{CountsHeld}
 use Rattle.memory_rows.specs.Lookup.{LiveRows, pickerIn}
 use Rattle.change_state.specs.declared.states.Tally.{Tally}
 use Rattle.change_state.specs.Numbers.{IsTally}
+use Rattle.change_filter.specs.Turning.{cursorsTurned}
 
--- the cursors, where the priority turns from or to 0 and the piece is not flushed
-unfoldable pub cursorsTurned : (i priority : ℕ) (turned : Bool) (w : Drawing) → Drawing
-cursorsTurned i priority turned w = when (turned && not (pieceAt (w .picker) i .flushed)) (noDraw (cursorsOnFilter i priority)) w
-
--- then the priority and the list
+-- the cursors, then the priority and the list
 unfoldable pub priorityListed : (draws : Draws) (i priority : ℕ) (turned : Bool) (w : Drawing) → Drawing
 priorityListed draws i priority turned w =
     changeAndUpdate draws i (withPiece i (withPriority priority)) (cursorsTurned i priority turned w)

@@ -1,6 +1,6 @@
 // A piece's priority set, with the state of its partial after it.
-use crate::steps::filter_changes;
 use crate::steps::list_priority;
+use change_filter::filter_changes;
 use change_state::Tally;
 use change_state::update_piece_state;
 use change_tally::tally_of;

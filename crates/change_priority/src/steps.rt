@@ -1,44 +1,16 @@
 // The steps of a new priority that do not look at the partials.
-use change_cursors::cursors_on_filter;
-use memory_fields::flushed;
+use change_filter::turn_cursors;
 use memory_layout::Shape;
 use memory_ranks::rank_at;
 use memory_update::update;
-ghost use mathlib.Core.Path.{_≡_};
-ghost use mathlib.Core.Bool.{not};
 ghost use Prim.Native.Nat.{_≤_, _<_};
-ghost use lib.Dec.{eqb};
 ghost use lib.ListN.{length};
-ghost use Rattle.model.specs.Lists.{bit};
 ghost use Rattle.model.specs.State.{maxPriority, withPiece, withPriority};
 ghost use Rattle.model.specs.list.Order.{changeAndUpdate};
 ghost use Rattle.memory_layout.specs.Standing.{StandsBeside};
 ghost use Rattle.change_steps.specs.Working.{WorksBeside, Goes};
 ghost use Rattle.change_steps.specs.Whole.{Begins};
-ghost use Rattle.change_priority.specs.Steps.{cursorsTurned, priorityListed};
-
-// The priority turns from or to 0.
-pub fn filter_changes(old: u16, new: u16) -> bool
-    ensures { λ r. ⌜ r ≡ not (eqb (bit (eqb new 0)) (bit (eqb old 0))) ⌝ }
-{
-    if old == 0 {
-        return new != 0;
-    }
-    new == 0
-}
-
-// Where the priority turns from or to 0 and the piece is not flushed, the cursors see to it.
-fn turn_cursors(words: &mut [u64], cells: &[u16], s: Shape, i: usize, priority: u16, turned: bool)
-    requires { ⌜ StandsBeside s (now words) (now cells) ⌝ }
-    requires { ⌜ i < s .pieces ⌝ }
-    ensures { λ _. ⌜ Begins s (cursorsTurned i priority turned) (now (words .entry)) (now (cells .entry))
-        (now (words .exit)) (now (cells .entry)) 0 ⌝ }
-{
-    if turned & !flushed(cells, s, i) {
-        cursors_on_filter(words, cells, s, i, priority);
-        return;
-    }
-}
+ghost use Rattle.change_priority.specs.Steps.{priorityListed};
 
 // The priority stored, and the list mended. Answers the number of the next draw.
 fn set_priority(

@@ -1,5 +1,5 @@
 // A partial closed by the last of its blocks that is at work.
-use change_flags::erase_and_update;
+use change_closing::erase_and_update;
 use change_state::Tally;
 use memory_layout::Shape;
 use memory_records::Edit;
@@ -9,7 +9,7 @@ ghost use mathlib.Core.Bool.{not, _&&_};
 ghost use Prim.Native.Nat.{_<_};
 ghost use lib.Dec.{eqb};
 ghost use Rattle.memory_records.specs.declared.edits.Edit.the-variants.{Remove};
-ghost use Rattle.change_flags.specs.Closing.{PartialBeside, ErasedAndUpdated};
+ghost use Rattle.change_closing.specs.Closing.{PartialBeside, ErasedAndUpdated};
 
 // What becomes of the records, and the number of the next draw.
 pub struct Given {

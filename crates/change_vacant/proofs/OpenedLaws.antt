@@ -24,8 +24,8 @@ use Rattle.memory_layout.proofs.EditedRecords.{decode-live, stands-live, change
 use Rattle.memory_blocks.specs.declared.info.BlockInfo.{BlockInfo}
 use Rattle.memory_blocks.specs.Blocks.{blockOf}
 use Rattle.change_steps.proofs.MendLaws.{stands-works, went-changed}
-use Rattle.change_opening.specs.declared.marks.Marked.{Marked}
-use Rattle.change_opening.specs.Adding.{Vacant, VacantBeside}
+use Rattle.change_adding.specs.Adding.{Vacant, VacantBeside}
+use Rattle.change_first_mark.specs.declared.marks.Marked.{Marked}
 use Rattle.change_opening.specs.Marking.{OpeningMarked}
 use Rattle.change_vacant.specs.Marks.{RowsVacant, MarkDone}
 

@@ -4,7 +4,7 @@ use native.Mathlib.Omega.{arith}
 use borrow.Author.Needs.{needs}
 use Rattle.types.specs.Peer.{namedPeer}
 use Rattle.model.specs.change.Changes.{markFinishedIn, markAsFinished}
-use Rattle.change_marking.specs.Finishing.{FinishAt}
+use Rattle.change_finishes.specs.Finishing.{FinishAt}
 use Rattle.change_returns.proofs.WholeLaws.{standing-asks, whole-found}
 use Rattle.change_vacant.proofs.VacantLaws.{rows-vacant, finished-opened}
 use Rattle.change_marks.proofs.WholeLaws.{finish-here, finish-beside}

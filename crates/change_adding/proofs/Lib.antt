@@ -1,0 +1,2 @@
+pub mod FreshTallies
+pub mod AddLaws

@@ -1,0 +1,2 @@
+pub mod ErasingLaws
+pub mod FlushLaws

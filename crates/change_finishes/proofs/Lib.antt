@@ -1,0 +1,2 @@
+pub mod DoneLaws
+pub mod FinishLaws
