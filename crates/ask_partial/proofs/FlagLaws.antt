@@ -11,7 +11,7 @@ use lib.ListN.{getD}
 use Rattle.model.specs.Bep3.{bitOf}
 use Rattle.model.specs.State.{DownloadingPiece, pieceAt}
 use Rattle.model.specs.change.Partials.{partialOf}
-use Rattle.model.specs.ask.Questions.{ofPartial, flag, nothing, havePiece, passedIn, hashingIn}
+use Rattle.model.specs.ask.Questions.{ofPartial, flag, havePiece, passedIn, hashingIn}
 use Rattle.memory_records.specs.declared.record.DownloadingPiece.{DownloadingPiece as Record}
 use Rattle.memory_records.specs.declared.search.Found.the-variants.{At, Nothing as Missing}
 use Rattle.memory_records.specs.Rows.{rowAt, recordsIn}

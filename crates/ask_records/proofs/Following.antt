@@ -8,7 +8,7 @@ use native.Mathlib.Omega.{arith}
 use borrow.Author.Tests.{eqb-true}
 use lib.Dec.{eqb}
 use Rattle.model.specs.Lists.{nth, every, concatMap}
-use Rattle.model.specs.ask.Questions.{Reply, numbers, staleList}
+use Rattle.model.specs.ask.Questions.{numbers, staleList}
 use Rattle.model.proofs.base.Truths.{both-true}
 use Rattle.memory_layout.specs.Tables.{tabulate}
 use Rattle.memory_layout.specs.Decode.{yes?, peerFrom}

@@ -1,17 +1,16 @@
 -- What `specs/Writing.antt` means, bit by bit: for the reader, and for a caller to cite.
-use mathlib.Core.Path.{_≡_, refl, ap, sym, _∙_, fun-ext}
+use mathlib.Core.Path.{_≡_, ap, sym, _∙_, fun-ext}
 use mathlib.Core.Bool.{Bool, true, false, _&&_}
 use mathlib.Core.List.{List}
-use Prim.Native.Nat.{ℕ, zero, suc, _+_, _*_, _≤_, _<_}
-use native.Mathlib.Decide.{ℕ-discrete, decLt}
+use Prim.Native.Nat.{ℕ, _+_, _*_, _≤_, _<_}
+use native.Mathlib.Decide.{decLt}
 use native.Mathlib.Omega.{arith}
-use lib.Dec.{ltb, eqb}
+use lib.Dec.{ltb}
 use lib.ListN.{length, getD}
-use borrow.Author.Tests.{lt-ltb, le-ltb, eq-eqb, ne-eqb}
+use borrow.Author.Tests.{lt-ltb, le-ltb}
 use Rattle.model.specs.Bep3.{bitfieldBytes, bitAt, spareZero}
 use Rattle.model.proofs.base.Bep3Laws.{bitfieldBytes-room, bitAt-past, spareZero-all}
 use Rattle.bitfield_writes.specs.Writing.{digits, putRun, putBit, filled}
-use Rattle.model.specs.Lists.{bit}
 use Rattle.bitfield_writes.proofs.ByteLaws.{Bytes, byte-is, at-byte}
 use Rattle.bitfield_writes.proofs.RunLaws.{length-putRun, putRun-bytes, run-in, run-low, run-high}
 

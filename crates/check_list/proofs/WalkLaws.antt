@@ -1,5 +1,5 @@
 -- Places of the list passed one after another: one more, four more, and what that decides. Assumes nothing.
-use mathlib.Core.Path.{_≡_, refl, sym, subst, _∙_}
+use mathlib.Core.Path.{_≡_, refl, subst, _∙_}
 use mathlib.Core.Bool.{Bool, true, false}
 use mathlib.Core.Logic.{_≢_}
 use mathlib.Core.List.{List}
@@ -10,7 +10,7 @@ use Rattle.memory_layout.specs.declared.shape.Shape.{Shape}
 use Rattle.memory_layout.specs.Decode.{headWord}
 use Rattle.memory_layout.specs.Bounds.{WordColumn}
 use Rattle.check_pieces.specs.Parts.{HeadPassed}
-use Rattle.check_list.specs.Places.{Stepped, Further, Reached, AllPass, OneFails, Decided, FourPassed, RestPassed}
+use Rattle.check_list.specs.Places.{Stepped, Reached, OneFails, Decided, FourPassed, RestPassed}
 use Rattle.check_list.specs.Answers.{PlaceTest}
 use Rattle.check_list.proofs.ListTests.{Listing, listing-start, step-bad, step-next, places-end}
 

@@ -15,7 +15,7 @@ use Rattle.memory_records.specs.declared.record.DownloadingPiece.{DownloadingPi
 use Rattle.memory_layout.specs.declared.shape.Shape.{Shape}
 use Rattle.memory_layout.specs.Offsets.{placesFor}
 use Rattle.memory_layout.specs.Decode.{headWord, piecesOn, decode}
-use Rattle.memory_layout.specs.Bounds.{ShapeOf, WordsSpan}
+use Rattle.memory_layout.specs.Bounds.{ShapeOf}
 use Rattle.memory_layout.specs.Good.{headRaw, goodHead}
 use Rattle.memory_layout.proofs.ColumnLaws.{words-room}
 use Rattle.check_pieces.specs.Parts.{lengthsOk, rangesOk, HeadTest, HeadPassed}

@@ -1,10 +1,10 @@
 -- The cells of one piece: the tests on its state as tests on a number, what is wrong with them, and its rank by a product. Assumes nothing.
 use mathlib.Core.Path.{_≡_, refl, sym, ap, ap₂, _∙_}
-use mathlib.Core.Bool.{Bool, true, false, not, _&&_, _||_, and-true, and-false, and-assoc, and-comm}
+use mathlib.Core.Bool.{Bool, true, false, not, _&&_, _||_, and-true, and-false}
 use mathlib.Core.Logic.{_≢_}
-use Prim.Native.Nat.{ℕ, zero, suc, _+_, _-_, _*_, _%_, _≤_, _<_, min}
+use Prim.Native.Nat.{ℕ, zero, suc, _+_, _-_, _*_, _%_, _≤_, min}
 use native.Mathlib.Nat.{mul-assoc, mul-le-mul}
-use native.Mathlib.Decide.{ℕ-discrete, decLe}
+use native.Mathlib.Decide.{decLe}
 use native.Mathlib.Omega.{arith}
 use lib.Bits.{bitOr}
 use lib.Dec.{eqb, ltb, leb}
@@ -14,7 +14,7 @@ use Rattle.model.specs.list.Order.{unlisted, bucketNumber, bucket, rankOf}
 use Rattle.model.proofs.base.Truths.{both-true}
 use Rattle.memory_layout.specs.Decode.{queueFrom, yes?}
 use Rattle.memory_layout.proofs.Numbers.{queue-number}
-use Rattle.list_rank.specs.Ranks.{Numbers, adjustmentOf, unlistedBy}
+use Rattle.list_rank.specs.Ranks.{Numbers, adjustmentOf}
 use Rattle.list_rank.proofs.Ranking.{tests, product, taken-off, rank-none, rank-some}
 use Rattle.check_pieces.specs.declared.rows.Joined.{Joined}
 use Rattle.check_pieces.specs.Rows.{pieceFrom, rankFrom, cellsOk, wrongless, joinedOk, Ranked}

@@ -1,28 +1,23 @@
 -- A public answer written as a struct of numbers is what the struct says. Assumes nothing.
 use mathlib.Core.Path.{_≡_, refl, ap}
-use mathlib.Core.Bool.{Bool, true, false}
-use lib.Dec.{eqb}
+use mathlib.Core.Bool.{true, false}
 use Rattle.picker_calls.specs.declared.outcomes.Outcome.{Outcome}
 use Rattle.picker_calls.specs.declared.outcomes.Outcome.the-variants.{Refused, Done, Said}
 use Rattle.picker_answers.specs.declared.answers.NumberAnswer.{NumberAnswer}
 use Rattle.picker_answers.specs.declared.answers.NumberAnswer.the-variants.{Refused as NumberRefused, Replied as NumberReplied}
 use Rattle.picker_answers.specs.declared.answers.FlagAnswer.{FlagAnswer}
 use Rattle.picker_answers.specs.declared.answers.FlagAnswer.the-variants.{Refused as FlagRefused, Replied as FlagReplied}
-use Rattle.ask_places.specs.declared.Placed.{Placed}
 use Rattle.ask_places.specs.declared.Placed.the-variants.{Number, Nothing, Stale}
 use Rattle.picker_questions.specs.declared.answers.PlaceAnswer.{PlaceAnswer}
 use Rattle.picker_questions.specs.declared.answers.PlaceAnswer.the-variants.{Refused as PlaceRefused, Replied as PlaceReplied}
-use Rattle.ask_partial.specs.declared.flags.FlagOf.{FlagOf}
 use Rattle.ask_partial.specs.declared.flags.FlagOf.the-variants.{Flag, Nothing as NoFlag}
 use Rattle.picker_partial_questions.specs.declared.answers.PartialFlagAnswer.{PartialFlagAnswer}
 use Rattle.picker_partial_questions.specs.declared.answers.PartialFlagAnswer.the-variants.{Refused as PartialFlagRefused}
 use Rattle.picker_partial_questions.specs.declared.answers.PartialFlagAnswer.the-variants.{Replied as PartialFlagReplied}
-use Rattle.ask_block.specs.declared.states.NumberOf.{NumberOf}
 use Rattle.ask_block.specs.declared.states.NumberOf.the-variants.{Number as BlockNumber, Nothing as NoNumber}
 use Rattle.picker_block_questions.specs.declared.answers.BlockNumberAnswer.{BlockNumberAnswer}
 use Rattle.picker_block_questions.specs.declared.answers.BlockNumberAnswer.the-variants.{Refused as BlockNumberRefused}
 use Rattle.picker_block_questions.specs.declared.answers.BlockNumberAnswer.the-variants.{Replied as BlockNumberReplied}
-use Rattle.ask_block.specs.declared.peers.PeerOf.{PeerOf}
 use Rattle.ask_block.specs.declared.peers.PeerOf.the-variants.{Peer, NoPeer, Nothing as NoBlock}
 use Rattle.picker_block_questions.specs.declared.answers.PeerAnswer.{PeerAnswer}
 use Rattle.picker_block_questions.specs.declared.answers.PeerAnswer.the-variants.{Refused as PeerRefused, Replied as PeerReplied}

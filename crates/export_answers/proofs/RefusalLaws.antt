@@ -1,8 +1,7 @@
 -- A refusal's two numbers name it. Assumes nothing.
 use mathlib.Core.Path.{_≡_, refl, ap, _∙_}
 use Prim.Native.Nat.{ℕ}
-use mathlib.Core.Option.{Option, some}
-use lib.ListN.{getD}
+use mathlib.Core.Option.{some}
 use Rattle.types.specs.declared.refusal.Refusal.{Refusal}
 use Rattle.types.specs.declared.refusal.Refusal.the-variants.{Geometry, ShortMemory, IllFormedMemory, FewDraws, OutOfRange, TooManyPeers}
 use Rattle.types.specs.declared.refusal.Refusal.the-variants.{NoPeerToTake, HavePiece, NotWriting, TooManyPartials, PickArguments}

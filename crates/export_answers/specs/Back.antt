@@ -1,6 +1,5 @@
 -- What a struct of numbers says: the public answer that it is written for. The exports' contracts cite these. Assumes nothing.
-use Prim.Native.Nat.{ℕ}
-use mathlib.Core.Bool.{Bool, cond}
+use mathlib.Core.Bool.{cond}
 use lib.Dec.{eqb}
 use Rattle.picker_calls.specs.declared.outcomes.Outcome.{Outcome}
 use Rattle.picker_calls.specs.declared.outcomes.Outcome.the-variants.{Refused, Done, Said}

@@ -1,6 +1,6 @@
 -- A refusal in two numbers, and back. Assumes nothing.
 use Prim.Native.Nat.{ℕ}
-use mathlib.Core.List.{List, [], _∷_}
+use mathlib.Core.List.{[], _∷_}
 use mathlib.Core.Option.{Option, none, some}
 use lib.ListN.{getD}
 use Rattle.types.specs.declared.refusal.Refusal.{Refusal}

@@ -1,11 +1,8 @@
 -- What the public calls take, of the numbers that C gives. Assumes nothing.
-use mathlib.Core.Bool.{Bool}
 use lib.Dec.{ltb}
 use lib.IntN.{ℤ}
 use Rattle.types.specs.declared.piece.PieceIndex.{PieceIndex}
 use Rattle.types.specs.declared.piece.PieceBlock.{PieceBlock}
-use Rattle.types.specs.declared.options.PickerOptions.{PickerOptions}
-use Rattle.types.specs.declared.priority.DownloadPriority.{DownloadPriority}
 use Rattle.picker_flags.specs.declared.priorities.PiecePriority.{PiecePriority}
 use Rattle.picker_blocks.specs.declared.arguments.BlockPeer.{BlockPeer}
 use Rattle.picker_blocks.specs.declared.arguments.BlockRequest.{BlockRequest}

@@ -1,13 +1,13 @@
 -- What a picker and an image need: bounds, and the answers for a geometry that is valid and one that is not.
 use mathlib.Core.Path.{_≡_}
 use mathlib.Core.Bool.{true, false}
-use Prim.Native.Nat.{ℕ, _+_, _*_, _≤_}
+use Prim.Native.Nat.{ℕ, _*_, _≤_}
 use native.Mathlib.Nat.{mul-le-mul}
 use native.Mathlib.Omega.{arith}
 use Rattle.model.specs.Lists.{least}
 use Rattle.model.specs.Bep3.{numPieces, wholePieceBlocks}
 use Rattle.model.specs.State.{validGeometry}
-use Rattle.model.specs.Memory.{Memory, partialsNeeded, wordsNeeded, cellsNeeded, memoryFor}
+use Rattle.model.specs.Memory.{partialsNeeded, wordsNeeded, cellsNeeded, memoryFor}
 use Rattle.geometry.proofs.PartLaws.{least-le}
 use Rattle.geometry.proofs.ValidLaws.{bounds}
 use Rattle.geometry_needs.specs.Needs.{Small, Parts, largestImage, noMemory, memoryOf, Lengths, bytesFor}

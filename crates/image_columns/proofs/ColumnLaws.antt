@@ -1,5 +1,5 @@
 -- What columns laid one after another come to: the numbers of pieces and of blocks. Assumes nothing.
-use mathlib.Core.Path.{_≡_, refl, sym, ap, _∙_}
+use mathlib.Core.Path.{_≡_, sym, ap, _∙_}
 use mathlib.Core.Logic.{_⊎_, inl, inr, ⊎-elim}
 use mathlib.Core.List.{List}
 use Prim.Native.Nat.{ℕ, _+_, _-_, _*_, _≤_, _<_}
@@ -8,7 +8,7 @@ use lib.ListN.{length, getD}
 use Rattle.model.specs.Lists.{nth}
 use Rattle.model.specs.image.Image.{bodyLength, pieceKind, partialKind, blockKind, field}
 use Rattle.memory_layout.specs.declared.shape.Shape.{Shape}
-use Rattle.memory_layout.specs.Offsets.{cell, placesFor, pieceWordAt, pieceCellAt, peerAt, blockCellAt, wordsFor, cellsFor}
+use Rattle.memory_layout.specs.Offsets.{cell, placesFor, pieceWordAt, pieceCellAt, peerAt, blockCellAt, cellsFor}
 use Rattle.memory_layout.specs.Decode.{pieceWord, peerWord, pieceCell, blockCell}
 use Rattle.memory_layout.specs.Bounds.{Spans}
 use Rattle.memory_layout.proofs.OffsetLaws.{cell-below, peer-from, peer-below, peer-place, block-cell-from, block-cell-below}

@@ -1,26 +1,23 @@
 -- The parts of an image one after another. Assumes nothing.
-use mathlib.Core.Path.{_≡_, refl, sym, ap, ap₂, _∙_, subst}
-use mathlib.Core.Bool.{cond}
+use mathlib.Core.Path.{_≡_, sym, ap, ap₂, _∙_, subst}
 use mathlib.Core.List.{List, []}
-use Prim.Native.Nat.{ℕ, _≤_, _<_}
+use Prim.Native.Nat.{ℕ, _≤_}
 use native.Mathlib.Omega.{arith}
-use lib.ListN.{length, getD, drop}
-use Rattle.model.specs.Lists.{nth, len}
+use lib.ListN.{length, drop}
 use Rattle.model.specs.Bep3.{numPieces, wholePieceBlocks}
-use Rattle.model.specs.State.{Piece, DownloadingPiece, Picker, Listing, dirty, fresh, maxExtents, noPiece, withPieces, withPartials}
+use Rattle.model.specs.State.{Piece, DownloadingPiece, Picker, dirty, maxExtents, noPiece, withPieces, withPartials}
 use Rattle.model.specs.State.{withRecentExtents}
 use Rattle.model.specs.State.{withListing, pieceAt, piecesIn, blocksPerPiece, numExtents}
 use Rattle.model.specs.list.Order.{bucket, rankOf, rank}
-use Rattle.model.specs.image.Image.{headKind, Got, got, fault, ret, next, judged, readHead, getPieces, getPartials, getExtents, getListing}
+use Rattle.model.specs.image.Image.{headKind, Got, fault, ret, next, judged, readHead, getPieces, getPartials, getExtents, getListing}
 use Rattle.model.specs.image.Image.{getPicker}
-use Rattle.memory_layout.specs.Tables.{tabulate}
 use Rattle.memory_layout.proofs.TableLaws.{tabulate-len, tabulate-nth}
 use Rattle.image_pieces.specs.declared.head.Head.{Head}
 use Rattle.image_pieces.specs.declared.place.Place.{Place}
 use Rattle.image_pieces.specs.declared.place.Place.the-variants.{At, Fault}
-use Rattle.image_pieces.specs.Places.{Ended, Failed, Went}
-use Rattle.image_pieces.specs.Heads.{headPicker, Headed}
-use Rattle.image_pieces.specs.Pieces.{piecePlace, pieceIn, firstPieces, PieceRanked, PiecesStand, PiecesRead}
+use Rattle.image_pieces.specs.Places.{Ended, Went}
+use Rattle.image_pieces.specs.Heads.{headPicker}
+use Rattle.image_pieces.specs.Pieces.{piecePlace, pieceIn, firstPieces, PiecesStand, PiecesRead}
 use Rattle.image_pieces.proofs.NextLaws.{next-got, next-fault}
 use Rattle.image_pieces.proofs.HeadLaws.{HeadGot}
 use Rattle.image_partials.specs.Partials.{StatesStand, PartialsRead}

@@ -1,15 +1,14 @@
 -- The whole bytes: what is left over counts as a record, and its place is where it starts. Assumes nothing.
-use mathlib.Core.Path.{_≡_, refl, sym, ap, _∙_, subst}
-use mathlib.Core.List.{List, [], _∷_}
-use mathlib.Core.Option.{Option, none, some}
-use Prim.Native.Nat.{ℕ, suc, _+_, _-_, _≤_, _<_}
+use mathlib.Core.Path.{_≡_, sym, ap, _∙_, subst}
+use mathlib.Core.List.{List}
+use Prim.Native.Nat.{ℕ, _+_, _-_, _≤_, _<_}
 use native.Mathlib.Omega.{arith}
-use lib.ListN.{length, drop, getD, length-drop, drop-of-length-le}
+use lib.ListN.{length, drop, length-drop, drop-of-length-le}
 use lib.Seq.{drop-cons}
 use Rattle.model.specs.Lists.{nth, len}
-use Rattle.model.specs.State.{Picker, piecesIn}
+use Rattle.model.specs.State.{piecesIn}
 use Rattle.model.specs.pick.Blocks.{PickRequest}
-use Rattle.model.specs.image.Image.{bodyLength, pickKind, Got, got, fault, ret, next, judged, Read, accepted, faultAt, whole, getPicker}
+use Rattle.model.specs.image.Image.{bodyLength, pickKind, Got, got, fault, ret, next, judged, accepted, faultAt, whole, getPicker}
 use Rattle.model.specs.image.Image.{readImage}
 use Rattle.model.specs.image.Program.{readRequest, Job, getJob}
 use Rattle.image_records.specs.declared.pick.Pick.{Pick}
@@ -18,9 +17,8 @@ use Rattle.image_records.specs.Records.{pickNumbers, pickStep, PickJudged}
 use Rattle.image_records.proofs.FrontLaws.{judged-cases}
 use Rattle.image_pieces.specs.declared.place.Place.{Place}
 use Rattle.image_pieces.specs.declared.place.Place.the-variants.{At, Fault as FaultPlace}
-use Rattle.image_pieces.specs.Places.{Ended, Failed, Went}
+use Rattle.image_pieces.specs.Places.{Ended, Went}
 use Rattle.image_pieces.proofs.NextLaws.{next-got, next-fault}
-use Rattle.image_judge.specs.declared.whole.Verdict.{Verdict}
 use Rattle.image_judge.specs.declared.whole.Verdict.the-variants.{Accepted, Fault}
 use Rattle.image_judge.specs.declared.whole.JobRead.{JobRead}
 use Rattle.image_judge.specs.declared.whole.JobRead.the-variants.{Found, Fault as FaultJob}

@@ -1,32 +1,30 @@
 -- One partial: its state by the numbers of its blocks, and where its reader comes to. Assumes nothing.
-use mathlib.Core.Path.{_≡_, refl, sym, ap, _∙_}
-use mathlib.Core.Bool.{Bool, true, false, cond, _&&_, _||_}
+use mathlib.Core.Path.{_≡_, sym, ap, _∙_}
+use mathlib.Core.Bool.{Bool, true, false}
 use mathlib.Core.List.{List, []}
-use Prim.Native.Nat.{ℕ, suc, _+_, _*_, _-_, _/_, _%_, _≤_, _<_}
+use Prim.Native.Nat.{ℕ, _+_, _*_, _-_, _/_, _%_, _≤_}
 use native.Mathlib.Omega.{arith}
 use native.Mathlib.Decide.{decLe}
-use lib.Dec.{eqb, ltb, leb}
+use lib.Dec.{eqb, leb}
 use lib.ListN.{length, drop}
 use borrow.Author.Tests.{eq-eqb, ne-eqb, le-leb, lt-leb}
 use Rattle.types.specs.declared.queue.DownloadQueue.the-variants.{Open}
-use Rattle.types.specs.declared.block.BlockState.the-variants.{None, Requested}
-use Rattle.types.specs.Queue.{unreverse}
-use Rattle.model.specs.Lists.{bit, nth, len}
-use Rattle.model.specs.State.{Piece, Block, DownloadingPiece, Picker, sameQueue, blocksInPiece}
+use Rattle.types.specs.declared.block.BlockState.the-variants.{Requested}
+use Rattle.model.specs.Lists.{nth, len}
+use Rattle.model.specs.State.{Piece, Block, Picker, blocksInPiece}
 use Rattle.model.specs.change.Partials.{blocksInState, progress, inDirection, newState}
 use Rattle.model.specs.image.WellFormed.{stateOk}
-use Rattle.model.specs.image.Image.{bodyLength, partialKind, Got, got, fault, ret, next, judged, allFlags, readPartial, getBlocks}
+use Rattle.model.specs.image.Image.{bodyLength, partialKind, Got, fault, ret, next, judged, allFlags, readPartial, getBlocks}
 use Rattle.model.specs.image.Image.{partialWith}
 use Rattle.model.specs.image.Image.{getPartial}
 use Rattle.memory_layout.specs.Decode.{queueFrom}
 use Rattle.check_partials.specs.Rows.{dueBy, stateBy}
 use Rattle.image_records.proofs.FoundLaws.{NumberGot, flags-most}
 use Rattle.image_pieces.specs.declared.place.Place.the-variants.{At, Fault}
-use Rattle.image_pieces.specs.Places.{Ended, Failed, Went}
+use Rattle.image_pieces.specs.Places.{Went}
 use Rattle.image_pieces.proofs.NextLaws.{next-got, next-fault}
 use Rattle.image_pass.specs.declared.tally.Tally.{Tally}
 use Rattle.image_pass.specs.Blocks.{inState, Tallied, leftBlocks, BlocksStand, BlockFails}
-use Rattle.image_partials.specs.Partials.{PartialJudged}
 
 -- ---- the state
 hashing-is : (flags : ℕ) → flags ≤ allFlags → eqb (flags / 4 % 2) 1 ≡ leb 4 flags

@@ -1,8 +1,8 @@
 -- The walk over the pieces, each with its partial if it is not Open. Assumes nothing.
 use mathlib.Core.Path.{_≡_, refl, sym, ap, _∙_, subst}
-use mathlib.Core.Bool.{Bool, true, false}
+use mathlib.Core.Bool.{true, false}
 use mathlib.Core.List.{List, [], _∷_, _++_, append-assoc, append-nil}
-use Prim.Native.Nat.{ℕ, suc, _+_, _*_, _-_, _≤_, _<_}
+use Prim.Native.Nat.{ℕ, suc, _+_, _-_, _≤_, _<_}
 use native.Mathlib.Omega.{arith}
 use lib.Dec.{eqb}
 use lib.ListN.{length, take, drop}
@@ -11,10 +11,9 @@ use borrow.Author.Tests.{eq-eqb, ne-eqb}
 use Rattle.model.specs.Lists.{nth}
 use Rattle.model.specs.Bep3.{numPieces, pieceBlocks}
 use Rattle.model.specs.State.{Piece, DownloadingPiece, sameQueue, isOpen, blocksInPiece}
-use Rattle.model.specs.image.Image.{bodyLength, pieceKind, Got, got, fault, ret, next, field, lastQueue, pieceOf, getPartial, getPartials}
+use Rattle.model.specs.image.Image.{bodyLength, Got, got, fault, ret, next, field, lastQueue, pieceOf, getPartial, getPartials}
 use Rattle.model.proofs.base.Bep3Laws.{blocksInPiece-pos, blocksInPiece-le}
 use Rattle.model.proofs.image.Parts.{open-read, shut-read}
-use Rattle.geometry.specs.Numbers.{Bounds}
 use Rattle.geometry.proofs.ValidLaws.{bounds}
 use Rattle.memory_layout.specs.Tables.{tabulate}
 use Rattle.memory_layout.specs.Decode.{queueFrom}
@@ -26,13 +25,13 @@ use Rattle.image_records.specs.Records.{bodyAt}
 use Rattle.image_pieces.specs.declared.head.Head.{Head}
 use Rattle.image_pieces.specs.declared.place.Place.{Place}
 use Rattle.image_pieces.specs.declared.place.Place.the-variants.{At, Fault}
-use Rattle.image_pieces.specs.Places.{Ended, Failed, Went}
+use Rattle.image_pieces.specs.Places.{Went}
 use Rattle.image_pieces.specs.Heads.{headPicker, Headed}
 use Rattle.image_pieces.specs.Pieces.{piecePlace, pieceBody, pieceIn, firstPieces}
 use Rattle.image_pieces.proofs.NextLaws.{next-got, next-fault, next-start}
 use Rattle.image_pieces.proofs.HeadLaws.{head-valid}
 use Rattle.image_partials.specs.declared.partials.Walk.{Walk}
-use Rattle.image_partials.specs.Partials.{StatesStand, partialsFrom, Passed, StepFails, PartialJudged}
+use Rattle.image_partials.specs.Partials.{partialsFrom, Passed, StepFails, PartialJudged}
 
 -- ---- a piece's fields, read again
 -- field k of piece i

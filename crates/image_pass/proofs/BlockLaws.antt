@@ -2,7 +2,6 @@
 use mathlib.Core.Path.{_≡_, refl, sym, ap, _∙_}
 use mathlib.Core.Bool.{Bool, true, false, cond}
 use mathlib.Core.List.{List, [], _∷_, _++_}
-use mathlib.Core.Option.{Option, none, some}
 use Prim.Native.Nat.{ℕ, zero, suc, _+_, _*_, _-_, _≤_, _<_}
 use native.Mathlib.Omega.{arith}
 use lib.Dec.{eqb}
@@ -19,7 +18,6 @@ use Rattle.model.proofs.image.Bytes.{size-append}
 use Rattle.image_records.specs.declared.block.Block.{Block as Numbers}
 use Rattle.image_records.specs.Records.{blockNumbers}
 use Rattle.image_records.proofs.FoundLaws.{BlockGot, judged-under, judged-over}
-use Rattle.image_pieces.specs.Places.{Failed}
 use Rattle.image_pieces.proofs.NextLaws.{next-got, next-fault}
 use Rattle.image_pass.specs.declared.tally.Tally.{Tally}
 use Rattle.image_pass.specs.Blocks.{inState, Tallied, leftBlocks, BlocksStand, BlockFails}

@@ -2,15 +2,14 @@
 use mathlib.Core.Path.{_≡_, refl, sym, ap, _∙_}
 use mathlib.Core.Bool.{Bool, true, false, cond, _&&_}
 use mathlib.Core.List.{List, []}
-use mathlib.Core.Option.{Option, none, some}
-use Prim.Native.Nat.{ℕ, _+_, _≤_}
+use Prim.Native.Nat.{ℕ, _≤_}
 use native.Mathlib.Omega.{arith}
 use lib.Dec.{eqb, leb}
-use lib.ListN.{length, drop}
+use lib.ListN.{drop}
 use borrow.Author.Tests.{leb-true}
 use Rattle.model.specs.Lists.{nth}
 use Rattle.model.specs.Bep3.{numPieces}
-use Rattle.model.specs.State.{Picker, Listing, dirty, fresh, maxPeers, maxPieces, maxPieceSize, isDirty, validGeometry}
+use Rattle.model.specs.State.{Picker, dirty, fresh, maxPeers, maxPieces, maxPieceSize, isDirty, validGeometry}
 use Rattle.model.specs.image.WellFormed.{headOk}
 use Rattle.model.specs.image.Image.{bodyLength, headKind, Got, got, fault, startsWith, judged, field, obeying, headOf, readHead}
 use Rattle.model.proofs.image.Codec.{obeying-back}
@@ -19,7 +18,6 @@ use Rattle.image_records.specs.Records.{bodyAt, Body}
 use Rattle.image_records.proofs.FrontLaws.{judged-none, judged-found, judged-fault, judged-cases}
 use Rattle.image_records.proofs.RecordLaws.{obeys, breaks}
 use Rattle.image_pieces.specs.declared.head.Head.{Head}
-use Rattle.image_pieces.specs.declared.head.HeadRead.{HeadRead}
 use Rattle.image_pieces.specs.declared.head.HeadRead.the-variants.{Found, Fault}
 use Rattle.image_pieces.specs.Heads.{headTest, headNumbers, headStep, headPicker, Headed}
 

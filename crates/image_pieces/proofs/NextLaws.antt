@@ -1,5 +1,5 @@
 -- One reader after another: how they come apart. Assumes nothing.
-use mathlib.Core.Path.{_≡_, refl, sym, ap, _∙_}
+use mathlib.Core.Path.{_≡_, refl, sym, ap}
 use mathlib.Core.List.{List, [], _∷_, _++_, append-assoc}
 use Prim.Native.Nat.{ℕ}
 use Rattle.model.specs.image.Image.{Got, got, fault, Reader, ret, next}

@@ -2,8 +2,7 @@
 use mathlib.Core.Path.{_≡_, refl, sym, ap, _∙_}
 use mathlib.Core.Bool.{Bool, true, false, not, _&&_, _||_}
 use mathlib.Core.List.{List}
-use mathlib.Core.Option.{Option, none, some}
-use Prim.Native.Nat.{ℕ, _+_, _≤_, _<_}
+use Prim.Native.Nat.{ℕ, _+_, _≤_}
 use native.Mathlib.Omega.{arith}
 use lib.Dec.{eqb, leb}
 use lib.ListN.{length, drop}
@@ -25,7 +24,7 @@ use Rattle.image_records.proofs.FrontLaws.{judged-none, judged-found, judged-fa
 use Rattle.image_records.proofs.RecordLaws.{obeys, breaks}
 use Rattle.image_pieces.specs.declared.piece.Piece.{Piece}
 use Rattle.image_pieces.specs.declared.piece.PieceRead.the-variants.{Found, Fault}
-use Rattle.image_pieces.specs.Pieces.{pieceTest, pieceNumbers, pieceStep, PieceJudged}
+use Rattle.image_pieces.specs.Pieces.{pieceTest, pieceNumbers, pieceStep}
 
 -- ---- the tests in another order
 pub piece-test : (count state priority flushed pad seeds long : ℕ)

@@ -1,17 +1,16 @@
 -- What a caller learns from a reader's answer. Assumes nothing.
-use mathlib.Core.Path.{_≡_, refl, sym, ap, _∙_}
-use mathlib.Core.Bool.{Bool, true, false, cond, _&&_}
+use mathlib.Core.Path.{_≡_, refl, ap, _∙_}
+use mathlib.Core.Bool.{Bool, true, false}
 use mathlib.Core.List.{List}
 use mathlib.Core.Option.{Option, none, some}
 use Prim.Native.Nat.{ℕ, suc, _+_, _≤_}
 use native.Mathlib.Omega.{arith}
-use lib.Dec.{eqb, ltb, leb}
+use lib.Dec.{eqb, leb}
 use lib.ListN.{length, take, drop}
 use borrow.Author.Tests.{leb-true}
-use Rattle.types.specs.Block.{blockStateNumber}
 use Rattle.model.specs.Lists.{nth}
 use Rattle.model.specs.State.{Block as BlockRecord}
-use Rattle.model.specs.image.Image.{bodyLength, partialKind, blockKind, Got, got, fault, startsWith, given, judged, field, obeying}
+use Rattle.model.specs.image.Image.{bodyLength, partialKind, blockKind, Got, got, fault, startsWith, given, judged, field}
 use Rattle.model.specs.image.Image.{allFlags, readBlock}
 use Rattle.model.specs.image.Image.{readPartial}
 use Rattle.model.proofs.image.Codec.{obeying-back}
@@ -19,7 +18,7 @@ use Rattle.model.proofs.base.Truths.{both-true}
 use Rattle.image_records.specs.declared.block.Block.{Block}
 use Rattle.image_records.specs.declared.block.BlockRead.the-variants.{Found as FoundBlock, Fault as FaultBlock}
 use Rattle.image_records.specs.declared.number.NumberRead.the-variants.{Found as FoundNumber, Fault as FaultNumber}
-use Rattle.image_records.specs.Records.{bodyAt, numberIn, numberStep, blockNumbers, blockStep}
+use Rattle.image_records.specs.Records.{bodyAt, numberStep, blockNumbers, blockStep}
 use Rattle.image_records.proofs.FrontLaws.{judged-cases}
 
 -- ---- one number

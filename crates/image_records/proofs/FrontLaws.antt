@@ -1,6 +1,6 @@
 -- A record at a place of the bytes: when it stands there, what its reader finds, and where what is left starts. Assumes nothing.
 use mathlib.Core.Path.{_≡_, refl, sym, ap, _∙_}
-use mathlib.Core.Bool.{Bool, true, false, _&&_, and-true}
+use mathlib.Core.Bool.{true, false, _&&_, and-true}
 use mathlib.Core.List.{List, [], _∷_}
 use mathlib.Core.Option.{Option, none, some}
 use Prim.Native.Nat.{ℕ, zero, suc, _+_, _-_, _≤_, _<_}
@@ -11,8 +11,8 @@ use lib.ListN.{length, take, drop, getD, length-drop, drop-of-length-le}
 use lib.Seq.{drop-cons, drop-drop, length-take-le}
 use borrow.Author.Tests.{eq-eqb, ne-eqb, lt-ltb, le-ltb, le-leb, lt-leb, leb-true}
 use Rattle.model.specs.Lists.{len, every}
-use Rattle.model.specs.image.Image.{bodyLength, Got, got, fault, startsWith, given, judged, obeying, comes, field}
-use Rattle.model.proofs.base.Truths.{both, both-true, by-test}
+use Rattle.model.specs.image.Image.{bodyLength, got, fault, startsWith, given, judged, comes, field}
+use Rattle.model.proofs.base.Truths.{both-true, by-test}
 use Rattle.image_bytes.specs.Put.{FieldRead}
 use Rattle.image_bytes.proofs.FieldLaws.{field-inside}
 use Rattle.image_records.specs.Records.{bodyAt, Body}

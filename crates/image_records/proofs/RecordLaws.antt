@@ -2,7 +2,7 @@
 use mathlib.Core.Path.{_≡_, refl, sym, ap, _∙_}
 use mathlib.Core.Bool.{Bool, true, false, cond, _&&_, and-true, and-assoc}
 use mathlib.Core.List.{List}
-use mathlib.Core.Option.{Option, none, some}
+use mathlib.Core.Option.{none, some}
 use Prim.Native.Nat.{ℕ, _^_, _<_}
 use native.Mathlib.Omega.{arith}
 use native.Mathlib.Decide.{ℕ-discrete}
@@ -10,17 +10,15 @@ use lib.Dec.{eqb, ltb, leb}
 use lib.ListN.{drop}
 use borrow.Author.Tests.{eq-eqb, ne-eqb, lt-ltb, leb-true, eqb-true}
 use Rattle.types.specs.Block.{blockStateNumber}
-use Rattle.model.specs.Lists.{nth}
 use Rattle.model.specs.State.{maxPeers, maxPartials, hasPeer}
 use Rattle.model.specs.image.WellFormed.{blockOk, peerOk}
-use Rattle.model.specs.image.Image.{bodyLength, partialKind, blockKind, pickKind, startsWith, judged, field, obeying, lastBlockState}
+use Rattle.model.specs.image.Image.{partialKind, blockKind, pickKind, startsWith, judged, field, obeying, lastBlockState}
 use Rattle.model.specs.image.Image.{allFlags}
 use Rattle.model.specs.image.Image.{peerFits, peerOf, blockOf, readBlock, readPartial}
 use Rattle.model.specs.image.Program.{requestOf, readRequest}
 use Rattle.model.proofs.base.Truths.{both-true}
 use Rattle.memory_layout.specs.Decode.{stateFrom}
 use Rattle.memory_layout.proofs.Numbers.{state-number}
-use Rattle.image_records.specs.declared.block.Block.{Block}
 use Rattle.image_records.specs.declared.block.BlockRead.the-variants.{Found as FoundBlock, Fault as FaultBlock}
 use Rattle.image_records.specs.declared.number.NumberRead.the-variants.{Found as FoundNumber, Fault as FaultNumber}
 use Rattle.image_records.specs.declared.pick.PickRead.the-variants.{Found as FoundPick, Fault as FaultPick}

@@ -1,6 +1,6 @@
 -- The extents of an image: a pass over those before, and one turn of the pass over all. Assumes nothing.
 use mathlib.Core.Path.{_≡_, refl, sym, ap, _∙_}
-use mathlib.Core.Bool.{Bool, true, false, cond, not, _&&_, _||_}
+use mathlib.Core.Bool.{Bool, true, false, not, _&&_, _||_}
 use mathlib.Core.List.{List, [], _∷_, _++_}
 use mathlib.Core.Option.{Option, none, some}
 use Prim.Native.Nat.{ℕ, suc, _+_, _*_, _-_, _≤_, _<_}
@@ -13,7 +13,7 @@ use borrow.Author.Tests.{eq-eqb, ne-eqb, lt-ltb, le-ltb, le-leb, lt-leb}
 use Rattle.model.specs.Lists.{nth, len, any, member}
 use Rattle.model.specs.State.{Picker, maxExtents, piecesIn, blocksPerPiece, numExtents}
 use Rattle.model.specs.image.WellFormed.{extentOk}
-use Rattle.model.specs.image.Image.{bodyLength, extentKind, Got, got, fault, ret, next, given, judged, field, obeying, readExtent, comes}
+use Rattle.model.specs.image.Image.{bodyLength, extentKind, got, fault, next, given, judged, field, obeying, readExtent, comes}
 use Rattle.model.specs.image.Image.{getExtents}
 use Rattle.model.proofs.image.Parts.{extents-end, extents-full, extents-more}
 use Rattle.memory_layout.specs.Tables.{tabulate}
@@ -24,7 +24,7 @@ use Rattle.image_bytes.proofs.FieldLaws.{field-inside}
 use Rattle.image_records.specs.Records.{bodyAt, numberIn}
 use Rattle.image_records.proofs.FoundLaws.{NumberGot, judged-under, judged-over}
 use Rattle.image_pieces.specs.declared.place.Place.the-variants.{At, Fault}
-use Rattle.image_pieces.specs.Places.{Ended, Failed, Went}
+use Rattle.image_pieces.specs.Places.{Went}
 use Rattle.image_pieces.proofs.NextLaws.{next-got, next-fault}
 use Rattle.image_tail.specs.Extents.{extentAt, extentsBefore, ExtentsJudged}
 

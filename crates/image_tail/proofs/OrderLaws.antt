@@ -6,15 +6,15 @@ use mathlib.Core.Option.{Option}
 use Prim.Native.Nat.{ℕ, suc, _+_, _*_, _-_, _≤_, _<_}
 use native.Mathlib.Omega.{arith}
 use native.Mathlib.Decide.{ℕ-discrete, decLt}
-use lib.Dec.{eqb, ltb, leb}
-use lib.ListN.{length, getD, set, take, drop, length-set}
+use lib.Dec.{ltb, leb}
+use lib.ListN.{length, getD, set, take, drop}
 use lib.Seq.{getD-set-same, getD-set-other}
 use borrow.Author.Tests.{eq-eqb, ne-eqb, lt-ltb, le-ltb, le-leb, lt-leb, ltb-true, leb-true}
 use Rattle.model.specs.Lists.{len, count, from, member, any, lastOr}
-use Rattle.model.specs.State.{Picker, Listing, dirty, fresh, piecesIn}
+use Rattle.model.specs.State.{Picker, dirty, fresh, piecesIn}
 use Rattle.model.specs.list.Order.{rank, withBucket}
 use Rattle.model.specs.image.WellFormed.{placeOk}
-use Rattle.model.specs.image.Image.{bodyLength, placeKind, Got, got, fault, ret, next, startsWith, given, judged, field, obeying, readPlace}
+use Rattle.model.specs.image.Image.{bodyLength, placeKind, Got, fault, ret, next, startsWith, given, judged, field, obeying, readPlace}
 use Rattle.model.specs.image.Image.{getOrder}
 use Rattle.model.specs.image.Image.{getListing}
 use Rattle.model.proofs.base.Counts.{length-filter}
@@ -24,11 +24,11 @@ use Rattle.check_list.specs.Places.{rankedIn}
 use Rattle.check_list.proofs.ListTests.{leftOf}
 use Rattle.image_pieces.specs.declared.place.Place.{Place}
 use Rattle.image_pieces.specs.declared.place.Place.the-variants.{At, Fault}
-use Rattle.image_pieces.specs.Places.{Ended, Failed, Went}
+use Rattle.image_pieces.specs.Places.{Went}
 use Rattle.image_pieces.proofs.NextLaws.{next-got, next-fault}
 use Rattle.image_tail.specs.declared.order.PlaceRank.{PlaceRank}
 use Rattle.image_tail.specs.declared.order.PlaceRank.the-variants.{Rank, Fault as NoPlace}
-use Rattle.image_tail.specs.Order.{placeIn, placeBy, PlaceGot, Found, Taken, RanksOf, OrderJudged, ListingJudged}
+use Rattle.image_tail.specs.Order.{placeIn, placeBy, Found, Taken, RanksOf, OrderJudged, ListingJudged}
 
 -- a reader of bodies that gives the same is judged the same
 judged-same : {A : Type 0} (kind : ℕ) (read other : List ℕ → Option A) → ((body : List ℕ) → read body ≡ other body) → (bs : List ℕ)

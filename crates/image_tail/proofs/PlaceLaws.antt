@@ -1,19 +1,18 @@
 -- One place of the list, judged by the ranks that are left. Assumes nothing.
-use mathlib.Core.Path.{_≡_, refl, sym, ap, _∙_}
-use mathlib.Core.Bool.{Bool, true, false, _&&_, and-false}
+use mathlib.Core.Path.{_≡_, refl, ap, _∙_}
+use mathlib.Core.Bool.{true, false, and-false}
 use mathlib.Core.List.{List}
-use mathlib.Core.Option.{Option, none, some}
-use Prim.Native.Nat.{ℕ, suc, _+_, _≤_, _<_}
+use Prim.Native.Nat.{ℕ, _≤_, _<_}
 use native.Mathlib.Omega.{arith}
-use lib.Dec.{ltb, leb}
-use lib.ListN.{length, getD, set, drop, length-set}
+use lib.Dec.{ltb}
+use lib.ListN.{getD, set, drop, length-set}
 use borrow.Author.Tests.{lt-ltb, le-ltb, le-leb, lt-leb}
 use Rattle.model.specs.Lists.{nth}
-use Rattle.model.specs.image.Image.{bodyLength, placeKind, Got, got, fault, judged, field, obeying}
+use Rattle.model.specs.image.Image.{bodyLength, placeKind, fault, judged}
 use Rattle.image_records.specs.Records.{numberIn}
 use Rattle.image_records.proofs.FoundLaws.{NumberGot}
 use Rattle.image_tail.specs.declared.order.PlaceRank.the-variants.{Rank, Fault}
-use Rattle.image_tail.specs.Order.{placeIn, placeBy, PlaceGot, Found, Taken}
+use Rattle.image_tail.specs.Order.{placeIn, placeBy, Found, Taken}
 use Rattle.image_tail.proofs.ExtentLaws.{ruled, ruled-found, ruled-breaks, ruled-fault}
 
 module _ (n last at : ℕ) (bytes entry : List ℕ) where

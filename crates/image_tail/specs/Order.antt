@@ -6,7 +6,7 @@ use mathlib.Core.List.{List, []}
 use mathlib.Core.Option.{Option}
 use lib.Dec.{ltb, leb}
 use lib.ListN.{length, getD, set, drop}
-use Rattle.model.specs.State.{Picker, Listing, dirty, fresh, piecesIn}
+use Rattle.model.specs.State.{Picker, dirty, fresh, piecesIn}
 use Rattle.model.specs.list.Order.{rank}
 use Rattle.model.specs.image.Image.{placeKind, got, fault, judged, field, obeying, getOrder, getListing}
 use Rattle.image_pieces.specs.declared.place.Place.{Place}

@@ -1,5 +1,4 @@
 -- What the numbers of a lent request and of an answer are to the pick itself. Assumes nothing.
-use Rattle.types.specs.declared.options.PickerOptions.{PickerOptions}
 use Rattle.pick_state.specs.declared.request.PickRequest.{PickRequest}
 use Rattle.pick_pieces.specs.declared.pieces.Picked.{Picked}
 use Rattle.link_pick.specs.declared.Request.{Request}

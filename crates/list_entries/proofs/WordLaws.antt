@@ -1,6 +1,6 @@
 -- Laws of list words: what a word holds, and that words up to the highest of a rank are those of that rank and of lower ones.
 -- Assumes nothing.
-use Prim.Native.Nat.{ℕ, suc, _+_, _*_, _-_, _/_, _%_, _≤_, _<_}
+use Prim.Native.Nat.{ℕ, _+_, _-_, _%_, _≤_, _<_}
 use mathlib.Core.Path.{_≡_}
 use native.Mathlib.Omega.{arith}
 use lib.Arith.{digits-div, digits-mod}

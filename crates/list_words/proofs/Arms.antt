@@ -1,14 +1,12 @@
 -- Each arm of `update`: what it leaves is `updated` on the pieces of the words, with the new ranks beside them. Assumes nothing.
 use mathlib.Core.Path.{_≡_, refl, sym, ap, fun-ext, _∙_}
 use mathlib.Core.Logic.{_≢_}
-use mathlib.Core.Bool.{true, false}
 use mathlib.Core.List.{List, _++_, map}
-use Prim.Native.Nat.{ℕ, suc, _+_, _*_, _-_, _≤_, _<_}
-use native.Mathlib.Numerals.{add-one}
+use Prim.Native.Nat.{ℕ, suc, _+_, _-_, _≤_, _<_}
 use native.Mathlib.Decide.{decLe, ℕ-discrete}
 use native.Mathlib.Omega.{arith}
-use lib.Dec.{eqb, ltb}
-use lib.ListN.{length, getD, set, take, drop, length-map, length-set, take-append-drop, List·getD-map}
+use lib.Dec.{eqb}
+use lib.ListN.{length, getD, set, take, drop, length-map, take-append-drop, List·getD-map}
 use lib.Seq.{length-take-le, set-set, set-getD, map-set-same, take-set-le, drop-set-lt}
 use borrow.Author.Tests.{eq-eqb, ne-eqb}
 use Rattle.model.specs.Lists.{bit, count, placeOf, setNth}
@@ -18,7 +16,7 @@ use Rattle.model.proofs.list.GroupTurns.{count-removed, length-placed, length-r
 use Rattle.model.proofs.list.GroupRise.{Rising, rising-is}
 use Rattle.model.proofs.list.GroupMoves.{count-added, changed-kept}
 use Rattle.model.proofs.list.ListedMoves.{keys-same}
-use Rattle.list_entries.specs.Words.{listedPiece, listedRank, listWord, piecesOf, RanksIn}
+use Rattle.list_entries.specs.Words.{listedPiece, listedRank, listWord, RanksIn}
 use Rattle.list_groups.specs.Places.{Rises}
 use Rattle.list_entries.proofs.WordLaws.{piece-of-word, rank-of-word}
 use Rattle.list_words.specs.Updating.{former, Ready, IsUpdated, Updates}

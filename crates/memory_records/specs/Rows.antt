@@ -1,5 +1,5 @@
 -- The live records as rows of numbers: three columns of 512, the piece, the place of its blocks, the flags. Assumes nothing.
-use mathlib.Core.Bool.{Bool, cond}
+use mathlib.Core.Bool.{cond}
 use Prim.Native.Nat.{ℕ, zero, suc, _+_}
 use lib.Dec.{ltb}
 use mathlib.Core.List.{List, [], _∷_}

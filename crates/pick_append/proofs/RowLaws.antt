@@ -1,11 +1,11 @@
 -- Places gathered in a row: those below k that pass a test, and the rest of them still to come. Assumes nothing.
-use mathlib.Core.Path.{_≡_, refl, sym, ap, ap₂, _∙_}
+use mathlib.Core.Path.{_≡_, sym, ap, _∙_}
 use mathlib.Core.Bool.{Bool, true, false, cond}
 use mathlib.Core.List.{List, [], _∷_, _++_, append-assoc, append-nil}
-use Prim.Native.Nat.{ℕ, zero, suc, _+_, _-_, _≤_, _<_}
+use Prim.Native.Nat.{ℕ, _+_, _-_, _≤_, _<_}
 use native.Mathlib.Numerals.{add-one}
 use native.Mathlib.Omega.{arith}
-use lib.ListN.{length, set, take, length-set}
+use lib.ListN.{length, set, take}
 use lib.Seq.{take-set-le, take-suc-set}
 use Rattle.model.specs.Lists.{bit, from, range, filter}
 use Rattle.pick_state.proofs.RangeLaws.{range-next, range-none, range-all}

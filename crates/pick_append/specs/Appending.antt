@@ -8,7 +8,7 @@ use Rattle.model.specs.Lists.{each}
 use Rattle.model.specs.State.{Picker}
 use Rattle.model.specs.pick.Blocks.{appendBlocks}
 use Rattle.pick_state.specs.declared.numbers.PickNumbers.{PickNumbers}
-use Rattle.pick_state.specs.PickStates.{blockFrom, blocksBetween, Did}
+use Rattle.pick_state.specs.PickStates.{blockFrom, blocksBetween}
 use Rattle.pick_state.specs.Room.{Worked}
 
 -- the first n stand behind place `at`, and nothing else moved

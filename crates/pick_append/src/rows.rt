@@ -1,7 +1,7 @@
 // Places gathered in a local row.
 ghost use mathlib.Core.Path.{_≡_};
 ghost use Prim.Native.Nat.{_+_, _<_};
-ghost use lib.ListN.{length, set};
+ghost use lib.ListN.{set};
 ghost use Rattle.model.specs.Lists.{bit};
 
 // Place k behind the n that the row has, where it is kept: how many it has then. There is no branch: a place that is not kept is written

@@ -2,8 +2,8 @@
 use mathlib.Core.Path.{_≡_, refl, sym, ap, _∙_}
 use mathlib.Core.Bool.{Bool, true, false, _||_}
 use mathlib.Core.List.{List}
-use mathlib.Core.Option.{Option, none, some}
-use Prim.Native.Nat.{ℕ, _+_, _≤_, _<_}
+use mathlib.Core.Option.{none, some}
+use Prim.Native.Nat.{ℕ, _+_, _≤_}
 use native.Mathlib.Omega.{arith}
 use borrow.Author.Tests.{eq-eqb, ne-eqb}
 use lib.Dec.{eqb}
@@ -21,7 +21,7 @@ use Rattle.memory_records.specs.Rows.{recordsIn}
 use Rattle.memory_layout.specs.declared.shape.Shape.{Shape}
 use Rattle.memory_rows.specs.Lookup.{pickerIn}
 use Rattle.pick_state.specs.declared.numbers.PickNumbers.{PickNumbers}
-use Rattle.pick_state.specs.PickStates.{contiguousOf, stateOf, OutKept}
+use Rattle.pick_state.specs.PickStates.{contiguousOf, stateOf}
 use Rattle.pick_state.specs.declared.request.PickRequest.{PickRequest as Request}
 use Rattle.pick_state.specs.Room.{Underway, Worked}
 use Rattle.pick_state.proofs.RoomLaws.{working-small, working-marks, working-room, working-aside}

@@ -6,7 +6,6 @@ use pick_partial::add_blocks_downloading;
 use pick_state::PickNumbers;
 use pick_state::PickRequest;
 use types::PickerOptions;
-ghost use mathlib.Core.Path.{_≡_};
 ghost use Prim.Native.Nat.{_<_};
 ghost use Rattle.model.specs.pick.Blocks.{addStanding};
 ghost use Rattle.memory_rows.specs.Lookup.{pickerIn};

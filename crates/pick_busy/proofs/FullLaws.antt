@@ -1,17 +1,16 @@
 -- The Full pieces that a peer has, by the rows. Assumes nothing.
-use mathlib.Core.Path.{_≡_, refl, sym, ap, ap₂, _∙_}
+use mathlib.Core.Path.{_≡_, sym, ap, ap₂, _∙_}
 use mathlib.Core.Bool.{Bool, _&&_}
 use mathlib.Core.List.{List}
-use Prim.Native.Nat.{ℕ, _+_, _≤_, _<_, min}
+use Prim.Native.Nat.{ℕ, _+_, _≤_, _<_}
 use native.Mathlib.Omega.{arith}
 use lib.Dec.{eqb}
 use lib.ListN.{length, getD, set, take, length-take, length-set}
 use lib.Seq.{take-take, take-all, getD-take, length-take-le}
 use Rattle.types.specs.declared.queue.DownloadQueue.the-variants.{Full}
 use Rattle.types.specs.Queue.{queueNumber}
-use Rattle.model.specs.Lists.{bit, from, each, filter, len}
+use Rattle.model.specs.Lists.{bit, from, each, filter}
 use Rattle.model.specs.State.{DownloadingPiece, sameQueue}
-use Rattle.model.specs.change.Partials.{inQueue}
 use Rattle.model.specs.pick.Blocks.{hasBit}
 use Rattle.model.specs.pick.Pick.{fullPartials}
 use Rattle.memory_layout.specs.declared.shape.Shape.{Shape}
@@ -24,7 +23,7 @@ use Rattle.memory_queues.proofs.StandLaws.{held-is}
 use Rattle.pick_state.specs.declared.request.PickRequest.{PickRequest}
 use Rattle.pick_state.specs.Requests.{requestOf}
 use Rattle.pick_append.proofs.RowLaws.{Gathered, gather-next, gather-end}
-use Rattle.pick_busy.specs.Full.{PlacesIn, FullRow}
+use Rattle.pick_busy.specs.Full.{FullRow}
 use Rattle.pick_busy.proofs.ListLaws.{filter-below, filter-both, filter-low, each-filter, each-take}
 
 -- partial k is Full and the peer has it, by its row

@@ -1,8 +1,7 @@
 -- The walk over recent extents: the pieces of one, whether they are all flushed, and what is left of the walk. Assumes nothing.
-use mathlib.Core.Path.{_≡_, refl, sym, ap, ap₂, subst, _∙_}
+use mathlib.Core.Path.{_≡_, refl, sym, ap, _∙_}
 use mathlib.Core.Bool.{Bool, true, false, cond, not, _&&_}
 use mathlib.Core.List.{List, [], _∷_, _++_}
-use mathlib.Core.Option.{Option, none, some}
 use Prim.Native.Nat.{ℕ, zero, suc, _+_, _-_, _≤_, _<_}
 use native.Mathlib.Nat.{le-of-suc-le-suc, not-suc-le-zero}
 use native.Mathlib.Omega.{arith}
@@ -33,7 +32,7 @@ use Rattle.pick_state.proofs.RangeLaws.{range-next, range-none, range-all}
 use Rattle.pick_extents.specs.declared.ExtentWalk.{ExtentWalk as Numbers}
 use Rattle.pick_blocks.specs.Blocks.{PieceRoom}
 use Rattle.pick_visits.specs.Steps.{SteppedBeside}
-use Rattle.pick_extents.specs.Extents.{finishedAt, walkOf, ExtentsDid, ExtentsBeside, FoundBelow, firstWalk, walkedExtents}
+use Rattle.pick_extents.specs.Extents.{finishedAt, walkOf, ExtentsBeside, FoundBelow, firstWalk, walkedExtents}
 
 -- ---- all flushed
 -- what is left of the range from `first` up to `end` is the range from i on

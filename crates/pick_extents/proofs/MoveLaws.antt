@@ -2,21 +2,20 @@
 use mathlib.Core.Path.{_≡_, refl, sym, ap, subst, _∙_}
 use mathlib.Core.Bool.{Bool, true, false}
 use mathlib.Core.List.{List, []}
-use Prim.Native.Nat.{ℕ, _+_, _≤_, _<_}
+use Prim.Native.Nat.{ℕ, _≤_}
 use native.Mathlib.Omega.{arith}
-use lib.ListN.{length}
 use Rattle.model.specs.Lists.{len, removeNth}
 use Rattle.model.specs.State.{DownloadingPiece, Picker, withRecentExtents, pieceAt}
 use Rattle.model.specs.list.Order.{rank}
 use Rattle.model.specs.pick.Blocks.{PickRequest, PickState, withPicker}
-use Rattle.model.specs.pick.Pick.{ExtentWalk, extentStep, forgetExtent, pickExtents}
+use Rattle.model.specs.pick.Pick.{ExtentWalk, forgetExtent, pickExtents}
 use Rattle.model.specs.image.WellFormed.{wellFormed}
 use Rattle.model.specs.image.Sound.{Sound}
 use Rattle.model.proofs.pick.SoundPick.{without-ok, sound-extents}
 use Rattle.model.proofs.sound.SoundLaws.{wellFormed-sound, sound-wellFormed}
 use Rattle.memory_records.specs.Rows.{recordsIn}
 use Rattle.memory_layout.specs.declared.shape.Shape.{Shape}
-use Rattle.memory_layout.specs.Decode.{headWord, decode}
+use Rattle.memory_layout.specs.Decode.{headWord}
 use Rattle.memory_layout.specs.Bounds.{RanksHeld}
 use Rattle.memory_layout.proofs.Meanings.{partials-number}
 use Rattle.memory_layout.proofs.BoundsLaws.{words-none, words-kept-none}

@@ -14,7 +14,7 @@ use types::usize_to_u64;
 ghost use mathlib.Core.Path.{_≡_};
 ghost use mathlib.Core.Bool.{true};
 ghost use Prim.Native.Nat.{_+_, _≤_, _<_};
-ghost use Rattle.model.specs.Lists.{len, from, range, every, walk};
+ghost use Rattle.model.specs.Lists.{range, every, walk};
 ghost use Rattle.model.specs.State.{maxExtents, pieceAt};
 ghost use Rattle.model.specs.Options.{extentAffinity};
 ghost use Rattle.model.specs.pick.Blocks.{spent};

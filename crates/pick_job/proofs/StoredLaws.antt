@@ -1,9 +1,9 @@
 -- The picker of an image in the buffers of the program: they have room for it, and it stands there as a pick needs it. Assumes nothing.
-use mathlib.Core.Path.{_≡_, refl, sym, ap, ap₂, subst, _∙_}
-use mathlib.Core.Bool.{Bool, true, false, cond, not, _&&_}
+use mathlib.Core.Path.{_≡_, sym, ap, ap₂, subst, _∙_}
+use mathlib.Core.Bool.{Bool, true, false, cond, _&&_}
 use mathlib.Core.List.{List}
-use mathlib.Core.Option.{Option, none, some, Option·none-ne-some}
-use Prim.Native.Nat.{ℕ, _+_, _*_, _≤_, _<_, min}
+use mathlib.Core.Option.{none, some, Option·none-ne-some}
+use Prim.Native.Nat.{ℕ, _*_, _≤_}
 use native.Mathlib.Omega.{arith}
 use native.Mathlib.Nat.{mul-le-mul}
 use lib.Dec.{leb}
@@ -14,7 +14,7 @@ use Rattle.types.specs.declared.refusal.Refusal.the-variants.{ShortMemory}
 use Rattle.model.specs.Lists.{len}
 use Rattle.model.specs.Bep3.{numPieces, wholePieceBlocks}
 use Rattle.model.specs.State.{Picker, piecesIn, blocksPerPiece}
-use Rattle.model.specs.Calls.{Answer, refused}
+use Rattle.model.specs.Calls.{refused}
 use Rattle.model.specs.image.Image.{accepted, readImage}
 use Rattle.model.proofs.base.Truths.{both-true}
 use Rattle.memory_records.specs.Rows.{liveRecords, recordsIn}
@@ -22,7 +22,7 @@ use Rattle.memory_records.proofs.laws.LiveLaws.{live-few}
 use Rattle.memory_records.proofs.laws.RowLaws.{length-records, records-at}
 use Rattle.memory_layout.specs.declared.shape.Shape.{Shape}
 use Rattle.memory_layout.specs.Offsets.{placesFor, wordsFor, cellsFor}
-use Rattle.memory_layout.specs.Decode.{headWord, recordAt, piecesOn}
+use Rattle.memory_layout.specs.Decode.{headWord, recordAt}
 use Rattle.memory_layout.specs.Bounds.{ShapeOf}
 use Rattle.memory_layout.specs.Standing.{Stands}
 use Rattle.memory_layout.specs.Good.{memoryRefusal}
@@ -30,7 +30,7 @@ use Rattle.memory_layout.proofs.OffsetLaws.{places-min, head-in}
 use Rattle.memory_layout.proofs.Meanings.{pieces-number, partials-number}
 use Rattle.check_partials.specs.Records.{CountsHeld}
 use Rattle.check_memory.specs.declared.verdict.Verdict.{Verdict}
-use Rattle.check_memory.specs.declared.verdict.Verdict.the-variants.{Good, Short, IllFormed}
+use Rattle.check_memory.specs.declared.verdict.Verdict.the-variants.{Good}
 use Rattle.check_memory.specs.Verdicts.{refusalOf, Checked}
 use Rattle.check_memory.proofs.Passing.{stands-passes}
 use Rattle.memory_rows.specs.Lookup.{pickerIn}
@@ -38,10 +38,9 @@ use Rattle.ask_picker.specs.Asked.{Asked}
 use Rattle.image_pieces.specs.declared.head.Head.{Head}
 use Rattle.image_pieces.proofs.HeadLaws.{HeadGot}
 use Rattle.image_records.specs.declared.pick.Pick.{Pick}
-use Rattle.image_store.specs.Stored.{RowsAre, Standing as PickerStands, Room}
+use Rattle.image_store.specs.Stored.{RowsAre, Standing as PickerStands}
 use Rattle.image_store.proofs.PartLaws.{pieces-in, blocks-in}
 use Rattle.picker_calls.specs.Cores.{Stood, Admitted}
-use Rattle.picker_calls.specs.declared.admission.Admission.the-variants.{At}
 use Rattle.picker_calls.proofs.AdmissionLaws.{good-stood}
 use Rattle.pick_job.specs.Jobs.{pickAnswered, requestOnes, programPick, limited, Stored}
 

@@ -8,7 +8,7 @@ use lib.ListN.{length, set}
 use lib.Dec.{eqb}
 use Rattle.model.specs.Lists.{from, range, forEach, walk}
 use Rattle.model.specs.State.{Picker}
-use Rattle.model.specs.pick.Blocks.{PickState, took, withOut, shorter, spent, contiguousIsZero, contiguousMet}
+use Rattle.model.specs.pick.Blocks.{took, withOut, spent, contiguousIsZero, contiguousMet}
 use Rattle.pick_state.specs.declared.numbers.PickNumbers.{PickNumbers}
 use Rattle.pick_state.specs.PickStates.{contiguousOf, stateOf, OutDid}
 use Rattle.pick_state.proofs.RestLaws.{OutRest, out-start, out-next, out-end, out-last}

@@ -1,13 +1,13 @@
 -- What a picker that stands in the words gives: what was read there, and how many blocks its pieces have. Assumes nothing.
-use mathlib.Core.Path.{_≡_, refl, sym, ap, _∙_}
+use mathlib.Core.Path.{_≡_, sym, ap, _∙_}
 use mathlib.Core.List.{List}
 use Prim.Native.Nat.{ℕ, _≤_}
 use native.Mathlib.Omega.{arith}
-use Rattle.model.specs.State.{Picker, blocksPerPiece, blocksInPiece, payloadBlocksInPiece}
+use Rattle.model.specs.State.{Picker, blocksInPiece, payloadBlocksInPiece}
 use Rattle.model.proofs.base.Bep3Laws.{blocksPerPiece-pos, blocksInPiece-le}
 use Rattle.geometry.proofs.ValidLaws.{bounds}
 use Rattle.memory_layout.specs.declared.shape.Shape.{Shape}
-use Rattle.memory_layout.specs.Decode.{headWord, blocksOn, decode}
+use Rattle.memory_layout.specs.Decode.{headWord, blocksOn}
 use Rattle.memory_layout.specs.Bounds.{ShapeOf, WordsSpan}
 use Rattle.memory_fields.specs.Reading.{WordsSay}
 use Rattle.pick_new.specs.Runs.{InWords, InBuffers}

@@ -2,12 +2,11 @@
 use mathlib.Core.Path.{_≡_, refl, sym, ap, _∙_}
 use mathlib.Core.Bool.{Bool, true, false}
 use mathlib.Core.List.{List}
-use Prim.Native.Nat.{ℕ, _+_, _-_, _*_, _≤_, _<_}
+use Prim.Native.Nat.{ℕ, _-_, _*_, _≤_}
 use native.Mathlib.Omega.{arith}
 use Rattle.model.specs.Lists.{least, range, from, branch, forEach}
 use Rattle.model.specs.State.{Picker, payloadBlocksInPiece}
-use Rattle.model.specs.pick.Blocks.{PickState, Span, contiguousIsZero, expandPiece, piecesOf, took, takeSpan, takePayload, addNewPiece}
-use Rattle.pick_laws.proofs.SpanLaws.{least-left}
+use Rattle.model.specs.pick.Blocks.{Span, contiguousIsZero, expandPiece, piecesOf, took, takeSpan, takePayload, addNewPiece}
 use Rattle.memory_layout.specs.declared.shape.Shape.{Shape}
 use Rattle.memory_fields.specs.Reading.{WordsSay}
 use Rattle.pick_state.specs.declared.numbers.PickNumbers.{PickNumbers}
@@ -16,7 +15,7 @@ use Rattle.pick_state.specs.Requests.{requestOf}
 use Rattle.pick_state.specs.PickStates.{contiguousOf, stateOf, OutDid}
 use Rattle.pick_free.specs.declared.spans.Span.{Span as Numbers}
 use Rattle.pick_free.specs.Spans.{spanIs, Expanded}
-use Rattle.pick_new.specs.Runs.{InWords, InBuffers, RunDid, MarksDid}
+use Rattle.pick_new.specs.Runs.{InWords, InBuffers, MarksDid}
 use Rattle.pick_new.proofs.InLaws.{in-words, words-say}
 
 module _ (s : Shape) (words cells : List ℕ) (q : PickRequest) (bytes : List ℕ) (i : ℕ) (t : PickNumbers) (out : List ℕ) (ignored : List Bool) where

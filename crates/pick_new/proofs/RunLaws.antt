@@ -7,9 +7,9 @@ use native.Mathlib.Numerals.{add-one}
 use native.Mathlib.Nat.{mul-le-mul-right}
 use native.Mathlib.Omega.{arith}
 use lib.ListN.{length}
-use Rattle.model.specs.Lists.{range, from, nth, setNth, branch, forEach, walk}
+use Rattle.model.specs.Lists.{range, from, nth, setNth, branch, walk}
 use Rattle.model.specs.State.{Picker, payloadBlocksInPiece}
-use Rattle.model.specs.pick.Blocks.{Contiguous, PickState, withOut, withContiguous, ignore, isIgnored, shorter, took, contiguousMet, spanStep}
+use Rattle.model.specs.pick.Blocks.{PickState, withOut, withContiguous, ignore, isIgnored, shorter, took, contiguousMet, spanStep}
 use Rattle.model.specs.pick.Blocks.{takeSpan, takePayload}
 use Rattle.pick_state.specs.declared.numbers.PickNumbers.{PickNumbers}
 use Rattle.pick_state.specs.PickStates.{contiguousOf, withGiven, stateOf, OutKept, OutDid}

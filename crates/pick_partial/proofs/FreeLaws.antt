@@ -7,7 +7,7 @@ use native.Mathlib.Nat.{not-suc-le-zero, le-of-suc-le-suc}
 use native.Mathlib.Omega.{arith}
 use lib.Dec.{eqb, ltb, leb}
 use lib.ListN.{length, getD}
-use borrow.Author.Tests.{eq-eqb, ne-eqb, lt-ltb, le-ltb, leb-false, le-leb, lt-leb}
+use borrow.Author.Tests.{ne-eqb, le-ltb, le-leb, lt-leb}
 use Rattle.types.specs.declared.block.BlockState.the-variants.{None}
 use Rattle.types.specs.Block.{blockStateNumber}
 use Rattle.model.specs.Lists.{from, range, each, nth, len, filter, unless, when, forEach, walkUntil}
@@ -15,10 +15,9 @@ use Rattle.model.specs.State.{Block, DownloadingPiece, Picker, noBlock, sameBlo
 use Rattle.model.specs.change.Partials.{blockAt}
 use Rattle.model.specs.pick.Blocks.{PickState, withOut, spent, contiguousAbove, took, putAside, freeFrom, enoughAside, freeHalt, takeFree, setAside}
 use Rattle.model.proofs.base.WalkLists.{walkUntil-chosen, forEach-chosen}
-use Rattle.memory_layout.specs.Decode.{stateFrom}
 use Rattle.memory_layout.proofs.Numbers.{state-number}
 use Rattle.pick_state.specs.declared.numbers.PickNumbers.{PickNumbers}
-use Rattle.pick_state.specs.PickStates.{contiguousOf, stateOf, blocksBetween, OutDid, AsideDid}
+use Rattle.pick_state.specs.PickStates.{contiguousOf, stateOf, OutDid, AsideDid}
 use Rattle.pick_state.proofs.TakeLaws.{between-length}
 use Rattle.pick_state.proofs.DidLaws.{kept-none}
 use Rattle.pick_state.proofs.RestLaws.{OutRest, AsideRest, out-start, out-next, out-last, out-end, aside-start, aside-next, aside-end}

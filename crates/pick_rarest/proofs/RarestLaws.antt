@@ -1,14 +1,14 @@
 -- The rarest phase put together: extents and list forwards, or the list backwards. Assumes nothing.
-use mathlib.Core.Path.{_≡_, refl, sym, ap, _∙_}
+use mathlib.Core.Path.{_≡_, sym, ap, _∙_}
 use mathlib.Core.Bool.{Bool, true, false}
 use mathlib.Core.List.{List}
-use Prim.Native.Nat.{ℕ, _+_, _≤_}
+use Prim.Native.Nat.{ℕ, _≤_}
 use native.Mathlib.Decide.{ℕ-discrete}
 use native.Mathlib.Omega.{arith}
 use borrow.Author.Tests.{ne-eqb, eq-eqb}
-use Rattle.model.specs.Lists.{nth, unless, when, branch}
+use Rattle.model.specs.Lists.{unless, when, branch}
 use Rattle.model.specs.Options.{reverse, pieceExtentAffinity}
-use Rattle.model.specs.pick.Blocks.{PickRequest, PickState, option, spent}
+use Rattle.model.specs.pick.Blocks.{PickRequest, option, spent}
 use Rattle.model.specs.pick.Pick.{pickExtents, pickForward, pickRarest}
 use Rattle.memory_layout.specs.declared.shape.Shape.{Shape}
 use Rattle.memory_rows.specs.Lookup.{pickerIn}

@@ -8,7 +8,6 @@ use pick_state::count;
 use pick_visits::in_range;
 use pick_visits::visit_listed;
 use types::PickerFlags;
-ghost use mathlib.Core.Path.{_≡_};
 ghost use Prim.Native.Nat.{_≤_, _<_};
 ghost use Rattle.model.specs.Lists.{nth};
 ghost use Rattle.memory_rows.specs.Lookup.{pickerIn};

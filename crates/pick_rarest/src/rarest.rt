@@ -6,7 +6,6 @@ use pick_extents::pick_extents;
 use pick_state::PickNumbers;
 use pick_state::PickRequest;
 use types::PickerOptions;
-ghost use mathlib.Core.Path.{_≡_};
 ghost use Prim.Native.Nat.{_≤_};
 ghost use Rattle.model.specs.Lists.{nth};
 ghost use Rattle.model.specs.pick.Pick.{pickForward, pickRarest};

@@ -1,9 +1,9 @@
 -- One turn of the end game: a draw, the block found, a piece that goes. Assumes nothing.
-use mathlib.Core.Path.{_≡_, refl, sym, ap, ap₂, _∙_}
-use mathlib.Core.Bool.{Bool, true, false, true≢false}
+use mathlib.Core.Path.{_≡_, refl, sym, ap, _∙_}
+use mathlib.Core.Bool.{true, false, true≢false}
 use mathlib.Core.List.{List, [], _∷_, _++_}
-use Prim.Native.Nat.{ℕ, zero, suc, _+_, _-_, _*_, _%_, _≤_, _<_}
-use native.Mathlib.Nat.{mod-lt, not-suc-le-zero, le-of-suc-le-suc}
+use Prim.Native.Nat.{ℕ, zero, suc, _+_, _-_, _*_, _≤_, _<_}
+use native.Mathlib.Nat.{mod-lt}
 use native.Mathlib.Numerals.{add-one}
 use native.Mathlib.Decide.{ℕ-discrete}
 use native.Mathlib.Omega.{arith}
@@ -14,7 +14,7 @@ use Rattle.model.specs.Lists.{nth, setNth, len, each, lastOr}
 use Rattle.model.specs.State.{DownloadingPiece, Picker}
 use Rattle.model.specs.Options.{endGame, busyLoops}
 use Rattle.model.specs.list.Order.{Draws, draw}
-use Rattle.model.specs.pick.Blocks.{PieceBlock, PickState, withOut, withPicker, flagged, steps, pieceBlock}
+use Rattle.model.specs.pick.Blocks.{PieceBlock, withOut, withPicker, flagged, steps}
 use Rattle.model.specs.pick.Pick.{EndGame, noPartial, swapRemove, busyBlocks, endGameTry, endGameStep}
 use Rattle.memory_layout.specs.Changes.{partialIn}
 use Rattle.memory_records.specs.Rows.{rowAt}
@@ -31,7 +31,7 @@ use Rattle.pick_state.proofs.DidLaws.{kept-none}
 use Rattle.pick_rest.specs.declared.game.Game.{Game}
 use Rattle.pick_busy.specs.Busy.{BusyIn}
 use Rattle.pick_busy.specs.Full.{PlacesIn}
-use Rattle.pick_rest.specs.Game.{withUsed, BlocksIn, foundBlock, gameOf, Turned, Tried, GameDid}
+use Rattle.pick_rest.specs.Game.{withUsed, BlocksIn, foundBlock, gameOf, Tried, GameDid}
 use Rattle.pick_busy.proofs.ListLaws.{each-take, each-set, each-length, each-at}
 
 -- ---- draws

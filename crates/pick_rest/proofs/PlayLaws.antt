@@ -1,5 +1,5 @@
 -- The turns of the end game: as many as there are pieces, or up to the block found. Assumes nothing.
-use mathlib.Core.Path.{_≡_, refl, sym, ap, ap₂, _∙_}
+use mathlib.Core.Path.{_≡_, refl, sym, ap, _∙_}
 use mathlib.Core.Bool.{Bool, true, false, true≢false, not, _&&_, _||_}
 use mathlib.Core.List.{List}
 use Prim.Native.Nat.{ℕ, zero, suc, _+_, _-_, _*_, _≤_, _<_}
@@ -7,11 +7,10 @@ use native.Mathlib.Omega.{arith}
 use lib.Dec.{eqb, ltb}
 use lib.ListN.{length, take}
 use borrow.Author.Tests.{ltb-true, ltb-false, eq-eqb, ne-eqb, not-true}
-use Rattle.model.specs.Lists.{bit, nth, len, each, unless, repeat}
-use Rattle.model.specs.State.{DownloadingPiece, Picker}
+use Rattle.model.specs.Lists.{bit, nth, each, unless, repeat}
+use Rattle.model.specs.State.{Picker}
 use Rattle.model.specs.Options.{busyLoops}
 use Rattle.model.specs.list.Order.{Draws}
-use Rattle.model.specs.pick.Blocks.{PickRequest, PickState}
 use Rattle.model.specs.pick.Pick.{EndGame, fullPartials, endGameStep, endGameDone, pickEndGame}
 use Rattle.model.proofs.base.Truths.{and-left, and-right}
 use Rattle.memory_layout.specs.Changes.{partialIn}

@@ -19,7 +19,6 @@ use Rattle.pick_state.specs.declared.numbers.PickNumbers.{PickNumbers}
 use Rattle.pick_state.specs.declared.request.PickRequest.{PickRequest}
 use Rattle.pick_state.specs.Requests.{requestOf}
 use Rattle.pick_state.specs.PickStates.{withFlags, contiguousOf, stateOf, OutKept}
-use Rattle.pick_state.specs.Room.{Worked}
 use Rattle.pick_state.proofs.DidLaws.{kept-then}
 use Rattle.pick_append.specs.Appending.{Appended}
 use Rattle.pick_rest.specs.Game.{EndGameDid, RestDid}

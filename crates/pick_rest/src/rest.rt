@@ -7,7 +7,6 @@ use pick_state::PickRequest;
 use pick_state::flagged;
 use types::PickerFlags;
 use types::PickerOptions;
-ghost use mathlib.Core.Path.{_≡_};
 ghost use Prim.Native.Nat.{_+_, _≤_, _<_};
 ghost use lib.ListN.{length};
 ghost use Rattle.memory_rows.specs.Lookup.{pickerIn};

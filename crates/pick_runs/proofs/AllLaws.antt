@@ -6,13 +6,13 @@ use Prim.Native.Nat.{ℕ, zero, suc, _+_, _-_, _*_, _≤_, _<_}
 use native.Mathlib.Nat.{mul-le-mul-right}
 use native.Mathlib.Omega.{arith}
 use lib.Dec.{eqb}
-use lib.ListN.{length, getD, set, length-set}
+use lib.ListN.{length, getD, length-set}
 use lib.Seq.{getD-set-same, getD-set-other}
 use Rattle.types.specs.Bits.{union}
-use Rattle.model.specs.Lists.{bit, count, from, range, nth, setNth, forEach, walk}
-use Rattle.model.specs.Options.{randomPieces, randStartLoops, randLoops}
+use Rattle.model.specs.Lists.{bit, count, from, range, nth, setNth, walk}
+use Rattle.model.specs.Options.{randomPieces}
 use Rattle.model.specs.State.{Picker, blocksInPiece}
-use Rattle.model.specs.pick.Blocks.{PickState, took, withOut, shorter, spent, steps, flagged, contiguousAbove, contiguousOver, spanStep, takeSpan}
+use Rattle.model.specs.pick.Blocks.{took, withOut, spent, steps, flagged, contiguousAbove, contiguousOver, spanStep, takeSpan}
 use Rattle.model.specs.pick.Pick.{randStep, takeAll}
 use Rattle.memory_layout.specs.declared.shape.Shape.{Shape}
 use Rattle.memory_layout.specs.Decode.{blocksOf}

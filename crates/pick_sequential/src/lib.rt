@@ -12,7 +12,6 @@ use pick_visits::visit_listed;
 use types::PickerFlags;
 use types::PickerOptions;
 use types::u64_to_usize;
-ghost use mathlib.Core.Path.{_≡_};
 ghost use Prim.Native.Nat.{_≤_};
 ghost use Rattle.model.specs.pick.Pick.{pickRange, pickSequential};
 ghost use Rattle.memory_rows.specs.Lookup.{pickerIn};

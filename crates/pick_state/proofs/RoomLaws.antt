@@ -1,20 +1,20 @@
 -- The room of a pick under way: what it gives to a step, and that what a piece, a partial or a span adds keeps it. Assumes nothing.
-use mathlib.Core.Path.{_≡_, refl, sym, ap, subst, _∙_}
+use mathlib.Core.Path.{_≡_, sym, ap, subst, _∙_}
 use mathlib.Core.Bool.{Bool, true, false}
 use mathlib.Core.List.{List}
-use Prim.Native.Nat.{ℕ, _+_, _-_, _≤_, _<_, min}
+use Prim.Native.Nat.{ℕ, _+_, _-_, _≤_, _<_}
 use native.Mathlib.Omega.{arith}
 use lib.ListN.{length, take, drop, length-take}
 use borrow.Author.Tests.{ne-eqb}
-use Rattle.model.specs.Lists.{each, len}
+use Rattle.model.specs.Lists.{len}
 use Rattle.model.specs.State.{DownloadingPiece, Picker, blocksPerPiece}
 use Rattle.model.specs.pick.Blocks.{PickRequest, Contiguous, PickState, spent, addBlocks, addBlocksDownloading}
 use Rattle.model.specs.image.Sound.{Sound}
-use Rattle.pick_laws.proofs.BoundLaws.{Fits, sound-fits, small, Lean, Tight}
+use Rattle.pick_laws.proofs.BoundLaws.{sound-fits, small, Lean, Tight}
 use Rattle.pick_laws.proofs.AddLaws.{addBlocks-contiguous, downloading-contiguous, Holding, holding-kept}
 use Rattle.pick_laws.proofs.OutputLaws.{bounded-kept}
 use Rattle.pick_state.specs.declared.numbers.PickNumbers.{PickNumbers}
-use Rattle.pick_state.specs.PickStates.{contiguousOf, blocksBetween, withFlags, stateOf, Did, Roomy}
+use Rattle.pick_state.specs.PickStates.{contiguousOf, blocksBetween, stateOf}
 use Rattle.pick_state.specs.Room.{Working, Underway, Worked}
 use Rattle.pick_state.proofs.TakeLaws.{each-length, between-length}
 

@@ -5,12 +5,12 @@ use Prim.Native.Nat.{ℕ, zero, suc, _+_, _-_, _*_, _/_, _%_, _≤_, _<_}
 use native.Mathlib.Numerals.{add-one}
 use native.Mathlib.Nat.{le-of-suc-le-suc, not-suc-le-zero}
 use native.Mathlib.Omega.{arith}
-use lib.ListN.{length, getD, set, take, drop, length-set, length-take}
+use lib.ListN.{length, set, take, drop, length-set, length-take}
 use lib.Seq.{getD-set-other}
 use Rattle.model.specs.Lists.{each, len}
 use Rattle.model.specs.pick.Blocks.{PieceBlock, pieceBlock, withOut, withBackup, shorter, took, putAside}
 use Rattle.pick_state.specs.declared.numbers.PickNumbers.{PickNumbers}
-use Rattle.pick_state.specs.PickStates.{blockFrom, blocksBetween, contiguousOf, stateOf, OutKept, OutDid, AsideDid}
+use Rattle.pick_state.specs.PickStates.{blockFrom, blocksBetween, contiguousOf, stateOf, OutDid, AsideDid}
 
 -- ---- a word as a block
 pub block-word : (i j : ℕ) → j < 65536 → blockFrom (i * 65536 + j) ≡ pieceBlock i j

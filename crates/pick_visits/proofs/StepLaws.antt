@@ -2,7 +2,7 @@
 use mathlib.Core.Path.{_≡_, refl, sym, ap, _∙_}
 use mathlib.Core.Bool.{Bool, true, false}
 use mathlib.Core.List.{List, [], _∷_}
-use Prim.Native.Nat.{ℕ, _+_, _≤_, _<_}
+use Prim.Native.Nat.{ℕ, _≤_}
 use lib.ListN.{length}
 use native.Mathlib.Omega.{arith}
 use borrow.Author.Tests.{ne-eqb, eq-eqb}
@@ -15,7 +15,7 @@ use Rattle.pick_state.specs.Room.{Underway}
 use Rattle.pick_state.proofs.DidLaws.{did-none, did-then, did-as}
 use Rattle.pick_state.proofs.RestLaws.{Rest, rest-start, rest-next, rest-end, rest-last}
 use Rattle.pick_blocks.specs.Blocks.{PieceRoom}
-use Rattle.pick_visits.specs.Steps.{Stepped, SteppedBeside, Counted}
+use Rattle.pick_visits.specs.Steps.{Stepped, SteppedBeside}
 
 -- ---- steps
 pub stepped-none : {d : Picker} {t : PickNumbers} {out aside : List ℕ} {ignored : List Bool} {loops : List ℕ} → Underway d t out aside ignored loops

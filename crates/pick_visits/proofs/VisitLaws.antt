@@ -1,14 +1,13 @@
 -- A piece visited, or passed over: the tests as the definition's, flags and counters, and a suggested piece. Assumes nothing.
-use mathlib.Core.Path.{_≡_, refl, sym, ap, subst, _∙_}
-use mathlib.Core.Bool.{Bool, true, false, cond, not, _&&_}
+use mathlib.Core.Path.{_≡_, refl, sym, ap, _∙_}
+use mathlib.Core.Bool.{Bool, true, false}
 use mathlib.Core.List.{List, [], _∷_}
 use Prim.Native.Nat.{ℕ, zero, suc, _+_, _≤_, _<_}
 use native.Mathlib.Numerals.{add-one}
 use native.Mathlib.Omega.{arith}
 use lib.ListN.{length, getD, set, drop, length-set}
 use lib.Seq.{drop-cons, getD-set-same, getD-set-other}
-use lib.Dec.{eqb, ltb, leb}
-use borrow.Author.Tests.{eq-eqb, ne-eqb}
+use lib.Dec.{eqb}
 use lib.IntN.{ℤ}
 use lib.Signed.{mag}
 use mir.Syntax.{w32}
@@ -19,21 +18,20 @@ use Rattle.types.specs.Piece.{numberOf}
 use Rattle.model.specs.Lists.{nth, setNth, each, unless, when}
 use Rattle.model.specs.State.{Picker, topPriority, pieceAt}
 use Rattle.model.specs.Options.{suggestLoops, suggestedPieces}
-use Rattle.model.specs.pick.Blocks.{PickRequest, PickState, ignore, flagged, steps, isPieceFree, addBlocks}
+use Rattle.model.specs.pick.Blocks.{PickRequest, ignore, flagged, steps, isPieceFree, addBlocks}
 use Rattle.model.specs.pick.Pick.{visit, suggest, visitBelowTop, inRange, visitOutside}
 use Rattle.model.specs.image.Sound.{Sound}
 use Rattle.model.proofs.sound.SoundLaws.{wellFormed-sound}
 use Rattle.memory_records.specs.Rows.{recordsIn}
 use Rattle.memory_layout.specs.declared.shape.Shape.{Shape}
-use Rattle.memory_layout.specs.Decode.{decode}
 use Rattle.memory_fields.specs.Reading.{CellsSay}
 use Rattle.memory_rows.specs.Lookup.{pickerIn}
 use Rattle.pick_state.specs.declared.numbers.PickNumbers.{PickNumbers}
 use Rattle.pick_state.specs.declared.request.PickRequest.{PickRequest as Request}
 use Rattle.pick_state.specs.Requests.{requestOf}
 use Rattle.pick_state.specs.PickStates.{contiguousOf, withFlags, stateOf, Did}
-use Rattle.pick_state.specs.Room.{Working, Underway, Worked}
-use Rattle.pick_state.proofs.DidLaws.{kept-none, kept-same, did-then, did-as}
+use Rattle.pick_state.specs.Room.{Underway}
+use Rattle.pick_state.proofs.DidLaws.{kept-none, kept-same, did-then}
 use Rattle.pick_state.proofs.RoomLaws.{working-marks, underway-blocks, underway-same}
 use Rattle.pick_free.specs.Picking.{Picks}
 use Rattle.pick_free.proofs.FreeLaws.{free-inside}

@@ -7,7 +7,6 @@ use pick_state::PickRequest;
 use pick_state::count;
 use types::PickerFlags;
 use types::i32_to_usize;
-ghost use mathlib.Core.Path.{_≡_};
 ghost use Prim.Native.Nat.{_≤_, _<_};
 ghost use lib.ListN.{length};
 ghost use Rattle.types.specs.Piece.{numberOf};

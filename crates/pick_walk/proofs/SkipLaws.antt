@@ -8,12 +8,12 @@ use native.Mathlib.Omega.{arith}
 use lib.Dec.{eqb}
 use lib.ListN.{length, getD, length-set}
 use lib.Seq.{getD-set-same, getD-set-other}
-use borrow.Author.Tests.{eqb-true, eqb-false}
+use borrow.Author.Tests.{eqb-false}
 use Rattle.model.specs.Lists.{nth, setNth, repeat}
 use Rattle.model.specs.Options.{randStartLoops, randLoops}
 use Rattle.model.specs.State.{Picker, piecesIn}
 use Rattle.model.specs.pick.Blocks.{PickRequest, isPieceFree, isIgnored, steps}
-use Rattle.model.specs.pick.Pick.{standsOpen, onward, RandomWalk, skipStep, skipDone, skip}
+use Rattle.model.specs.pick.Pick.{standsOpen, onward, skipStep, skipDone, skip}
 use Rattle.model.proofs.base.Phases.{cond-arms}
 use Rattle.model.proofs.base.Truths.{or-no-left}
 use Rattle.pick_laws.proofs.RoundLaws.{far, far-some, far-next, skip-ends}

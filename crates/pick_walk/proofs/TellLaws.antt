@@ -1,17 +1,17 @@
 -- The tests of the walk: whether a piece may be visited, whether a lap did anything. Assumes nothing.
-use mathlib.Core.Path.{_≡_, refl, sym, ap, ap₂, _∙_}
-use mathlib.Core.Bool.{Bool, true, false, not, _&&_, _||_}
+use mathlib.Core.Path.{_≡_, sym, ap, ap₂, _∙_}
+use mathlib.Core.Bool.{Bool, false, not, _&&_, _||_}
 use mathlib.Core.List.{List}
 use Prim.Native.Nat.{ℕ, suc, _+_, _-_, _≤_, _<_}
 use native.Mathlib.Decide.{ℕ-discrete}
 use native.Mathlib.Numerals.{add-one}
 use native.Mathlib.Omega.{arith}
-use lib.Dec.{eqb, leb}
+use lib.Dec.{eqb}
 use borrow.Author.Tests.{eq-eqb, ne-eqb, le-leb, lt-leb}
-use Rattle.model.specs.Lists.{nth, len}
+use Rattle.model.specs.Lists.{nth}
 use Rattle.model.specs.State.{Picker, piecesIn}
 use Rattle.model.specs.pick.Blocks.{PickRequest, isPieceFree, isIgnored}
-use Rattle.model.specs.pick.Pick.{standsOpen, onward, Trace, trace, sameTrace, lapEnds}
+use Rattle.model.specs.pick.Pick.{standsOpen, onward, trace, sameTrace, lapEnds}
 use Rattle.memory_layout.specs.declared.shape.Shape.{Shape}
 use Rattle.memory_layout.proofs.Meanings.{pieces-number}
 use Rattle.memory_fields.specs.Reading.{CellsSay}

@@ -1,7 +1,7 @@
 -- Turns that suffice: one made leaves the same end, and fewer to make. Assumes nothing.
 use mathlib.Core.Path.{_≡_, refl, sym, ap, _∙_}
 use mathlib.Core.Bool.{Bool, true, false, cond, true≢false}
-use Prim.Native.Nat.{ℕ, zero, suc, _+_, _≤_, _<_}
+use Prim.Native.Nat.{ℕ, zero, suc, _+_, _≤_}
 use native.Mathlib.Omega.{arith}
 use Rattle.model.specs.Lists.{unless, repeat}
 use Rattle.model.proofs.base.WalkLaws.{repeat-enough}

@@ -7,7 +7,7 @@ use pick_state::PickRequest;
 use pick_state::count;
 ghost use mathlib.Core.Path.{_≡_};
 ghost use mathlib.Core.Bool.{false, not, _&&_, _||_};
-ghost use Prim.Native.Nat.{_+_, _≤_, _<_};
+ghost use Prim.Native.Nat.{_+_, _<_};
 ghost use lib.ListN.{length};
 ghost use Rattle.model.specs.Lists.{nth};
 ghost use Rattle.model.specs.pick.Blocks.{isPieceFree};

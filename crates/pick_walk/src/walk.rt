@@ -1,7 +1,7 @@
 // Where the walk stands.
 use pick_state::PickNumbers;
 ghost use mathlib.Core.Path.{_≡_};
-ghost use Rattle.pick_walk.specs.Walks.{moved, ended, traceNow, marked};
+ghost use Rattle.pick_walk.specs.Walks.{moved, ended, marked};
 
 // What tells whether a lap did anything: where the output ended, blocks set aside, pieces ignored since the walk began.
 pub struct Trace {

@@ -13,16 +13,16 @@ use Rattle.types.specs.declared.refusal.Refusal.the-variants.{OutOfRange}
 use Rattle.model.specs.State.{Picker, Listing, dirty, fresh, isDirty, listOf, piecesIn, blocksInPiece}
 use Rattle.model.specs.Lists.{len}
 use Rattle.model.specs.ask.Questions.{Question, Reply, reply}
-use Rattle.model.specs.Calls.{Answer, refused, replied, question, questionRefusal, refusal, check, refuseBadPiece, answering, act}
+use Rattle.model.specs.Calls.{refused, replied, question, refusal, check, refuseBadPiece, answering, act}
 use Rattle.model.specs.Calls.{refuseBadBlock, noPlace, unlessRefused}
 use Rattle.memory_records.specs.declared.record.DownloadingPiece.{DownloadingPiece as Record}
 use Rattle.memory_records.specs.Records.{risingFrom}
-use Rattle.memory_records.specs.Rows.{liveRecords, rowsOf, recordsIn}
+use Rattle.memory_records.specs.Rows.{liveRecords, recordsIn}
 use Rattle.memory_layout.specs.declared.shape.Shape.{Shape}
 use Rattle.memory_layout.specs.Decode.{headWord, blocksOf, decode}
 use Rattle.memory_layout.specs.Standing.{Stands, StandsBeside}
 use Rattle.memory_rows.specs.Lookup.{LiveRows, pickerIn}
-use Rattle.memory_fields.specs.Reading.{HeadSays, WordsSay}
+use Rattle.memory_fields.specs.Reading.{HeadSays}
 use Rattle.model.specs.ask.Questions.{replyPiece, one, blocks-in-piece}
 use Rattle.ask_picker.specs.Asked.{Asked}
 use Rattle.ask_picker.proofs.AskedLaws.{asked-queues, asked-rise}
@@ -31,7 +31,7 @@ use Rattle.memory_layout.specs.Bounds.{ShapeOf}
 use Rattle.check_pieces.proofs.ExtentTests.{pieces-in}
 use Rattle.picker_calls.specs.declared.admission.Admission.{Admission}
 use Rattle.picker_calls.specs.declared.admission.Admission.the-variants.{Refused as Barred, At}
-use Rattle.picker_calls.specs.Calling.{pickerOn, ofMemory, refusalOn, stepOn, answerOn}
+use Rattle.picker_calls.specs.Calling.{pickerOn, ofMemory, stepOn, answerOn}
 use Rattle.picker_calls.specs.Cores.{lending, Listless, Stood, Admitted as MemoryAdmitted}
 use Rattle.picker_calls.proofs.CallLaws.{stood-picker, stood-refusal}
 use Rattle.picker_calls.proofs.CoreLaws.{stood-at}

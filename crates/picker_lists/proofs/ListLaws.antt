@@ -1,14 +1,12 @@
 -- The cores of questions that fill a lent list, arm by arm: refused, or answered. Assumes nothing.
-use mathlib.Core.Path.{_≡_, refl, sym, ap, subst, _∙_}
+use mathlib.Core.Path.{_≡_, refl}
 use mathlib.Core.List.{List}
 use mathlib.Core.Option.{Option}
 use Prim.Native.Nat.{ℕ, _*_, _/_, _≤_}
 use native.Mathlib.Omega.{arith}
-use lib.ListN.{length}
 use Rattle.types.specs.declared.refusal.Refusal.{Refusal}
 use Rattle.model.specs.State.{Picker}
 use Rattle.model.specs.ask.Questions.{Question, Reply, reply, nothing}
-use Rattle.model.specs.Calls.{refused, replied}
 use Rattle.memory_layout.specs.declared.shape.Shape.{Shape}
 use Rattle.memory_rows.specs.Lookup.{pickerIn}
 use Rattle.ask_columns.specs.Filled.{Told}
@@ -20,7 +18,6 @@ use Rattle.picker_answers.specs.declared.admitted.Admitted.{Admitted}
 use Rattle.picker_answers.specs.declared.admitted.Admitted.the-variants.{Refused as Barred, To}
 use Rattle.picker_answers.specs.Admitting.{Ruled, AdmittedBy}
 use Rattle.picker_answers.proofs.AdmittedLaws.{question-refused, question-replied}
-use Rattle.picker_lists.specs.declared.answers.ListAnswer.{ListAnswer}
 use Rattle.picker_lists.specs.declared.answers.ListAnswer.the-variants.{Refused, Records, Nothing}
 use Rattle.picker_lists.specs.Listing.{tellBlocks, ofRecords, CoreListed}
 

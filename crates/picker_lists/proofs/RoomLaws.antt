@@ -1,6 +1,6 @@
 -- What the memory's test and the places of a list say of a question that fills one. Assumes nothing.
 use mathlib.Core.Path.{_≡_, refl, sym, ap, subst, _∙_}
-use mathlib.Core.Bool.{Bool, true, false, not, _&&_}
+use mathlib.Core.Bool.{Bool, true, false, not}
 use mathlib.Core.List.{List}
 use mathlib.Core.Option.{Option, none, some}
 use Prim.Native.Nat.{ℕ, _≤_, _<_}
@@ -10,7 +10,7 @@ use lib.ListN.{length}
 use borrow.Author.Tests.{lt-ltb, le-ltb, ltb-false}
 use Rattle.types.specs.declared.refusal.Refusal.{Refusal}
 use Rattle.types.specs.declared.refusal.Refusal.the-variants.{ShortMemory, IllFormedMemory}
-use Rattle.model.specs.State.{Picker, validGeometry, piecesIn, blocksPerPiece}
+use Rattle.model.specs.State.{Picker, validGeometry, blocksPerPiece}
 use Rattle.model.specs.Memory.{partialsNeeded}
 use Rattle.model.specs.ask.Questions.{Question}
 use Rattle.model.specs.Calls.{question, questionRefusal, refusal, check}
@@ -18,7 +18,7 @@ use Rattle.memory_records.specs.declared.record.DownloadingPiece.{DownloadingPi
 use Rattle.memory_records.specs.Rows.{liveRecords, rowsOf, recordsIn}
 use Rattle.memory_layout.specs.declared.shape.Shape.{Shape}
 use Rattle.memory_layout.specs.Offsets.{placesFor}
-use Rattle.memory_layout.specs.Decode.{headWord, piecesOn, blocksOn, decode}
+use Rattle.memory_layout.specs.Decode.{headWord, blocksOn, decode}
 use Rattle.memory_layout.specs.Bounds.{ShapeOf}
 use Rattle.memory_layout.specs.Good.{short, goodBody, orElse, memoryRefusal}
 use Rattle.memory_rows.specs.Lookup.{pickerIn}
@@ -29,7 +29,7 @@ use Rattle.check_memory.specs.Verdicts.{refusalOf, Checked}
 use Rattle.picker_calls.specs.declared.admission.Admission.{Admission}
 use Rattle.picker_calls.specs.declared.admission.Admission.the-variants.{Refused as Barred, At}
 use Rattle.picker_calls.specs.Calling.{pickerOn, memoryOn, refusalOn, ofMemory}
-use Rattle.picker_calls.specs.Cores.{lending, Stood, Admitted as MemoryAdmitted}
+use Rattle.picker_calls.specs.Cores.{lending, Admitted as MemoryAdmitted}
 use Rattle.picker_calls.proofs.LiveLaws.{memory-live}
 use Rattle.picker_calls.proofs.AdmissionLaws.{admitted-memory, good-stood}
 use Rattle.picker_calls.proofs.CallLaws.{stood-picker, stood-memory}

@@ -1,5 +1,4 @@
 -- `lay4` meets its contract. The loop's invariant: so many numbers are laid.
-use mathlib.Core.Path.{_∙_}
 use Prim.Native.Nat.{_-_, _≤_}
 use native.Mathlib.Omega.{arith}
 use Rattle.image_lay.specs.Laid.{fieldsAt, Laid}

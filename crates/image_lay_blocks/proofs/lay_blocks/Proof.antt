@@ -1,5 +1,4 @@
 -- `lay_blocks` meets its contract, either way. Assumes nothing.
-use native.Mathlib.Omega.{arith}
 use lib.Dec.{ltb}
 use borrow.Author.Tests.{ltb-false}
 use Rattle.model.proofs.base.Truths.{or-no-right}

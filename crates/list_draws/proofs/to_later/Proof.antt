@@ -2,9 +2,9 @@
 use borrow.Author.Needs.{needs}
 use mathlib.Core.Path.{ap, _∙_}
 use mathlib.Core.List.{List}
-use Prim.Native.Nat.{ℕ, suc, _+_, _-_}
+use Prim.Native.Nat.{ℕ, _+_, _-_}
 use native.Mathlib.Omega.{arith}
-use lib.ListN.{set, length, length-set}
+use lib.ListN.{set, length-set}
 use Rattle.model.specs.list.Order.{later, swap}
 use Rattle.model.proofs.list.GroupMoves.{draw-le}
 use Rattle.list_entries.specs.Words.{listedRank}

@@ -1,5 +1,4 @@
 -- `group_end` meets its contract: a search within the last step. Assumes nothing.
-use borrow.Author.Needs.{needs}
 use native.Mathlib.Omega.{arith}
 use Rattle.list_groups.proofs.Searching.{splits-within, parted-within}
 use Rattle.list_groups.proofs.group_end.Statement.{statement}

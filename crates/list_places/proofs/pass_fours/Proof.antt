@@ -1,5 +1,4 @@
 -- `pass_fours` meets its contract. The invariant: the word does not stand before k. Assumes nothing.
-use borrow.Author.Needs.{needs}
 use Prim.Native.Nat.{_-_}
 use native.Mathlib.Omega.{arith}
 use Rattle.list_places.proofs.Seeking.{Seeks, seeks-fours}

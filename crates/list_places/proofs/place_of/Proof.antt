@@ -1,5 +1,4 @@
 -- `place_of` meets its contract: from the start of the word's group on. Assumes nothing.
-use borrow.Author.Needs.{needs}
 use Rattle.list_places.proofs.place_of.Statement.{statement}
 use Rattle.list_places.proofs.place_of.Tie as tie
 

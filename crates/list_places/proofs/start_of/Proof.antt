@@ -1,5 +1,4 @@
 -- `start_of` meets its contract: the first word above the rank below. Assumes nothing.
-use borrow.Author.Needs.{needs}
 use native.Mathlib.Omega.{arith}
 use Rattle.list_entries.proofs.WordLaws.{top-below, top-least}
 use Rattle.list_groups.proofs.Searching.{rises-splits}

@@ -1,5 +1,4 @@
 -- `first_step` meets its contract. Assumes nothing.
-use mathlib.Core.Path.{sym}
 use native.Mathlib.Omega.{arith}
 use Rattle.memory_halving.proofs.StepLaws.{first-low, first-high}
 use borrow.Author.Needs.{needs}

@@ -18,9 +18,8 @@ use Rattle.memory_layout.specs.Decode.{partialFrom}
 use Rattle.memory_layout.specs.Decode.{partialHeld, partialsHeld, decodeAt}
 use Rattle.memory_layout.specs.Changes.{partialIn, withPartial, withBlock}
 use Rattle.memory_layout.specs.Bounds.{WordsSpan, CellsSpan, InBounds, PlainBlock, Plain}
-use Rattle.memory_layout.specs.Stores.{WordsKept, CellsKept, Became}
+use Rattle.memory_layout.specs.Stores.{Became}
 use Rattle.memory_layout.specs.Frames.{BlockPut}
-use Rattle.memory_layout.specs.Frames.{SameHead, SameColumn, SameFields}
 use Rattle.memory_layout.proofs.TableLaws.{tabulate-len, tabulate-nth, tabulate-ext, tabulate-set, set-past}
 use Rattle.memory_layout.proofs.OffsetLaws.{peer-from, peer-below, peer-in, block-cell-from, block-cell-below, block-cell-in}
 use Rattle.memory_layout.proofs.Same.{beyond-same, head-same, column-above, fields-above}

@@ -36,7 +36,6 @@ use denote.Triple.Walked.{says}
 use Rattle.memory_records.specs.declared.record.DownloadingPiece.{DownloadingPiece}
 use Rattle.memory_records.specs.Rows.{packed}
 use Rattle.memory_records.proofs.record.DownloadingPiece as T
-use Rattle.memory_records.proofs.edits.Edit as E
 use Rattle.memory_records.proofs.steps.UnpackSteps.{Rows}
 use Rattle.memory_records.proofs.rows.pack as pack
 use Rattle.memory_records.proofs.rows.pack.Symbol.{name as #pack}

@@ -1,10 +1,9 @@
 -- Facts of the definitions: the first place that passes a test, and a search that starts behind records of lower pieces. Assumes nothing.
-use mathlib.Core.Path.{_≡_, refl, sym, ap, subst, _∙_}
+use mathlib.Core.Path.{_≡_, refl, ap, subst, _∙_}
 use Prim.Native.Nat.{ℕ, zero, suc, _+_, _-_, _<_, _≤_}
 use mathlib.Core.Bool.{Bool, true, false, not}
 use native.Mathlib.Omega.{arith}
 use native.Mathlib.Nat.{zero-add}
-use native.Mathlib.Decide.{ℕ-discrete, decLe}
 use mathlib.Core.List.{List}
 use lib.ListN.{getD}
 use lib.Dec.{T, ltb, eqb, ltb→lt, eqb→eq}

@@ -1,8 +1,7 @@
 -- Computed cases of `specs/Bep3.antt`.
 use mathlib.Core.Path.{_≡_, refl}
-use mathlib.Core.Bool.{Bool, true, false}
-use mathlib.Core.List.{List, [], _∷_, map}
-use Prim.Native.Nat.{ℕ}
+use mathlib.Core.Bool.{true, false}
+use mathlib.Core.List.{[], _∷_, map}
 use Rattle.model.specs.Bep3.{partsOf, partLength, sumTo, numPieces, pieceLength, blockLength, blockCount, blockStart, blockLengthAt}
 use Rattle.model.specs.Bep3.{wholePieceBlocks, pieceBlocks, bitfieldBytes, bitOf, bitAt, noneSet, spareZero}
 

@@ -12,7 +12,7 @@ use lib.Dec.{eqb, ltb}
 use Rattle.types.specs.declared.queue.DownloadQueue.{DownloadQueue}
 use Rattle.types.specs.declared.queue.DownloadQueue.the-variants.{Full, Finished as FinishedQueue}
 use Rattle.types.specs.Queue.{isReverse}
-use Rattle.model.specs.Lists.{bit, count, filter, nth, setNth, each, len, placeOf, from}
+use Rattle.model.specs.Lists.{bit, count, filter, nth, setNth, each, placeOf, from}
 use Rattle.model.specs.State.{Piece, Picker, Listing, dirty, fresh, sameQueue, isOpen, pieceAt, piecesIn, withListing}
 
 -- ---- sorts

@@ -1,5 +1,5 @@
 -- `all_flushed` meets its contract: what is left of the range is the whole of it. Assumes nothing.
-use Prim.Native.Nat.{_-_, _<_}
+use Prim.Native.Nat.{_-_}
 use native.Mathlib.Omega.{arith}
 use borrow.Author.Needs.{needs}
 use Rattle.pick_extents.proofs.ExtentLaws.{FlushedLeft, flushed-start, flushed-next, flushed-stop, flushed-end}

@@ -1,9 +1,8 @@
 -- `extent_step` meets its contract. Assumes nothing.
 use mathlib.Core.Path.{_≡_, refl, sym, _∙_}
-use Prim.Native.Nat.{ℕ, _+_, _≤_, _<_}
 use native.Mathlib.Omega.{arith}
 use borrow.Author.Needs.{needs}
-use Rattle.model.specs.Lists.{nth, len, every, range}
+use Rattle.model.specs.Lists.{nth, every, range}
 use Rattle.model.specs.State.{piecesIn, pieceAt, blocksPerPiece}
 use Rattle.memory_rows.specs.Lookup.{pickerIn}
 use Rattle.pick_state.specs.Requests.{requestOf}

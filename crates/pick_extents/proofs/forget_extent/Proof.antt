@@ -1,6 +1,4 @@
 -- `forget_extent` meets its contract. Assumes nothing.
-use mathlib.Core.Path.{refl}
-use borrow.Author.Needs.{needs}
 use Rattle.pick_extents.proofs.MoveLaws.{forget-yes, forget-no}
 use Rattle.pick_extents.proofs.forget_extent.Statement.{statement}
 use Rattle.pick_extents.proofs.forget_extent.Tie as tie

@@ -1,6 +1,4 @@
 -- `pick_extents` meets its contract. Assumes nothing.
-use mathlib.Core.Path.{_≡_}
-use borrow.Author.Needs.{needs}
 use Rattle.pick_state.specs.Requests.{requestOf}
 use Rattle.pick_extents.specs.Extents.{firstWalk}
 use Rattle.pick_extents.proofs.ExtentLaws.{extents-long}

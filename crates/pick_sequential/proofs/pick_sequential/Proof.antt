@@ -1,8 +1,5 @@
 -- `pick_sequential` meets its contract. Assumes nothing.
-use mathlib.Core.Path.{_≡_, _∙_}
-use Prim.Native.Nat.{ℕ, _≤_}
-use native.Mathlib.Omega.{arith}
-use borrow.Author.Needs.{needs}
+use mathlib.Core.Path.{_∙_}
 use Rattle.pick_state.specs.Requests.{requestOf}
 use Rattle.pick_free.proofs.FreeLaws.{above-none}
 use Rattle.pick_visits.proofs.StepLaws.{stepped-lengths, stepped-room}

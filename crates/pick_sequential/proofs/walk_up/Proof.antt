@@ -1,15 +1,11 @@
 -- `walk_up` meets its contract: what is left of the range is the whole of it. Assumes nothing.
-use mathlib.Core.Path.{_≡_, refl, sym, subst, _∙_}
-use Prim.Native.Nat.{ℕ, _+_, _-_, _≤_, _<_}
-use mathlib.Core.List.{List}
-use lib.ListN.{length, drop, take}
-use borrow.Author.Tests.{eq-eqb, ne-eqb}
+use mathlib.Core.Path.{_≡_, sym, subst, _∙_}
+use Prim.Native.Nat.{ℕ, _+_, _-_}
 use native.Mathlib.Omega.{arith}
 use borrow.Author.Needs.{needs}
-use Rattle.model.specs.Lists.{nth, len, range, rangeDown, reversed}
-use Rattle.model.specs.State.{listOf, pieceAt}
-use Rattle.model.specs.Options.{prioSequentialPieces, sequentialPieces, reverseSequential, rarestFirstPieces, reverseRarestFirst}
-use Rattle.model.specs.pick.Pick.{visit, leadingTop, visitBelowTop, rareStep, reverseRareStep}
+use Rattle.model.specs.Lists.{range}
+use Rattle.model.specs.Options.{sequentialPieces}
+use Rattle.model.specs.pick.Pick.{visitBelowTop}
 use Rattle.memory_rows.specs.Lookup.{pickerIn}
 use Rattle.pick_state.specs.Requests.{requestOf}
 use Rattle.pick_state.proofs.RangeLaws.{range-next, range-none}

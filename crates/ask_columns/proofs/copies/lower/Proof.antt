@@ -1,6 +1,5 @@
 -- `lower` meets its contract: a new least, or the same one. Assumes nothing.
 use mathlib.Core.Path.{_∙_}
-use Prim.Native.Nat.{_<_}
 use native.Mathlib.Omega.{arith}
 use borrow.Author.Needs.{needs}
 use Rattle.ask_columns.proofs.LeastLaws.{lowered-new, lowered-same, least-few}

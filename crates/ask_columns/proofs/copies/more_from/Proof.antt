@@ -1,10 +1,10 @@
 -- `more_from` meets its contract: after k turns it holds for the first k pieces of the stretch. Assumes nothing.
-use mathlib.Core.Path.{_≡_, refl, subst, ap, sym, _∙_}
+use mathlib.Core.Path.{_≡_, refl, ap, _∙_}
 use Prim.Native.Nat.{ℕ, _+_, _-_, _≤_}
 use native.Mathlib.Omega.{arith}
 use borrow.Author.Needs.{needs}
 use lib.Dec.{ltb}
-use Rattle.model.specs.Lists.{least, count}
+use Rattle.model.specs.Lists.{count}
 use Rattle.memory_layout.specs.Tables.{tabulate}
 use Rattle.ask_columns.specs.Copies.{leastOf, copiesFrom}
 use Rattle.ask_columns.proofs.LeastLaws.{more-next, more-few}

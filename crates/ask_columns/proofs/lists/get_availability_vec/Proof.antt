@@ -1,9 +1,7 @@
 -- `get_availability_vec` meets its contract. Assumes nothing.
-use mathlib.Core.Path.{_∙_, subst}
-use Prim.Native.Nat.{ℕ}
+use mathlib.Core.Path.{_∙_}
 use native.Mathlib.Omega.{arith}
 use borrow.Author.Needs.{needs}
-use Rattle.ask_columns.specs.Filled.{ColumnFits}
 use Rattle.ask_columns.proofs.FillLaws.{seeds-few, availability-told, availability-fits}
 use Rattle.ask_columns.proofs.lists.get_availability_vec.Statement.{statement}
 use Rattle.ask_columns.proofs.lists.get_availability_vec.Tie as tie

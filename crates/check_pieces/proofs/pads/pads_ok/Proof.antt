@@ -1,6 +1,5 @@
 -- `check_pieces::pads_ok` meets its contract: where the joined word is low all are, else each is tested.
 use mathlib.Core.Path.{sym, _∙_}
-use native.Mathlib.Omega.{arith}
 use borrow.Author.Tests.{not-true, not-false}
 use Rattle.check_pieces.proofs.PadLaws.{joined-below, some-above, last-one}
 use borrow.Author.Needs.{needs}

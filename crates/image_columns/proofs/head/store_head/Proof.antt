@@ -1,6 +1,6 @@
 -- `store_head` meets its contract: a run of stores. Assumes nothing.
 use mathlib.Core.Path.{ap, _∙_}
-use mathlib.Core.List.{List, [], _∷_, _++_}
+use mathlib.Core.List.{[], _∷_, _++_}
 use Prim.Native.Nat.{ℕ}
 use lib.ListN.{drop, length-set}
 use lib.Seq.{sets-eq}

@@ -1,5 +1,4 @@
 -- `read_tail` meets its contract: extents, then the list. Assumes nothing.
-use native.Mathlib.Omega.{arith}
 use Rattle.image_judge.proofs.FrontLaws.{extents-fail, extents-within, tail-read}
 use borrow.Author.Needs.{needs}
 use Rattle.image_judge.proofs.front.read_tail.Statement.{statement}

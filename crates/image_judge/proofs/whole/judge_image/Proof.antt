@@ -1,5 +1,4 @@
 -- `judge_image` meets its contract. Assumes nothing.
-use native.Mathlib.Omega.{arith}
 use Rattle.image_judge.proofs.WholeLaws.{image-fault, image-more, image-done}
 use borrow.Author.Needs.{needs}
 use Rattle.image_judge.proofs.whole.judge_image.Statement.{statement}

@@ -1,5 +1,4 @@
 -- `judge_job` meets its contract. Assumes nothing.
-use native.Mathlib.Omega.{arith}
 use Rattle.image_judge.proofs.WholeLaws.{image-ended, job-fault, job-pick}
 use borrow.Author.Needs.{needs}
 use Rattle.image_judge.proofs.whole.judge_job.Statement.{statement}

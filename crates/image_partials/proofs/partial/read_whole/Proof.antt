@@ -1,9 +1,9 @@
 -- `read_whole` meets its contract: its record, its blocks, and the state at the last one.
 use mathlib.Core.Path.{sym, ap, _∙_, subst}
-use Prim.Native.Nat.{ℕ, _+_, _-_, _*_}
+use Prim.Native.Nat.{ℕ, _+_, _-_}
 use native.Mathlib.Omega.{arith}
 use lib.Dec.{leb}
-use Rattle.model.specs.Lists.{nth, len}
+use Rattle.model.specs.Lists.{nth}
 use Rattle.model.specs.image.Image.{bodyLength, partialKind, readPartial}
 use Rattle.check_partials.specs.Rows.{stateBy}
 use Rattle.image_records.proofs.FoundLaws.{number-got, number-bad}

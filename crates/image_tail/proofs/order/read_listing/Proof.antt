@@ -1,5 +1,4 @@
 -- `read_listing` meets its contract. Assumes nothing.
-use native.Mathlib.Omega.{arith}
 use Rattle.image_tail.proofs.OrderLaws.{listing-dirty, listing-fresh}
 use borrow.Author.Needs.{needs}
 use Rattle.image_tail.proofs.order.read_listing.Statement.{statement}

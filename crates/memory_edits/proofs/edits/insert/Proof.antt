@@ -1,8 +1,7 @@
 -- `edits::insert` meets its contract: a walk of its MIR, by hand, by the calls of `CallSteps.antt`. The place is sought by piece, a gap is
 -- opened there, and the record put in.
 use mathlib.Core.Path.{_≡_, refl, sym, ap, subst, _∙_}
-use mathlib.Core.Bool.{true}
-use Prim.Native.Nat.{ℕ, _+_, _-_, _<_, _≤_, _^_}
+use Prim.Native.Nat.{ℕ, _-_, _<_, _≤_, _^_}
 use native.Mathlib.Omega.{arith}
 use mathlib.Core.List.{List, [], _∷_}
 use lib.Dec.{T}

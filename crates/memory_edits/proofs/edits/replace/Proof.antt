@@ -1,8 +1,8 @@
 -- `edits::replace` meets its contract: a walk of its MIR, by hand, by the calls of `CallSteps.antt`. The record is sought by piece; where
 -- there is noRecord, nothing changes.
 use mathlib.Core.Path.{_≡_, refl, sym, ap, _∙_}
-use mathlib.Core.Bool.{Bool, true, not, cond as choose}
-use Prim.Native.Nat.{ℕ, _+_, _-_, _<_, _≤_, _^_}
+use mathlib.Core.Bool.{Bool, not, cond as choose}
+use Prim.Native.Nat.{ℕ, _-_, _<_, _^_}
 use native.Mathlib.Omega.{arith}
 use mathlib.Core.List.{List, [], _∷_}
 use lib.Dec.{T, leb, nleb→lt}

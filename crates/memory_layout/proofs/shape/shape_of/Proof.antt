@@ -5,12 +5,6 @@ use Rattle.memory_layout.proofs.Geometry.{shape-is}
 use borrow.Author.Needs.{needs}
 use Rattle.memory_layout.proofs.shape.shape_of.Statement.{statement}
 use Rattle.memory_layout.proofs.shape.shape_of.Tie as tie
-use Rattle.memory_layout.proofs.shape.shape_of.Reads as reads
-use Rattle.memory_layout.proofs.shape.shape_of.Lts as lts
-use Rattle.geometry.proofs.blocks_per_piece.Reads as blocks-per-piece-reads
-use Rattle.geometry.proofs.num_pieces.Reads as num-pieces-reads
-use Rattle.memory_layout.proofs.shape.lesser.Reads as lesser-reads
-use Rattle.types.proofs.u64_to_usize.Reads as u64-to-usize-reads
 
 shared-slice-read-num-pieces : tie.Need-shared-slice-read-num-pieces
 shared-slice-read-num-pieces c = search needs

@@ -1,6 +1,6 @@
 -- `search::find` meets its contract: a walk of its MIR, by hand. Two calls: the search, and a covered function that makes the enum.
 use mathlib.Core.Path.{_≡_, refl, ap, _∙_}
-use Prim.Native.Nat.{ℕ, _<_, _≤_, _^_}
+use Prim.Native.Nat.{ℕ, _<_, _^_}
 use mathlib.Core.List.{List, [], _∷_}
 use lib.Dec.{T}
 use lib.ListN.{length}

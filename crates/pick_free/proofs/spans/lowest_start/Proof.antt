@@ -1,6 +1,5 @@
 -- `lowest_start` meets its contract. Assumes nothing.
 use mathlib.Core.Path.{refl, _∙_}
-use Prim.Native.Nat.{_≤_, _%_}
 use borrow.Author.Needs.{needs}
 use native.Mathlib.Nat.{mod-le}
 use native.Mathlib.Omega.{arith}

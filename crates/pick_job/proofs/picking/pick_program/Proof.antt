@@ -1,5 +1,5 @@
 -- `pick_program` meets its contract. Assumes nothing.
-use mathlib.Core.Path.{ap, ap₂, _∙_}
+use mathlib.Core.Path.{ap₂, _∙_}
 use mathlib.Core.List.{List, []}
 use Prim.Native.Nat.{ℕ}
 use native.Mathlib.Omega.{arith}
@@ -8,7 +8,7 @@ use Rattle.model.specs.Lists.{each}
 use Rattle.memory_rows.specs.Lookup.{pickerIn}
 use Rattle.pick_state.specs.declared.request.PickRequest.{PickRequest as Request}
 use Rattle.pick_start.specs.Starting.{requestWith}
-use Rattle.pick_job.specs.Jobs.{pickAnswered, requestNumbers, requestOnes}
+use Rattle.pick_job.specs.Jobs.{pickAnswered, requestOnes}
 use Rattle.pick_job.proofs.PickLaws.{few-bytes, ones-are, ones-long, bits-are}
 use borrow.Author.Needs.{needs}
 use Rattle.pick_job.proofs.picking.pick_program.Statement.{statement}

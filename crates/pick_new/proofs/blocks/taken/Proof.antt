@@ -1,7 +1,5 @@
 -- `taken` meets its contract. Assumes nothing.
-use mathlib.Core.Path.{refl}
 use borrow.Author.Needs.{needs}
-use Rattle.pick_new.specs.Taken.{takenNumbers}
 use Rattle.pick_new.proofs.BlockLaws.{taken-is}
 use Rattle.pick_new.proofs.blocks.taken.Statement.{statement}
 use Rattle.pick_new.proofs.blocks.taken.Tie as tie

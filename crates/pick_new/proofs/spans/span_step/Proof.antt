@@ -1,6 +1,6 @@
 -- `span_step` meets its contract. Assumes nothing.
 use Rattle.pick_new.proofs.RunLaws.{shorter-run, marked-run, payload-run}
-use Rattle.pick_new.proofs.InLaws.{words-say, in-span, some-blocks, few-blocks, payload-few}
+use Rattle.pick_new.proofs.InLaws.{words-say, some-blocks, few-blocks, payload-few}
 use Rattle.pick_new.specs.Runs.{InWords}
 use Rattle.model.specs.pick.Blocks.{takePayload}
 use Rattle.model.specs.State.{payloadBlocksInPiece}

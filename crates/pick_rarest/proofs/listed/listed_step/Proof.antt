@@ -1,10 +1,9 @@
 -- `listed_step` meets its contract. Assumes nothing.
-use mathlib.Core.Path.{refl, sym, _∙_}
+use mathlib.Core.Path.{sym, _∙_}
 use native.Mathlib.Omega.{arith}
 use borrow.Author.Needs.{needs}
 use Rattle.memory_records.specs.Rows.{recordsIn}
 use Rattle.pick_state.specs.Requests.{requestOf}
-use Rattle.pick_visits.proofs.StepLaws.{stepped-lengths}
 use Rattle.pick_visits.proofs.VisitLaws.{beside, counted-one, underway-marks, listed-yes, listed-no}
 use Rattle.pick_rarest.proofs.listed.listed_step.Statement.{statement}
 use Rattle.pick_rarest.proofs.listed.listed_step.Tie as tie

@@ -4,8 +4,6 @@ use mathlib.Core.Path.{refl}
 use borrow.Author.Needs.{needs}
 use Rattle.pick_state.proofs.counters.count.Statement.{statement}
 use Rattle.pick_state.proofs.counters.count.Tie as tie
-use Rattle.pick_state.proofs.counters.count.Reads as reads
-use Rattle.pick_state.proofs.counters.count.Lts as lts
 
 -- src/counters.rt:12:22
 mul-loops : tie.Need-mul-loops

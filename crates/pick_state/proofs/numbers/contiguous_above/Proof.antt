@@ -4,8 +4,6 @@ use mathlib.Core.Path.{refl}
 use borrow.Author.Needs.{needs}
 use Rattle.pick_state.proofs.numbers.contiguous_above.Statement.{statement}
 use Rattle.pick_state.proofs.numbers.contiguous_above.Tie as tie
-use Rattle.pick_state.proofs.numbers.contiguous_above.Reads as reads
-use Rattle.pick_state.proofs.numbers.contiguous_above.Lts as lts
 
 -- src/numbers.rt:66:5
 add-result : tie.Need-add-result

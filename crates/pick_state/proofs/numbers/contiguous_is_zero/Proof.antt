@@ -3,8 +3,6 @@ use Rattle.model.specs.pick.Blocks.{contiguousIsZero}
 use mathlib.Core.Path.{refl}
 use Rattle.pick_state.proofs.numbers.contiguous_is_zero.Statement.{statement}
 use Rattle.pick_state.proofs.numbers.contiguous_is_zero.Tie as tie
-use Rattle.pick_state.proofs.numbers.contiguous_is_zero.Reads as reads
-use Rattle.pick_state.proofs.numbers.contiguous_is_zero.Lts as lts
 
 -- src/numbers.rt:55:1
 returns : tie.Need-returns

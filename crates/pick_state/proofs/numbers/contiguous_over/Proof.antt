@@ -2,9 +2,6 @@ use mathlib.Core.Path.{refl}
 use borrow.Author.Needs.{needs}
 use Rattle.pick_state.proofs.numbers.contiguous_over.Statement.{statement}
 use Rattle.pick_state.proofs.numbers.contiguous_over.Tie as tie
-use Rattle.pick_state.proofs.numbers.contiguous_over.Reads as reads
-use Rattle.pick_state.proofs.numbers.contiguous_over.Lts as lts
-use Rattle.pick_state.proofs.numbers.contiguous_above.Reads as contiguous-above-reads
 
 -- src/numbers.rt:81:9
 contiguous-above-requires : tie.Need-contiguous-above-requires

@@ -2,8 +2,6 @@ use Rattle.pick_state.specs.PickStates.{withFlags}
 use mathlib.Core.Path.{refl}
 use Rattle.pick_state.proofs.numbers.flagged.Statement.{statement}
 use Rattle.pick_state.proofs.numbers.flagged.Tie as tie
-use Rattle.pick_state.proofs.numbers.flagged.Reads as reads
-use Rattle.pick_state.proofs.numbers.flagged.Lts as lts
 
 -- src/numbers.rt:24:1
 returns : tie.Need-returns

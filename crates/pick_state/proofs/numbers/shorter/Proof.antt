@@ -3,8 +3,6 @@ use mathlib.Core.Path.{refl}
 use borrow.Author.Needs.{needs}
 use Rattle.pick_state.proofs.numbers.shorter.Statement.{statement}
 use Rattle.pick_state.proofs.numbers.shorter.Tie as tie
-use Rattle.pick_state.proofs.numbers.shorter.Reads as reads
-use Rattle.pick_state.proofs.numbers.shorter.Lts as lts
 
 -- src/numbers.rt:46:16
 add-t2 : tie.Need-add-t2

@@ -4,9 +4,6 @@ use Rattle.pick_state.specs.PickStates.{contiguousOf}
 use borrow.Author.Needs.{needs}
 use Rattle.pick_state.proofs.numbers.whole_pieces.Statement.{statement}
 use Rattle.pick_state.proofs.numbers.whole_pieces.Tie as tie
-use Rattle.pick_state.proofs.numbers.whole_pieces.Reads as reads
-use Rattle.pick_state.proofs.numbers.whole_pieces.Lts as lts
-use Rattle.pick_state.proofs.numbers.contiguous_left.Reads as contiguous-left-reads
 
 -- src/numbers.rt:100:9
 contiguous-left-requires : tie.Need-contiguous-left-requires

@@ -3,9 +3,6 @@ use Rattle.pick_state.proofs.TakeLaws.{aside-did}
 use borrow.Author.Needs.{needs}
 use Rattle.pick_state.proofs.takes.put_aside.Statement.{statement}
 use Rattle.pick_state.proofs.takes.put_aside.Tie as tie
-use Rattle.pick_state.proofs.takes.put_aside.Reads as reads
-use Rattle.pick_state.proofs.takes.put_aside.Lts as lts
-use Rattle.types.proofs.usize_to_u64.Reads as usize-to-u64-reads
 
 -- src/takes.rt:47:30
 mul-usize-to-u64 : tie.Need-mul-usize-to-u64

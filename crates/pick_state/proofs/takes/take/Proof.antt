@@ -3,10 +3,6 @@ use Rattle.pick_state.proofs.TakeLaws.{took-did}
 use borrow.Author.Needs.{needs}
 use Rattle.pick_state.proofs.takes.take.Statement.{statement}
 use Rattle.pick_state.proofs.takes.take.Tie as tie
-use Rattle.pick_state.proofs.takes.take.Reads as reads
-use Rattle.pick_state.proofs.takes.take.Lts as lts
-use Rattle.pick_state.proofs.takes.less.Reads as less-reads
-use Rattle.types.proofs.usize_to_u64.Reads as usize-to-u64-reads
 
 -- src/takes.rt:27:9
 less-requires : tie.Need-less-requires

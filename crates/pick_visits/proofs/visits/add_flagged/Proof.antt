@@ -1,5 +1,4 @@
 -- `add_flagged` meets its contract. Assumes nothing.
-use mathlib.Core.Path.{refl}
 use borrow.Author.Needs.{needs}
 use Rattle.pick_visits.proofs.VisitLaws.{picks-sound, flag-wanted, flag-beside, flag-added}
 use Rattle.pick_visits.proofs.visits.add_flagged.Statement.{statement}

@@ -1,8 +1,6 @@
 -- `visit_below_top` meets its contract. Assumes nothing.
 use mathlib.Core.Path.{sym, _∙_}
-use mathlib.Core.Path.{_≡_}
 use borrow.Author.Tests.{eq-eqb, ne-eqb}
-use Prim.Native.Nat.{ℕ}
 use borrow.Author.Needs.{needs}
 use Rattle.model.specs.State.{pieceAt}
 use Rattle.pick_state.specs.Requests.{requestOf}

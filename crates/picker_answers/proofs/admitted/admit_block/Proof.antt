@@ -8,12 +8,6 @@ use Rattle.picker_answers.proofs.AdmittedLaws.{block-past, block-there,
 use borrow.Author.Needs.{needs}
 use Rattle.picker_answers.proofs.admitted.admit_block.Statement.{statement}
 use Rattle.picker_answers.proofs.admitted.admit_block.Tie as tie
-use Rattle.picker_answers.proofs.admitted.admit_block.Reads as reads
-use Rattle.picker_answers.proofs.admitted.admit_block.Lts as lts
-use Rattle.ask_piece.proofs.blocks_in_piece.Reads as blocks-in-piece-reads
-use Rattle.memory_records.proofs.live_records.Reads as live-records-reads
-use Rattle.picker_calls.proofs.admit.Reads as admit-reads
-use Rattle.types.proofs.u64_to_usize.Reads as u64-to-usize-reads
 
 -- src/admitted.rt:84:11
 admit-requires : tie.Need-admit-requires

@@ -6,10 +6,6 @@ use Rattle.picker_answers.proofs.AdmittedLaws.{refused-for-memory, admi
 use borrow.Author.Needs.{needs}
 use Rattle.picker_answers.proofs.admitted.admit_picker.Statement.{statement}
 use Rattle.picker_answers.proofs.admitted.admit_picker.Tie as tie
-use Rattle.picker_answers.proofs.admitted.admit_picker.Reads as reads
-use Rattle.picker_answers.proofs.admitted.admit_picker.Lts as lts
-use Rattle.memory_records.proofs.live_records.Reads as live-records-reads
-use Rattle.picker_calls.proofs.admit.Reads as admit-reads
 
 -- src/admitted.rt:32:11
 admit-requires : tie.Need-admit-requires

@@ -1,5 +1,4 @@
 -- `admit_piece` meets its contract. Assumes nothing.
-use mathlib.Core.Path.{refl}
 use mathlib.Core.Option.{none}
 use Rattle.model.specs.Calls.{refuseBadPiece}
 use Rattle.picker_calls.proofs.CoreLaws.{stood-at}
@@ -8,10 +7,6 @@ use Rattle.picker_answers.proofs.AdmittedLaws.{piece-rule, piece-past, 
 use borrow.Author.Needs.{needs}
 use Rattle.picker_answers.proofs.admitted.admit_piece.Statement.{statement}
 use Rattle.picker_answers.proofs.admitted.admit_piece.Tie as tie
-use Rattle.picker_answers.proofs.admitted.admit_piece.Reads as reads
-use Rattle.picker_answers.proofs.admitted.admit_piece.Lts as lts
-use Rattle.memory_records.proofs.live_records.Reads as live-records-reads
-use Rattle.picker_calls.proofs.admit.Reads as admit-reads
 
 -- src/admitted.rt:51:11
 admit-requires : tie.Need-admit-requires

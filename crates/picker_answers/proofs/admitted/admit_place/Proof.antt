@@ -1,5 +1,5 @@
 -- `admit_place` meets its contract. Assumes nothing.
-use mathlib.Core.Path.{refl, sym, ap, _∙_}
+use mathlib.Core.Path.{sym, ap, _∙_}
 use mathlib.Core.Bool.{Bool}
 use mathlib.Core.Option.{none}
 use Rattle.types.specs.declared.refusal.Refusal.the-variants.{OutOfRange}
@@ -9,11 +9,6 @@ use Rattle.picker_answers.proofs.AdmittedLaws.{refused-for-memory, refu
 use borrow.Author.Needs.{needs}
 use Rattle.picker_answers.proofs.admitted.admit_place.Statement.{statement}
 use Rattle.picker_answers.proofs.admitted.admit_place.Tie as tie
-use Rattle.picker_answers.proofs.admitted.admit_place.Reads as reads
-use Rattle.picker_answers.proofs.admitted.admit_place.Lts as lts
-use Rattle.memory_records.proofs.live_records.Reads as live-records-reads
-use Rattle.picker_answers.proofs.admitted.past_list.Reads as past-list-reads
-use Rattle.picker_calls.proofs.admit.Reads as admit-reads
 
 -- src/admitted.rt:122:11
 admit-requires : tie.Need-admit-requires

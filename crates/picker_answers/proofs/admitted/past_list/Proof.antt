@@ -4,10 +4,6 @@ use Rattle.picker_answers.proofs.AdmittedLaws.{dirty-place, fresh-place
 use borrow.Author.Needs.{needs}
 use Rattle.picker_answers.proofs.admitted.past_list.Statement.{statement}
 use Rattle.picker_answers.proofs.admitted.past_list.Tie as tie
-use Rattle.picker_answers.proofs.admitted.past_list.Reads as reads
-use Rattle.picker_answers.proofs.admitted.past_list.Lts as lts
-use Rattle.memory_fields.proofs.is_dirty.Reads as is-dirty-reads
-use Rattle.memory_fields.proofs.list_length.Reads as list-length-reads
 
 -- src/admitted.rt:103:8
 is-dirty-requires : tie.Need-is-dirty-requires

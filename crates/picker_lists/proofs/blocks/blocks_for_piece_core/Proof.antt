@@ -6,7 +6,6 @@ use Rattle.model.specs.ask.Questions.{reply, listOfPiece, blocks-for-piece}
 use Rattle.model.specs.Calls.{questionRefusal}
 use Rattle.picker_answers.proofs.AdmittedLaws.{granted, asked}
 use Rattle.picker_lists.specs.Rooms.{roomRule}
-use Rattle.picker_lists.specs.Listing.{tellBlocks}
 use Rattle.picker_lists.proofs.ListLaws.{list-refused, blocks-replied, room-four}
 use borrow.Author.Needs.{needs}
 use Rattle.picker_lists.proofs.blocks.blocks_for_piece_core.Statement.{statement}

@@ -1,6 +1,6 @@
 -- `get_download_queue_core` meets its contract. Assumes nothing.
 use mathlib.Core.Path.{refl}
-use Rattle.model.specs.ask.Questions.{reply, listPicker}
+use Rattle.model.specs.ask.Questions.{reply}
 use Rattle.model.specs.Calls.{questionRefusal, recordsNeeded}
 use Rattle.picker_answers.proofs.AdmittedLaws.{granted, asked}
 use Rattle.picker_lists.specs.Rooms.{roomRule}

@@ -1,5 +1,5 @@
 -- `PieceIndex::number` meets its contract by that of the conversion: the number fits, and its bits read as itself. Assumes nothing.
-use mathlib.Core.Path.{_≡_, ap, _∙_}
+use mathlib.Core.Path.{ap, _∙_}
 use mir.Syntax.{w32}
 use mir.Val.{SFits}
 use mir.ValLaws.{toZ-ofZ}
