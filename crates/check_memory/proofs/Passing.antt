@@ -31,7 +31,7 @@ use Rattle.memory_layout.specs.Good.{lengths, short, headRaw, pieceRaw, piecesR
 use Rattle.memory_layout.specs.Good.{goodPlaces, goodPartials, goodExtents, goodList, goodBody, orElse, memoryRefusal}
 use Rattle.memory_layout.proofs.OffsetLaws.{head-in}
 use Rattle.memory_layout.proofs.StandingLaws.{changed-stands}
-use Rattle.check_partials.proofs.BelowLaws.{every-all}
+use Rattle.check_blocks.proofs.BelowLaws.{every-all}
 use Rattle.check_memory.proofs.Standing.{well-formed-picker, in-bounds, plain, ranks-held}
 
 -- ---- a passed test

@@ -31,7 +31,7 @@ use Rattle.memory_layout.specs.Good.{short, headRaw, pieceRaw, piecesRaw, block
 use Rattle.memory_layout.specs.Good.{goodPlaces, goodPartials, goodExtents, goodList, goodBody, orElse, memoryRefusal}
 use Rattle.check_pieces.proofs.HeadLaws.{headed}
 use Rattle.check_pieces.proofs.ExtentTests.{pieces-in}
-use Rattle.check_partials.proofs.BelowLaws.{every-at}
+use Rattle.check_blocks.proofs.BelowLaws.{every-at}
 use Rattle.check_partials.proofs.ReadyLaws.{placed}
 use Rattle.check_memory.proofs.LengthLaws.{spanned}
 use Rattle.check_memory.proofs.VerdictLaws.{head-any, passed, live-is}

@@ -16,11 +16,12 @@ use Rattle.memory_records.specs.declared.record.DownloadingPiece.{DownloadingPi
 use Rattle.memory_layout.specs.declared.shape.Shape.{Shape}
 use Rattle.memory_layout.specs.Decode.{headWord, pieceCell, piecesOn, blocksOn, blocksOf}
 use Rattle.memory_layout.specs.Bounds.{CellColumn}
-use Rattle.check_partials.specs.declared.blocks.Counts.{Counts}
-use Rattle.check_partials.specs.Below.{countBelow}
-use Rattle.check_partials.specs.Rows.{stateBy, rowsOk, inState, busyIn, Tallied}
+use Rattle.check_blocks.specs.declared.blocks.Counts.{Counts}
+use Rattle.check_blocks.specs.Below.{countBelow}
+use Rattle.check_blocks.specs.Rows.{rowsOk, inState, busyIn, Tallied}
+use Rattle.check_partials.specs.States.{stateBy}
 use Rattle.check_partials.specs.Records.{blocksGood, recordGood, atWork, Ready}
-use Rattle.check_partials.proofs.BelowLaws.{count-next, count-few, count-same}
+use Rattle.check_blocks.proofs.BelowLaws.{count-next, count-few, count-same}
 
 -- ---- pieces at work
 -- after i pieces, by the list of their states

@@ -14,9 +14,9 @@ use Rattle.model.specs.change.Partials.{findDlPiece}
 use Rattle.model.specs.image.Sound.{partialsFrom}
 use Rattle.model.proofs.sound.PartialLaws.{findDlPiece-here, findDlPiece-there, findDlPiece-below, from-head, from-tail, from-cons}
 use Rattle.memory_layout.specs.Tables.{tabulate}
-use Rattle.check_partials.specs.Below.{countBelow}
+use Rattle.check_blocks.specs.Below.{countBelow}
 use Rattle.check_partials.specs.Records.{lowest}
-use Rattle.check_partials.proofs.BelowLaws.{count-same, count-none, count-either, count-one}
+use Rattle.check_blocks.proofs.BelowLaws.{count-same, count-none, count-either, count-one}
 
 -- ---- rising pieces
 pub rising-from : (lo m : ℕ) (f : ℕ → DownloadingPiece) → ((k : ℕ) → k < m → lowest lo (λ j. f j .piece) k ≤ f k .piece)

@@ -1,7 +1,4 @@
-pub mod BelowLaws
 pub mod PlaceLaws
-pub mod JoinLaws
-pub mod CountLaws
 pub mod StateLaws
 pub mod HeldLaws
 pub mod MeaningLaws

@@ -24,9 +24,10 @@ use Rattle.memory_layout.specs.Decode.{blocksHeld, partialFrom, partialHeld}
 use Rattle.memory_layout.specs.Good.{blockRaw}
 use Rattle.memory_layout.proofs.TableLaws.{tabulate-len}
 use Rattle.memory_layout.proofs.Numbers.{queue-number, state-number}
-use Rattle.check_partials.specs.Below.{countBelow}
-use Rattle.check_partials.specs.Rows.{dueBy, stateBy, rowOk, rowCells, rowsOk, inState, busyIn}
-use Rattle.check_partials.proofs.BelowLaws.{all-at, all-from, count-same, count-tab, every-at, every-all, every-tab, tab-every}
+use Rattle.check_blocks.specs.Below.{countBelow}
+use Rattle.check_blocks.specs.Rows.{rowOk, rowCells, rowsOk, inState, busyIn}
+use Rattle.check_partials.specs.States.{dueBy, stateBy}
+use Rattle.check_blocks.proofs.BelowLaws.{all-at, all-from, count-same, count-tab, every-at, every-all, every-tab, tab-every}
 
 -- the third flag
 pub hashing-is : (w : ℕ) → w ≤ 7 → bitOf w 2 ≡ leb 4 w

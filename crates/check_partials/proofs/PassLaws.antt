@@ -10,9 +10,9 @@ use Rattle.model.proofs.base.Truths.{both-true, true-both}
 use Rattle.model.proofs.base.Counts.{and-false}
 use Rattle.memory_records.specs.declared.record.DownloadingPiece.{DownloadingPiece as Record}
 use Rattle.memory_layout.specs.Decode.{pieceCell}
-use Rattle.check_partials.specs.Below.{allBelow}
+use Rattle.check_blocks.specs.Below.{allBelow}
 use Rattle.check_partials.specs.Records.{blocksGood, recordGood, indexAt, placeAt, flagsAt, goodAt, lowest, recordNext}
-use Rattle.check_partials.proofs.BelowLaws.{all-next, all-false}
+use Rattle.check_blocks.proofs.BelowLaws.{all-next, all-false}
 
 -- ---- a good partial
 pub good-parts : (rs : List Record) (words cells : List ℕ) (n b k : ℕ) → goodAt rs words cells n b k ≡ true → (indexAt rs k < n)

@@ -22,9 +22,9 @@ use Rattle.memory_layout.specs.Decode.{headWord, recordAt, piecesOn}
 use Rattle.memory_layout.specs.Bounds.{ShapeOf}
 use Rattle.memory_layout.specs.Good.{placeRaw, goodPlaces}
 use Rattle.memory_layout.proofs.TableLaws.{tabulate-more}
-use Rattle.check_partials.specs.Below.{allBelow}
+use Rattle.check_blocks.specs.Below.{allBelow}
 use Rattle.check_partials.specs.Records.{recordGood, indexAt, placeAt, goodAt}
-use Rattle.check_partials.proofs.BelowLaws.{all-next, all-false, below-every}
+use Rattle.check_blocks.proofs.BelowLaws.{all-next, all-false, below-every}
 
 -- a list with one more
 member-more : (x y : ℕ) (l : List ℕ) → member x (l ++ (y ∷ [])) ≡ (member x l || eqb x y)

@@ -22,10 +22,10 @@ use Rattle.memory_layout.specs.Changes.{partialIn}
 use Rattle.memory_layout.specs.Bounds.{ShapeOf, Spans}
 use Rattle.memory_layout.specs.Good.{headRaw, pieceRaw, piecesRaw, placeRaw, goodHead, goodPieces, goodPlaces, goodPartials}
 use Rattle.memory_layout.proofs.TableLaws.{tabulate-nth}
-use Rattle.check_partials.specs.Below.{allBelow}
-use Rattle.check_partials.specs.Rows.{inState}
+use Rattle.check_blocks.specs.Below.{allBelow}
+use Rattle.check_blocks.specs.Rows.{inState}
 use Rattle.check_partials.specs.Records.{placeAt, indexAt, heldAt, recordNext, atWork, Columns, CountsHeld, Ready, Placed}
-use Rattle.check_partials.proofs.BelowLaws.{every-at, all-at}
+use Rattle.check_blocks.proofs.BelowLaws.{every-at, all-at}
 use Rattle.check_partials.proofs.MeaningLaws.{counts-are}
 use Rattle.check_partials.proofs.WholeLaws.{pass-is, pass-blocks}
 

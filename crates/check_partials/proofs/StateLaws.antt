@@ -12,7 +12,7 @@ use Rattle.model.specs.Lists.{bit}
 use Rattle.model.specs.State.{sameQueue}
 use Rattle.model.proofs.base.Counts.{and-false}
 use Rattle.memory_layout.specs.Decode.{queueFrom}
-use Rattle.check_partials.specs.Rows.{dueBy, stateBy}
+use Rattle.check_partials.specs.States.{dueBy, stateBy}
 
 -- ---- the state that is due
 working : (b : ℕ) (h : Bool) → (b ≡ 0 → h ≡ true) → eqb (b + bit h) 0 ≡ false

@@ -9,9 +9,10 @@ use lib.ListN.{length, getD, set, length-set}
 use lib.Seq.{getD-set-same, getD-set-other}
 use Rattle.memory_records.specs.declared.record.DownloadingPiece.{DownloadingPiece as Record}
 use Rattle.memory_layout.specs.Decode.{recordAt, blocksOf}
-use Rattle.check_partials.specs.declared.blocks.Counts.{Counts}
-use Rattle.check_partials.specs.Rows.{inState, Tallied}
-use Rattle.check_partials.specs.Records.{indexAt, placeAt, countsPut, Columns}
+use Rattle.check_blocks.specs.declared.blocks.Counts.{Counts}
+use Rattle.check_blocks.specs.Rows.{inState, Tallied}
+use Rattle.check_blocks.specs.Rows.{countsPut}
+use Rattle.check_partials.specs.Records.{indexAt, placeAt, Columns}
 
 pub length-put : (counts : List ℕ) (k : ℕ) (c : Counts) → length (countsPut counts k c) ≡ length counts
 unfolding countsPut

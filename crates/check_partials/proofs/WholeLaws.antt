@@ -25,11 +25,11 @@ use Rattle.memory_layout.specs.Decode.{partialHeld, piecesHeld, partialsHeld, d
 use Rattle.memory_layout.specs.Good.{blockRaw, recordRaw}
 use Rattle.memory_layout.proofs.TableLaws.{tabulate-len, tabulate-nth}
 use Rattle.memory_layout.proofs.OffsetLaws.{places-min}
-use Rattle.check_partials.specs.Below.{allBelow, countBelow}
-use Rattle.check_partials.specs.Rows.{rowsOk}
+use Rattle.check_blocks.specs.Below.{allBelow, countBelow}
+use Rattle.check_blocks.specs.Rows.{rowsOk}
 use Rattle.check_partials.specs.Records.{blocksGood, recordGood, indexAt, placeAt, flagsAt, rawAt, goodAt, heldAt, lowest, recordNext}
 use Rattle.check_partials.specs.Records.{atWork}
-use Rattle.check_partials.proofs.BelowLaws.{all-at, all-from, count-same, count-tight, every-at, every-all}
+use Rattle.check_blocks.proofs.BelowLaws.{all-at, all-from, count-same, count-tight, every-at, every-all}
 use Rattle.check_partials.proofs.PassLaws.{good-parts}
 use Rattle.check_partials.proofs.HeldLaws.{rising-from, from-rising, found-each, found-has, held, held-none, held-some, count-held}
 use Rattle.check_partials.proofs.MeaningLaws.{open-is, rows-raw, rows-each, rows-both, state-words}

@@ -1,3 +1,2 @@
-pub mod Below
-pub mod Rows
+pub mod States
 pub mod Records

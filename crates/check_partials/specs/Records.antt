@@ -3,7 +3,7 @@ use Prim.Native.Nat.{ℕ, zero, suc, _+_, _≤_, _<_}
 use mathlib.Core.Path.{_≡_}
 use mathlib.Core.Bool.{Bool, true, not, _&&_}
 use mathlib.Core.List.{List}
-use lib.ListN.{getD, set}
+use lib.ListN.{getD}
 use lib.Dec.{eqb, ltb, leb}
 use Rattle.types.specs.declared.block.BlockState.the-variants.{Requested, Writing, Finished}
 use Rattle.model.specs.State.{DownloadingPiece, Picker, validGeometry}
@@ -14,9 +14,9 @@ use Rattle.memory_layout.specs.Decode.{headWord, pieceCell, recordAt, piecesOn,
 use Rattle.memory_layout.specs.Changes.{partialIn}
 use Rattle.memory_layout.specs.Bounds.{Spans}
 use Rattle.memory_layout.specs.Good.{recordRaw}
-use Rattle.check_partials.specs.declared.blocks.Counts.{Counts}
-use Rattle.check_partials.specs.Below.{countBelow}
-use Rattle.check_partials.specs.Rows.{stateBy, rowsOk, inState, busyIn}
+use Rattle.check_blocks.specs.Below.{countBelow}
+use Rattle.check_blocks.specs.Rows.{rowsOk, inState, busyIn}
+use Rattle.check_partials.specs.States.{stateBy}
 
 -- ---- one record
 -- the blocks of piece i at place p are good, and its state is theirs
@@ -66,9 +66,6 @@ unfoldable pub atWork : (cells : List ℕ) (n : ℕ) → ℕ
 atWork cells n = countBelow (λ i. not (eqb (pieceCell cells n 1 i) 4)) n
 
 -- ---- the counts: three columns of 512, requested, writing, finished
-unfoldable pub countsPut : (counts : List ℕ) (k : ℕ) (c : Counts) → List ℕ
-countsPut counts k c = set (set (set counts k (c .requested)) (512 + k) (c .writing)) (1024 + k) (c .finished)
-
 -- those of the blocks at the places of the first records
 pub record Columns (rs : List Record) (words cells : List ℕ) (n b many : ℕ) (counts : List ℕ) : Type 0 where
   pub requested : (k : ℕ) → k < many → getD counts k 0 ≡ inState cells n b (placeAt rs k) 1 (blocksOf words (indexAt rs k))

@@ -1,9 +1,10 @@
 // The live records: each on its own, beside those before it, and all of them beside the pieces.
-use crate::blocks::Counted;
-use crate::blocks::Counts;
-use crate::blocks::blocks_ok;
-use crate::blocks::one_if;
 use crate::states::state_ok;
+use check_blocks::Counted;
+use check_blocks::Counts;
+use check_blocks::blocks_ok;
+use check_blocks::one_if;
+use check_blocks::set_counts;
 use geometry::blocks_at;
 use memory_layout::Shape;
 use memory_layout::head_word;
@@ -24,9 +25,9 @@ ghost use Rattle.memory_records.specs.Rows.{recordsIn};
 ghost use Rattle.memory_layout.specs.Decode.{headWord, blocksOf, decode};
 ghost use Rattle.memory_layout.specs.Bounds.{ShapeOf, CellsSpan, Spans};
 ghost use Rattle.memory_layout.specs.Good.{goodHead, goodPieces, goodPlaces, goodPartials};
-ghost use Rattle.check_partials.specs.Below.{allBelow};
-ghost use Rattle.check_partials.specs.Rows.{Tallied};
-ghost use Rattle.check_partials.specs.Records.{blocksGood, recordGood, recordNext, atWork, countsPut, Columns, CountsHeld};
+ghost use Rattle.check_blocks.specs.Below.{allBelow};
+ghost use Rattle.check_blocks.specs.Rows.{Tallied};
+ghost use Rattle.check_partials.specs.Records.{blocksGood, recordGood, recordNext, atWork, Columns, CountsHeld};
 ghost use Rattle.check_partials.specs.Records.{Ready, Placed};
 
 // How many pieces are not Open.
@@ -132,16 +133,6 @@ fn record_ok(words: &[u64], cells: &[u16], s: Shape, r: DownloadingPiece) -> Cou
         u32_to_usize(r.info_idx),
         4 <= r.flags,
     )
-}
-
-// Partial k has these counts.
-fn set_counts(counts: &mut [u16], k: usize, c: Counts)
-    requires { ⌜ (k < 512) × (length (now counts) ≡ 1536) ⌝ }
-    ensures { λ _. ⌜ now (counts .exit) ≡ countsPut (now (counts .entry)) k c ⌝ }
-{
-    counts[k] = c.requested;
-    counts[512 + k] = c.writing;
-    counts[1024 + k] = c.finished;
 }
 
 // Each record is good, and of a higher piece than those before it.

@@ -3,7 +3,7 @@ ghost use mathlib.Core.Path.{_≡_};
 ghost use Prim.Native.Nat.{_≤_};
 ghost use Rattle.types.specs.Queue.{queueNumber, unreverse};
 ghost use Rattle.memory_layout.specs.Decode.{queueFrom};
-ghost use Rattle.check_partials.specs.Rows.{dueBy, stateBy};
+ghost use Rattle.check_partials.specs.States.{dueBy, stateBy};
 
 // The number of a state without its direction.
 fn plain_state(state: u16) -> u16

@@ -18,7 +18,7 @@ use Rattle.model.specs.image.Image.{bodyLength, partialKind, Got, fault, ret, n
 use Rattle.model.specs.image.Image.{partialWith}
 use Rattle.model.specs.image.Image.{getPartial}
 use Rattle.memory_layout.specs.Decode.{queueFrom}
-use Rattle.check_partials.specs.Rows.{dueBy, stateBy}
+use Rattle.check_partials.specs.States.{dueBy, stateBy}
 use Rattle.image_records.proofs.FoundLaws.{NumberGot, flags-most}
 use Rattle.image_pieces.specs.declared.place.Place.the-variants.{At, Fault}
 use Rattle.image_pieces.specs.Places.{Went}

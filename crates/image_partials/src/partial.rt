@@ -12,7 +12,7 @@ ghost use mathlib.Core.Path.{_≡_};
 ghost use Prim.Native.Nat.{_+_, _-_, _≤_, _<_};
 ghost use lib.ListN.{length};
 ghost use lib.Dec.{leb};
-ghost use Rattle.check_partials.specs.Rows.{stateBy};
+ghost use Rattle.check_partials.specs.States.{stateBy};
 ghost use Rattle.image_partials.specs.Partials.{PartialJudged};
 
 // The state of a piece fits its blocks.

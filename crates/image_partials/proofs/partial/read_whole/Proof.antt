@@ -5,7 +5,7 @@ use native.Mathlib.Omega.{arith}
 use lib.Dec.{leb}
 use Rattle.model.specs.Lists.{nth}
 use Rattle.model.specs.image.Image.{bodyLength, partialKind, readPartial}
-use Rattle.check_partials.specs.Rows.{stateBy}
+use Rattle.check_partials.specs.States.{stateBy}
 use Rattle.image_records.proofs.FoundLaws.{number-got, number-bad}
 use Rattle.image_pass.proofs.BlockLaws.{tallied-few}
 use Rattle.image_partials.specs.Blocks.{BlocksJudged}

@@ -2,11 +2,11 @@
 -- those of the first j. Assumes nothing.
 use Prim.Native.Nat.{_≤_, _-_}
 use native.Mathlib.Omega.{arith}
-use Rattle.check_partials.specs.Rows.{rowIn}
-use Rattle.check_partials.proofs.CountLaws.{Counting, counting-start, counting-next, counting-end, numbers-few}
+use Rattle.check_blocks.specs.Rows.{rowIn}
+use Rattle.check_blocks.proofs.CountLaws.{Counting, counting-start, counting-next, counting-end, numbers-few}
 use borrow.Author.Needs.{needs}
-use Rattle.check_partials.proofs.blocks.rows_pass.Statement.{statement}
-use Rattle.check_partials.proofs.blocks.rows_pass.Tie as tie
+use Rattle.check_blocks.proofs.blocks.rows_pass.Statement.{statement}
+use Rattle.check_blocks.proofs.blocks.rows_pass.Tie as tie
 
 abbrev Inv-loop : tie.InvT-loop
 Inv-loop states num-peers has many sum₀ counts₀ j₀ sum counts j = (j ≤ many) × Counting states num-peers has sum counts j

@@ -9,11 +9,11 @@ use lib.ListN.{getD}
 use Rattle.model.specs.Lists.{bit}
 use Rattle.memory_layout.specs.declared.shape.Shape.{Shape}
 use Rattle.memory_layout.specs.Bounds.{BlockColumn}
-use Rattle.check_partials.specs.declared.blocks.Joined.{Joined}
-use Rattle.check_partials.specs.declared.blocks.Counts.{Counts}
-use Rattle.check_partials.specs.Below.{allBelow, countBelow}
-use Rattle.check_partials.specs.Rows.{joinedOk, rowIn, stateOf, rowCells, rowsOk, inState}
-use Rattle.check_partials.proofs.BelowLaws.{all-more, all-same, count-next, count-same, count-few}
+use Rattle.check_blocks.specs.declared.blocks.Joined.{Joined}
+use Rattle.check_blocks.specs.declared.blocks.Counts.{Counts}
+use Rattle.check_blocks.specs.Below.{allBelow, countBelow}
+use Rattle.check_blocks.specs.Rows.{joinedOk, rowIn, stateOf, rowCells, rowsOk, inState}
+use Rattle.check_blocks.proofs.BelowLaws.{all-more, all-same, count-next, count-same, count-few}
 
 -- ---- lists
 -- as many counted as there are, of each state

@@ -8,8 +8,8 @@ ghost use lib.ListN.{length};
 ghost use lib.Dec.{eqb};
 ghost use Rattle.model.specs.Lists.{bit};
 ghost use Rattle.memory_layout.specs.Bounds.{CellsSpan};
-ghost use Rattle.check_partials.specs.Below.{allBelow};
-ghost use Rattle.check_partials.specs.Rows.{rowOk, joinedOk, rowIn, stateOf, rowsOk, inState};
+ghost use Rattle.check_blocks.specs.Below.{allBelow};
+ghost use Rattle.check_blocks.specs.Rows.{rowOk, joinedOk, rowIn, stateOf, rowsOk, inState};
 
 pub struct Counts {
     pub requested: u16,

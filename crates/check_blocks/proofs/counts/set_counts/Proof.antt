@@ -2,10 +2,10 @@
 use Prim.Native.Nat.{_+_}
 use native.Mathlib.Omega.{arith}
 use lib.ListN.{set, length-set}
-use Rattle.check_partials.specs.Records.{countsPut}
+use Rattle.check_blocks.specs.Rows.{countsPut}
 use borrow.Author.Needs.{needs}
-use Rattle.check_partials.proofs.partials.set_counts.Statement.{statement}
-use Rattle.check_partials.proofs.partials.set_counts.Tie as tie
+use Rattle.check_blocks.proofs.counts.set_counts.Statement.{statement}
+use Rattle.check_blocks.proofs.counts.set_counts.Tie as tie
 
 mul-counts : tie.Need-mul-counts
 mul-counts c = search needs

@@ -1,33 +1,16 @@
--- What the tests of records and their blocks ask of the numbers, and what stands before they are made. Assumes nothing.
+-- What the test of blocks asks of their cells, and how many are in each state. Assumes nothing.
 use Prim.Native.Nat.{ℕ, _+_}
 use mathlib.Core.Path.{_≡_}
-use mathlib.Core.Bool.{Bool, cond, _&&_, _||_}
+use mathlib.Core.Bool.{Bool, _&&_}
 use mathlib.Core.List.{List}
-use lib.ListN.{getD}
+use lib.ListN.{getD, set}
 use lib.Dec.{eqb, ltb, leb}
-use Rattle.types.specs.declared.queue.DownloadQueue.{DownloadQueue}
-use Rattle.types.specs.declared.queue.DownloadQueue.the-variants.{Downloading, Full, Finished, ZeroPrio, Open}
-use Rattle.types.specs.Queue.{unreverse}
-use Rattle.model.specs.Lists.{bit}
-use Rattle.model.specs.State.{sameQueue, maxPeers}
-use Rattle.memory_layout.specs.Decode.{blockCell, queueFrom}
-use Rattle.check_partials.specs.declared.blocks.Joined.{Joined}
-use Rattle.check_partials.specs.declared.blocks.Counts.{Counts}
-use Rattle.check_partials.specs.Below.{allBelow, countBelow}
+use Rattle.model.specs.State.{maxPeers}
+use Rattle.memory_layout.specs.Decode.{blockCell}
+use Rattle.check_blocks.specs.declared.blocks.Joined.{Joined}
+use Rattle.check_blocks.specs.declared.blocks.Counts.{Counts}
+use Rattle.check_blocks.specs.Below.{allBelow, countBelow}
 
--- ---- the state of a piece, by the numbers of its partial's blocks: requested, not free, all
-unfoldable pub dueBy : (priority requested busy blocks : ℕ) (hashing : Bool) → DownloadQueue
-dueBy priority requested busy blocks hashing =
-    cond (eqb priority 0) ZeroPrio
-    (cond (eqb (busy + bit hashing) 0) Open
-    (cond (ltb busy blocks) Downloading (cond (ltb 0 requested) Full Finished)))
-
--- the state is the one that is due, or no block of a piece above priority 0 is at work
-unfoldable pub stateBy : (state priority requested busy blocks : ℕ) (hashing : Bool) → Bool
-stateBy state priority requested busy blocks hashing =
-    (ltb 0 priority && eqb busy 0) || sameQueue (unreverse (queueFrom state)) (dueBy priority requested busy blocks hashing)
-
--- ---- blocks
 -- the cells of a block: numbers that an image could hold, and in range
 unfoldable pub rowOk : (state numPeers has : ℕ) → Bool
 rowOk state numPeers has = (leb state 3 && leb numPeers maxPeers) && leb has 1
@@ -65,3 +48,7 @@ pub record Tallied (cells : List ℕ) (n b p many : ℕ) (c : Counts) : Type 0 w
   pub requested : c .requested ≡ inState cells n b p 1 many
   pub writing : c .writing ≡ inState cells n b p 2 many
   pub finished : c .finished ≡ inState cells n b p 3 many
+
+-- the numbers of partial k stored: three columns of 512, requested, writing, finished
+unfoldable pub countsPut : (counts : List ℕ) (k : ℕ) (c : Counts) → List ℕ
+countsPut counts k c = set (set (set counts k (c .requested)) (512 + k) (c .writing)) (1024 + k) (c .finished)

@@ -8,8 +8,8 @@ use lib.Dec.{ltb, leb}
 use lib.Bits.{bitOr, and-le-l, and-le-r, or-add-and, or-lt}
 use borrow.Author.Tests.{lt-ltb, le-ltb, lt-leb, le-leb}
 use Rattle.model.proofs.base.Counts.{and-false}
-use Rattle.check_partials.specs.declared.blocks.Joined.{Joined}
-use Rattle.check_partials.specs.Rows.{rowOk, joinedOk}
+use Rattle.check_blocks.specs.declared.blocks.Joined.{Joined}
+use Rattle.check_blocks.specs.Rows.{rowOk, joinedOk}
 
 -- ---- a joined cell is below a power of two exactly where its parts are
 or-least : (a b : ℕ) → (a ≤ bitOr a b) × (b ≤ bitOr a b)

@@ -1,8 +1,8 @@
 -- `joined_ok` meets its contract: the tests are those of the definition. Assumes nothing.
 use mathlib.Core.Path.{refl}
-use Rattle.check_partials.specs.Rows.{joinedOk}
-use Rattle.check_partials.proofs.blocks.joined_ok.Statement.{statement}
-use Rattle.check_partials.proofs.blocks.joined_ok.Tie as tie
+use Rattle.check_blocks.specs.Rows.{joinedOk}
+use Rattle.check_blocks.proofs.blocks.joined_ok.Statement.{statement}
+use Rattle.check_blocks.proofs.blocks.joined_ok.Tie as tie
 
 returns : tie.Need-returns
 unfolding joinedOk

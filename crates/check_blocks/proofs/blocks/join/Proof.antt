@@ -1,9 +1,9 @@
 -- `join` meets its contract: joined cells are in range exactly where their parts are, and those of a block where it is good. Assumes
 -- nothing.
-use Rattle.check_partials.proofs.JoinLaws.{join-row}
+use Rattle.check_blocks.proofs.JoinLaws.{join-row}
 use borrow.Author.Needs.{needs}
-use Rattle.check_partials.proofs.blocks.join.Statement.{statement}
-use Rattle.check_partials.proofs.blocks.join.Tie as tie
+use Rattle.check_blocks.proofs.blocks.join.Statement.{statement}
+use Rattle.check_blocks.proofs.blocks.join.Tie as tie
 
 over-requires : tie.Need-over-requires
 over-requires c κs = search needs

@@ -1,8 +1,8 @@
 -- `blocks_ok` meets its contract: the tests on the fields that are lent are those on the place. Assumes nothing.
-use Rattle.check_partials.proofs.CountLaws.{place-answer}
+use Rattle.check_blocks.proofs.CountLaws.{place-answer}
 use borrow.Author.Needs.{needs}
-use Rattle.check_partials.proofs.blocks.blocks_ok.Statement.{statement}
-use Rattle.check_partials.proofs.blocks.blocks_ok.Tie as tie
+use Rattle.check_blocks.proofs.blocks.blocks_ok.Statement.{statement}
+use Rattle.check_blocks.proofs.blocks.blocks_ok.Tie as tie
 
 block-column-requires : tie.Need-block-column-requires
 block-column-requires c κs = search needs

@@ -14,7 +14,7 @@ use Rattle.model.proofs.base.Truths.{both-true, true-both, true-or-false, not-b
 use Rattle.model.proofs.base.Counts.{and-false, count-append}
 use Rattle.memory_layout.specs.Tables.{tabulate}
 use Rattle.memory_layout.proofs.TableLaws.{tabulate-more}
-use Rattle.check_partials.specs.Below.{allBelow, countBelow}
+use Rattle.check_blocks.specs.Below.{allBelow, countBelow}
 
 module _ (t : ℕ → Bool) where
   -- ---- all pass

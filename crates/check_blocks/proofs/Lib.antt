@@ -1,0 +1,3 @@
+pub mod BelowLaws
+pub mod JoinLaws
+pub mod CountLaws
