@@ -1,5 +1,5 @@
-// The local rows of a call, which are its live records: the partial of a piece among them, by the search of memory_bound.
-use memory_bound::lower_bound;
+// The local rows of a call, which are its live records: the partial of a piece among them, by the search of memory_lower_bound.
+use memory_lower_bound::lower_bound;
 use memory_records::Found;
 use types::u32_to_usize;
 ghost use mathlib.Core.Path.{_≡_};

@@ -5,8 +5,8 @@ use Prim.Native.Nat.{_+_, _≤_}
 use native.Mathlib.Omega.{arith}
 use Rattle.memory_halving.specs.Halving.{Halves}
 use Rattle.memory_halving.proofs.HalvesLaws.{halves-start, halves-past, halves-up, halves-down, halves-end}
-use Rattle.memory_bound.proofs.few.Statement.{statement}
-use Rattle.memory_bound.proofs.few.Tie as tie
+use Rattle.memory_lower_bound.proofs.few.Statement.{statement}
+use Rattle.memory_lower_bound.proofs.few.Tie as tie
 
 abbrev Inv-loop : tie.InvT-loop
 Inv-loop rows live i low₀ width₀ low width = (width ≤ 64) × Halves live rows i low (low + width)

@@ -2,8 +2,8 @@
 use native.Mathlib.Omega.{arith}
 use Rattle.memory_halving.proofs.StepLaws.{narrow-16, narrow-4, narrow-1, narrow-last}
 use borrow.Author.Needs.{needs}
-use Rattle.memory_bound.proofs.lower_bound.Statement.{statement}
-use Rattle.memory_bound.proofs.lower_bound.Tie as tie
+use Rattle.memory_lower_bound.proofs.lower_bound.Statement.{statement}
+use Rattle.memory_lower_bound.proofs.lower_bound.Tie as tie
 
 few-requires : tie.Need-few-requires
 few-requires c κs = search needs
