@@ -1,4 +1,6 @@
 // The questions of a block, answered from the partial of its piece where one stands.
+#![tactic(auto)]
+
 mod find;
 mod peers;
 mod states;

@@ -1,4 +1,6 @@
 // The questions that go over the columns of the pieces: how many copies of the torrent there are, and the lists of a number for each piece.
+#![tactic(auto)]
+
 mod copies;
 mod lists;
 

@@ -1,4 +1,6 @@
 // The questions of a piece that its partial answers: its flags, and how many of its blocks are in each state.
+#![tactic(auto)]
+
 mod flags;
 mod info;
 

@@ -1,5 +1,7 @@
 // The questions of the picker that its geometry and its head answer. Each answer is the definition's, whatever stands in the buffers
 // that are not read.
+#![tactic(auto)]
+
 ghost use Rattle.model.specs.ask.Questions.{reply_picker, one, flag, num_pieces, block_size, ask_blocks_per_piece, cursor?, reverse_cursor?};
 ghost use Rattle.model.specs.ask.Questions.{num_seeds, get_download_queue_size, total_size, full_piece_size, dirty?};
 ghost use Rattle.memory_layout.specs.Bounds.{WordsSpan};

@@ -1,5 +1,7 @@
 // The questions of a piece that its own fields and the geometry answer. Each answer is the definition's, whatever stands in the buffers
 // that are not read.
+#![tactic(auto)]
+
 mod fields;
 mod lengths;
 mod stats;

@@ -1,4 +1,6 @@
 // What stands at a place: a partial by rising piece, a recent extent, a piece of the list.
+#![tactic(auto)]
+
 ghost use Rattle.std.specs.Prelude.{◌≡◌, ◌≤◌, length};
 ghost use Rattle.model.specs.State.{max_extents};
 ghost use Rattle.model.specs.ask.Questions.{reply, partial_at, recent_extent, ask_list_place};

@@ -1,4 +1,6 @@
 // How far the picker is: whether anything is left to be had, and how many partials stand in each queue. Each counts once.
+#![tactic(auto)]
+
 ghost use Rattle.std.specs.Prelude.{◌≡◌};
 ghost use Rattle.model.specs.ask.Questions.{reply_picker, one, flag, is_finished, is_seeding, num_want_left, get_download_queue_sizes};
 ghost use Rattle.memory_rows.specs.Lookup.{picker_in};

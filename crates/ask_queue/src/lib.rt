@@ -1,4 +1,6 @@
 // The partials of the four queues, a record for each, written once into a lent list. What lies behind stays as it was.
+#![tactic(auto)]
+
 ghost use Rattle.std.specs.Prelude.{◌≡◌, [], ◌+◌, ◌*◌, ◌≤◌, ◌<◌, length};
 ghost use Rattle.model.specs.Lists.{nth};
 ghost use Rattle.model.specs.ask.Questions.{list_picker, plain, get_download_queue};

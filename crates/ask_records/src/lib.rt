@@ -1,4 +1,6 @@
 // The questions of a piece that are answered by a record for each block, written once into a lent list. What lies behind stays as it was.
+#![tactic(auto)]
+
 mod blocks;
 mod peers;
 mod words;

@@ -10,7 +10,7 @@ use memory_fields::{flushed, pad_bytes, priority};
 use memory_layout::Shape;
 
 // Which pieces are counted, by whether a piece is had and whether it is filtered.
-#[derive(Drop)]
+#[derive(Clone, Copy)]
 pub enum Which {
     All,
     Want,

@@ -1,5 +1,7 @@
 // The totals of the picker: pieces that pass a test, and their pad bytes, counted in one pass over the pieces. Pieces that passed while
 // they are still partials are marked from the rows before it, so that no piece is looked up.
+#![tactic(auto)]
+
 mod count;
 mod marks;
 mod totals;

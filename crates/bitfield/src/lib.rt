@@ -1,5 +1,7 @@
 // Bitfields in lent bytes, read: bit i is bit 7 - i % 8 of byte i / 8, and `bits` says how many bits count.
 // Bits past the end of the bytes read as unset. No function has a precondition.
+#![tactic(auto)]
+
 ghost use Rattle.std.specs.Prelude.{◌≡◌, ◌+◌, ◌*◌, ◌/◌, min, true, false, eqb, take};
 ghost use Rattle.model.specs.Bep3.{parts_of, bitfield_bytes, bit_at, none_set};
 ghost use Rattle.bitfield.specs.Bitfield.{get_bit, count_bits, all_set, first_set, last_clear, next_bit};

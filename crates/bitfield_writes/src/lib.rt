@@ -1,5 +1,7 @@
 // Bitfields in lent bytes, written: filled, one bit or all, and resized. Bits past the end of the bytes are not written, and the spare
 // bits behind a fill become 0. No public function has a precondition.
+#![tactic(auto)]
+
 ghost use Rattle.std.specs.Prelude.{◌≡◌, ◌+◌, ◌*◌, ◌/◌, ◌≤◌, true, false, length};
 ghost use Rattle.model.specs.Bep3.{bit_at};
 ghost use Rattle.bitfield_writes.specs.Writing.{digits, with_mask, put_run, put_bit, filled, grown, room_for, room_from, Did};

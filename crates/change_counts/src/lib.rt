@@ -1,4 +1,6 @@
 // A peer more or less of one piece in lent memory: `inc_refcount` and `dec_refcount`, whole changes that leave the records.
+#![tactic(auto)]
+
 ghost use Rattle.std.specs.Prelude.{◌+◌, ◌≤◌, ◌<◌, length};
 ghost use Rattle.model.specs.State.{max_peers, with_piece, with_peer_count};
 ghost use Rattle.model.specs.list.Order.{change_and_update};

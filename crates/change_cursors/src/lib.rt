@@ -1,5 +1,7 @@
 // The cursors: how far pieces at both ends are flushed or filtered, and what becomes of the cursors where a piece turns so.
 // A move goes over the pieces once at most.
+#![tactic(auto)]
+
 mod cursors;
 mod scans;
 

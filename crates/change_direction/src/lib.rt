@@ -1,4 +1,6 @@
 // The direction of a piece in lent memory: under REVERSE a piece turns reverse, without it a reverse piece turns back. Steps of a change.
+#![tactic(auto)]
+
 ghost use Rattle.std.specs.Prelude.{◌≡◌, ◌&&◌, ◌≤◌, ◌<◌, eqb, ltb, length};
 ghost use Rattle.model.specs.change.Changes.{set_direction, unreverse_piece};
 ghost use Rattle.change_steps.specs.Working.{WorksBeside, Goes};

@@ -1,4 +1,6 @@
 // The recent extents: a piece that is opened under extent affinity has its extent recorded, where that is worth it.
+#![tactic(auto)]
+
 mod extents;
 mod neighbours;
 

@@ -1,4 +1,6 @@
 // Whole marks of a block, on the partial that the rows name or on one that is opened for the piece.
+#![tactic(auto)]
+
 mod downloads;
 mod finishes;
 mod receipts;

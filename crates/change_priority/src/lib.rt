@@ -1,4 +1,6 @@
 // `set_piece_priority` on lent memory: cursors, the priority and its list, then the state of a partial. It leaves the records.
+#![tactic(auto)]
+
 mod changes;
 mod steps;
 

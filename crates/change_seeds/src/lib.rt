@@ -1,4 +1,6 @@
 // Seeds counted in and out, and one that turns out to lack a piece: the changes of availability that concern all pieces.
+#![tactic(auto)]
+
 mod lowering;
 mod raising;
 mod seeds;

@@ -1,5 +1,7 @@
 // A piece's state and direction in lent memory, with the list mended after each: `update_piece_state` and what it is made of.
 // These are steps of a change: they rely on a picker on its way through one, not on a well-formed one.
+#![tactic(auto)]
+
 mod moves;
 mod queues;
 mod states;

@@ -8,7 +8,7 @@ use types::DownloadQueue;
 
 // What `update_piece_state` looks at: how many blocks a partial has, how many of them are at work and how many only requested, and
 // whether it is being hashed.
-#[derive(Drop)]
+#[derive(Clone, Copy)]
 pub struct Tally {
     pub blocks: u16,
     pub busy: u16,

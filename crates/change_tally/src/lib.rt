@@ -1,5 +1,7 @@
 // What stands in the row of a partial, from the local rows and the counts beside them: the numbers of its blocks that `update_piece_state`
 // looks at, and what else a change of its blocks needs.
+#![tactic(auto)]
+
 mod standing;
 
 ghost use Rattle.std.specs.Prelude.{◌≡◌, ◌<◌, length};

@@ -1,4 +1,6 @@
 // A mark of a block whose piece has no partial: the lookup that tells so, and the piece opened.
+#![tactic(auto)]
+
 mod answers;
 mod lookup;
 mod openings;

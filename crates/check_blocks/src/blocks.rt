@@ -7,7 +7,7 @@ ghost use Rattle.check_blocks.specs.Rows.{row_ok, joined_ok, row_in, state_of, r
 
 use memory_layout::{Shape, block_column};
 
-#[derive(Drop)]
+#[derive(Clone, Copy)]
 pub struct Counts {
     pub requested: u16,
     pub writing: u16,

@@ -1,4 +1,6 @@
 // The test of a partial's blocks, by the cells of a place, and how many of them are in each state. It relies on memory_layout alone.
+#![tactic(auto)]
+
 mod blocks;
 mod counts;
 

@@ -1,4 +1,6 @@
 // The test of a picker's lent buffers: head, pieces and extents.
+#![tactic(auto)]
+
 mod extents;
 mod head;
 mod pads;

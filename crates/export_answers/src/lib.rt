@@ -1,4 +1,6 @@
 // Answers for C: structs of numbers, and each public answer as one of them.
+#![tactic(auto)]
+
 mod answered;
 mod changes;
 mod picks;

@@ -1,4 +1,6 @@
 // Arguments from C: numbers and structs of numbers, and each as what the public call takes.
+#![tactic(auto)]
+
 mod blocks;
 mod picks;
 mod pieces;

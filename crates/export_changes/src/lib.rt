@@ -1,5 +1,7 @@
 // The changes, for C: each passes on to the public call.
 // Written by tools/exports.py, and not by hand.
+#![tactic(auto)]
+
 mod counts;
 mod finishes;
 mod flags;

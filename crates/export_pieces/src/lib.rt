@@ -1,5 +1,7 @@
 // The questions of a piece and of its partial, for C: each passes on to the public call.
 // Written by tools/exports.py, and not by hand.
+#![tactic(auto)]
+
 mod fields;
 mod flags;
 mod info;

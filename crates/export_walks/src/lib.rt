@@ -1,1 +1,3 @@
 // What the exports' proofs share: each shape of export walked once. No code.
+
+#![tactic(auto)]

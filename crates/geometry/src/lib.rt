@@ -1,5 +1,7 @@
 // The geometry of a torrent: its pieces and blocks, how many there are and how long each is.
 // `total` is the torrent's length and `size` the length of a whole piece, in bytes.
+#![tactic(auto)]
+
 mod blocks;
 mod limits;
 mod parts;

@@ -1,5 +1,7 @@
 // What follows from the geometry of a torrent: how long the lent memory and an image of bytes have to be, and the extents.
 // `total` is the torrent's length and `size` the length of a whole piece, in bytes; `n` is the number of pieces, `b` that of blocks of a whole piece.
+#![tactic(auto)]
+
 mod extents;
 mod needs;
 

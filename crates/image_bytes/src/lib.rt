@@ -1,4 +1,6 @@
 // The bytes of an image in a lent buffer: numbers put and read, the high byte first, and the table of body lengths.
+#![tactic(auto)]
+
 mod lengths;
 mod numbers;
 mod reading;

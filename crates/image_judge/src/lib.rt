@@ -1,4 +1,6 @@
 // The judge of any bytes: an image, or the place of the first fault. Nothing is written.
+#![tactic(auto)]
+
 mod front;
 mod whole;
 

@@ -1,4 +1,6 @@
 // Fields of records that stand one after another in bytes, laid out as columns of buffers: number j is read at `first` + `step` * j.
+#![tactic(auto)]
+
 mod parts;
 
 ghost use Rattle.std.specs.Prelude.{◌+◌, ◌≤◌, length};

@@ -1,4 +1,6 @@
 // Blocks, which stand thirteen bytes apart, laid out as columns of buffers.
+#![tactic(auto)]
+
 mod quads;
 
 ghost use Rattle.std.specs.Prelude.{◌+◌, ◌*◌, ◌≤◌, length};

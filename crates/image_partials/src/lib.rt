@@ -1,4 +1,6 @@
 // The partials of an image, each with its blocks: one for every piece that is not Open, by rising piece.
+#![tactic(auto)]
+
 mod blocks;
 mod partial;
 mod partials;

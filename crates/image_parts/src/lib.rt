@@ -1,5 +1,7 @@
 // The parts of an image, each written from the buffers behind the part before it: head, pieces, partials with their blocks, extents, list
 // places. A part answers the place behind it. What is before and behind stays as it was.
+#![tactic(auto)]
+
 mod blocks;
 mod head;
 mod numbers;

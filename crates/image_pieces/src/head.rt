@@ -7,7 +7,7 @@ use geometry::{num_pieces, valid_geometry};
 use image_bytes::{read1, read2, read4, read8};
 use image_records::{body_of, stands};
 
-#[derive(Drop)]
+#[derive(Clone, Copy)]
 pub struct Head {
     pub total: u64,
     pub size: u64,

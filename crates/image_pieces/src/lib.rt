@@ -1,4 +1,6 @@
 // The head and the pieces of an image, judged record by record behind a quick pass; the rank of each piece is kept for the list.
+#![tactic(auto)]
+
 mod head;
 mod piece;
 mod pieces;

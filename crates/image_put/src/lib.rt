@@ -1,5 +1,7 @@
 // The records of an image, one function for each kind: a byte of kind and a body, put from a place of a lent buffer on. What is before and
 // behind stays as it was. The widest number is put first: the compiler then stores its bytes at once.
+#![tactic(auto)]
+
 ghost use Rattle.std.specs.Prelude.{◌+◌, ◌≤◌, ◌<◌, length};
 ghost use Rattle.model.specs.image.Image.{number_record};
 ghost use Rattle.image_bytes.specs.Put.{Put};

@@ -1,4 +1,6 @@
 // Any bytes read into lent buffers: all of them are judged before anything is written, and a refusal leaves every buffer as it was.
+#![tactic(auto)]
+
 mod lengths;
 mod whole;
 

@@ -1,4 +1,6 @@
 // The records of an image, each read at a place of the bytes: a byte of kind, and a body whose length the kind fixes.
+#![tactic(auto)]
+
 mod block;
 mod front;
 mod number;

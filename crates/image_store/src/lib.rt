@@ -1,4 +1,6 @@
 // An accepted image stored into lent words, cells and rows: one pass over its bytes, and nothing is judged again.
+#![tactic(auto)]
+
 mod list;
 mod partials;
 mod ranks;

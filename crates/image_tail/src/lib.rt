@@ -1,4 +1,6 @@
 // The last parts of an image: extents, and the places of a list that is not dirty.
+#![tactic(auto)]
+
 mod extents;
 mod order;
 

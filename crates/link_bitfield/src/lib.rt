@@ -1,5 +1,7 @@
 // The crates `bitfield` and `bitfield_writes` for callers in C and Rust: numbers, flags and slices. Only for comparison with another
 // implementation. An answer on a buffer is 0 for done, 1 for too little data and 2 for too little room.
+#![tactic(auto)]
+
 ghost use Rattle.std.specs.Prelude.{◌≡◌, true, false, eqb, length, take};
 ghost use Rattle.model.specs.Bep3.{parts_of, bitfield_bytes, bit_at, none_set};
 ghost use Rattle.bitfield.specs.Bitfield.{get_bit, count_bits, all_set, first_set, last_clear, next_bit};

@@ -1,6 +1,8 @@
 // The changes of a picker in lent buffers, for callers in C and Rust. Only for comparison and timing: a caller has to meet what is
 // required. The geometry comes in numbers; rows and counts are as the memory test leaves them, and the caller makes the edit that is
 // answered.
+#![tactic(auto)]
+
 mod counts;
 mod flags;
 mod giving;

@@ -1,5 +1,7 @@
 // The image of a picker in lent buffers, and a new picker, for callers in C and Rust. Only for comparison and timing: a caller has to meet
 // what is required. The geometry comes in numbers, as a call has it from the memory test.
+#![tactic(auto)]
+
 ghost use Rattle.std.specs.Prelude.{◌≡◌, true, ◌≤◌, length};
 ghost use Rattle.model.specs.Lists.{len};
 ghost use Rattle.model.specs.State.{valid_geometry};

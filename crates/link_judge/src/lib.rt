@@ -1,4 +1,6 @@
 // The judge of images for callers in C and Rust, for comparison alone. It asks nothing of the bytes.
+#![tactic(auto)]
+
 ghost use Rattle.std.specs.Prelude.{◌≡◌};
 ghost use Rattle.model.specs.Lists.{len};
 ghost use Rattle.model.specs.image.Image.{read_image, whole};

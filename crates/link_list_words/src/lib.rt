@@ -1,4 +1,6 @@
 // The operations on a list of words, for callers in C and Rust. Only for comparison and timing: a caller has to meet what is required.
+#![tactic(auto)]
+
 ghost use Rattle.std.specs.Prelude.{◌+◌, ◌≤◌, ◌<◌, eqb, length, take};
 ghost use Rattle.model.specs.Lists.{bit};
 ghost use Rattle.list_words.specs.Updating.{Ready};

@@ -1,4 +1,6 @@
 // The memory test for callers in C and Rust. Only for comparison and timing: a caller has to lend 1,536 rows and as many counts.
+#![tactic(auto)]
+
 ghost use Rattle.std.specs.Prelude.{◌≡◌, length};
 ghost use Rattle.link_memory.specs.Answers.{verdict_as, Answered};
 

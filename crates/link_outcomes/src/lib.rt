@@ -1,4 +1,6 @@
 // What a change answers, in numbers, for a caller that is not Rattle.
+#![tactic(auto)]
+
 ghost use Rattle.link_outcomes.specs.Outcomes.{Tells};
 
 use memory_records::Edit;

@@ -1,5 +1,7 @@
 // A pick in lent buffers, for callers in C and Rust. Only for comparison and timing: a caller has to meet what is required. The geometry
 // comes in numbers; rows and counts are as the memory test leaves them.
+#![tactic(auto)]
+
 ghost use Rattle.std.specs.Prelude.{◌≡◌, length};
 ghost use Rattle.types.specs.Piece.{number_of};
 ghost use Rattle.model.specs.Lists.{each};

@@ -1,4 +1,6 @@
 // The reader of images for callers in C and Rust. Only for comparison and timing: a caller has to lend 1,536 rows.
+#![tactic(auto)]
+
 ghost use Rattle.std.specs.Prelude.{◌≡◌, length};
 ghost use Rattle.link_read.specs.Numbers.{Answered};
 

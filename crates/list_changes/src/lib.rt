@@ -1,5 +1,7 @@
 // A word of the bucket list added, removed, or moved to the group of its new rank, in place on a lent slice, by the moves of `list_moves`
 // and `list_draws`. `list` holds the list in its first places, `draws` the words that draws are taken from.
+#![tactic(auto)]
+
 ghost use Rattle.std.specs.Prelude.{◌≡◌, ◌≢◌, ◌++◌, suc, ◌+◌, ◌-◌, ◌≤◌, ◌<◌, eqb, length, take, drop};
 ghost use Rattle.model.specs.Lists.{count, place_of};
 ghost use Rattle.model.specs.list.Order.{added, add_draws, removed, changed, change_draws};

@@ -1,5 +1,7 @@
 // Draws, and a word of the bucket list moved to a drawn place of a group, in place on a lent slice.
 // `list` holds the list in its first places, `draws` the words that draws are taken from.
+#![tactic(auto)]
+
 ghost use Rattle.std.specs.Prelude.{◌≡◌, suc, ◌+◌, ◌-◌, ◌≤◌, ◌<◌, ltb, length, set};
 ghost use Rattle.model.specs.Lists.{bit};
 ghost use Rattle.model.specs.list.Order.{draw, swap, earlier, later};

@@ -1,4 +1,6 @@
 // The words of the bucket list: a word is rank · 65,536 + piece. Relies on nothing but the definition of ranks.
+#![tactic(auto)]
+
 ghost use Rattle.std.specs.Prelude.{◌≡◌, ◌<◌};
 ghost use Rattle.list_entries.specs.Words.{list_word, listed_rank, top_of};
 

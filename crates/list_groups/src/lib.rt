@@ -1,6 +1,8 @@
 // The groups of the bucket list: where one starts and ends. Ranks never fall along the list of words.
 // A group's end is found by wider and wider steps, then by halving; words are compared with the highest word of a rank, which
 // `list_entries` gives, and nothing is divided.
+#![tactic(auto)]
+
 ghost use Rattle.std.specs.Prelude.{◌≡◌, ◌≤◌, ◌<◌, length};
 ghost use Rattle.list_entries.specs.Words.{listed_rank};
 ghost use Rattle.list_groups.specs.Places.{Rises, Splits, Parted, IsGroup};

@@ -1,5 +1,7 @@
 // Groups of a list of words turned by one place: a word comes in or goes out, and one word of each group on the way moves.
 // Ranks never fall along the list.
+#![tactic(auto)]
+
 ghost use Rattle.std.specs.Prelude.{◌≡◌, suc, ◌≤◌, ◌<◌, length};
 ghost use Rattle.list_groups.specs.Places.{Rises};
 ghost use Rattle.list_moves.specs.Moves.{NoLower, carried, pushed, pulled};

@@ -1,4 +1,6 @@
 // Where a word of the bucket list stands: the start of its group is found by `list_groups`, and the group is scanned.
+#![tactic(auto)]
+
 ghost use Rattle.std.specs.Prelude.{◌≡◌, ◌≤◌, ◌<◌, length, get_or, take};
 ghost use Rattle.model.specs.Lists.{place_of};
 ghost use Rattle.list_entries.specs.Words.{listed_rank};

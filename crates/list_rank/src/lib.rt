@@ -1,4 +1,6 @@
 // The rank of a piece by its numbers: one more than its bucket, and 0 where it is in none.
+#![tactic(auto)]
+
 ghost use Rattle.std.specs.Prelude.{◌≡◌, ◌≤◌};
 ghost use Rattle.model.specs.State.{max_peers};
 ghost use Rattle.model.specs.State.{max_priority};

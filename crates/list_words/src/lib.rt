@@ -1,5 +1,7 @@
 // The bucket list as words of rank and piece, in place on a lent slice, mended after the rank of one piece changed: the piece is added,
 // removed, or moved by `list_changes`. `list` holds the list in its first places, `draws` the words that draws are taken from.
+#![tactic(auto)]
+
 ghost use Rattle.std.specs.Prelude.{◌+◌, ◌≤◌, ◌<◌, eqb, length, take};
 ghost use Rattle.model.specs.Lists.{bit};
 ghost use Rattle.list_words.specs.Updating.{Ready, Updates};

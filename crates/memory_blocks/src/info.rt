@@ -5,7 +5,7 @@ ghost use Rattle.model.specs.Lists.{bit};
 ghost use Rattle.memory_layout.specs.Decode.{state_from};
 
 // A block's state by its number, how many peers asked for it, and the peer that asked last, where there is one.
-#[derive(Drop)]
+#[derive(Clone, Copy)]
 pub struct BlockInfo {
     pub state: u16,
     pub num_peers: u16,

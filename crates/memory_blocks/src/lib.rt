@@ -2,6 +2,8 @@
 // value: its peer beside one that a call names.
 // A block is named by the place of its record and its number in the piece. The records stand in a buffer of their own: contracts speak for
 // every content of it. A state above 3 is required away and has-peer is only stored as 0 or 1, so that the memory test passes again.
+#![tactic(auto)]
+
 mod blocks;
 mod info;
 mod peers;

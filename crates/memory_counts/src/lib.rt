@@ -1,4 +1,6 @@
 // How many blocks of partial k are requested, being written and finished: three columns of 512, as the memory test leaves them.
+#![tactic(auto)]
+
 ghost use Rattle.std.specs.Prelude.{◌≡◌, ◌<◌, length};
 ghost use Rattle.types.specs.declared.block.BlockState.TheVariants.{Requested, Writing, Finished};
 ghost use Rattle.memory_counts.specs.Counted.{CountSays};

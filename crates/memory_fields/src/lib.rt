@@ -2,6 +2,8 @@
 // A getter says what it reads for every content of the buffers that it does not read. What a store leaves is defined here too: the stores
 // are in memory_head_stores and memory_piece_stores.
 // A piece is named by its place among the pieces, a usize: a PieceIndex, which could be negative, is turned into one in the layer above.
+#![tactic(auto)]
+
 mod extents;
 mod head;
 mod pieces;

@@ -1,6 +1,8 @@
 // The steps of a search by halving in rows that rise by piece: plain numbers, and no picker is meant yet. The steps are the same ones for
 // every piece, so that no branch has to be guessed, and from 64 rows on those that two steps may look at are read at once: the second one
 // does not wait for the first one's row.
+#![tactic(auto)]
+
 ghost use Rattle.std.specs.Prelude.{◌≡◌, true, ◌+◌, ◌*◌, ◌≤◌, ◌<◌, length};
 ghost use Rattle.memory_records.specs.Records.{rising_from};
 ghost use Rattle.memory_records.specs.Rows.{records_in};

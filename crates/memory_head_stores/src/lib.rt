@@ -1,5 +1,7 @@
 // The words of the head stored, in the terms of memory_fields: a setter says what becomes of the picker.
 // What the memory test would refuse is never stored: a flag is only stored as 0 or 1.
+#![tactic(auto)]
+
 mod extents;
 mod head;
 

@@ -1,6 +1,8 @@
 // A picker's three lent buffers: its shape, where each number stands, and a pair of accessors for each kind of column.
 // `words` has the head, the pad bytes and the list of the pieces, and the peers of blocks; `cells` the small fields, a column each; the
 // records of partials stand in a buffer of their own.
+#![tactic(auto)]
+
 mod cells;
 mod columns;
 mod offsets;

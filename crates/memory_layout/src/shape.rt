@@ -7,7 +7,7 @@ ghost use Rattle.memory_layout.specs.Bounds.{ShapeOf};
 use geometry::{blocks_per_piece, num_pieces};
 use types::u64_to_usize;
 
-#[derive(Drop)]
+#[derive(Clone, Copy)]
 pub struct Shape {
     pub pieces: usize,
     pub blocks: usize,

@@ -1,5 +1,7 @@
 // The bucket list in the lent words: a place of it read, and its length stored after the list was mended or rebuilt in its places.
 // What mending and rebuilding ask and leave is said here. None of it reads the records of partials.
+#![tactic(auto)]
+
 ghost use Rattle.std.specs.Prelude.{◌≡◌, ◌≤◌, ◌<◌, length, set};
 ghost use Rattle.model.specs.Lists.{nth};
 ghost use Rattle.model.specs.State.{list_of};

@@ -1,4 +1,6 @@
 // The first row whose piece is not below one, in rows that rise by piece: by the steps of memory_halving, or a loop where they are few.
+#![tactic(auto)]
+
 ghost use Rattle.std.specs.Prelude.{◌≡◌, true, ◌≤◌, ◌<◌, length};
 ghost use Rattle.memory_records.specs.Records.{rising_from};
 ghost use Rattle.memory_records.specs.Rows.{records_in};

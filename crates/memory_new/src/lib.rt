@@ -1,5 +1,7 @@
 // A new picker in lent buffers, whatever they held: no seeds, cursors at both ends, a dirty list, every piece Open at the default priority.
 // It has no partial, so that no record is read. What is not read (the list, the blocks of places) is left, and so is all beyond the needs.
+#![tactic(auto)]
+
 ghost use Rattle.std.specs.Prelude.{◌≡◌, true, ◌++◌, ◌*◌, ◌≤◌, length, drop};
 ghost use Rattle.model.specs.State.{valid_geometry};
 ghost use Rattle.memory_new.specs.Fresh.{Filled, fresh_head, FreshCells, Room, MadeNew};

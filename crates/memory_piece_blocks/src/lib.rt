@@ -1,4 +1,6 @@
 // The number of blocks of a piece, and of those that hold more than pad bytes, by the geometry in the head words.
+#![tactic(auto)]
+
 ghost use Rattle.std.specs.Prelude.{◌≡◌, ◌<◌};
 ghost use Rattle.model.specs.State.{payload_blocks_in_piece};
 ghost use Rattle.memory_layout.specs.Decode.{blocks_of};

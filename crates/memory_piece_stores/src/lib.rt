@@ -1,5 +1,7 @@
 // The fields of a piece stored, by its place among the pieces, in the terms of memory_fields: a setter says what becomes of the picker.
 // What the memory test would refuse is never stored: a state above 6 is required away, and a flag is only stored as 0 or 1.
+#![tactic(auto)]
+
 ghost use Rattle.std.specs.Prelude.{◌≡◌, ◌<◌, ◌≤◌};
 ghost use Rattle.model.specs.State.{with_piece, with_peer_count, with_state, with_priority, with_flushed};
 ghost use Rattle.memory_layout.specs.Decode.{queue_from};

@@ -1,5 +1,7 @@
 // The download queues: four rows of 512 places, one sorted row for each queue. A row holds the places, among the partials, of the partials
 // whose pieces are in its queue.
+#![tactic(auto)]
+
 ghost use Rattle.std.specs.Prelude.{◌≡◌, [], ◌+◌, ◌<◌, ◌≤◌, length, get_or};
 ghost use Rattle.types.specs.Queue.{queue_number};
 ghost use Rattle.model.specs.Lists.{nth, set_nth};

@@ -1,5 +1,7 @@
 // The ranks of the pieces in the lent buffers, by their cells and the number of seeds: of one piece, and of all.
 // The rank by the numbers is that of `list_rank`; none of it reads the records of partials.
+#![tactic(auto)]
+
 ghost use Rattle.std.specs.Prelude.{◌≤◌, ◌<◌, eqb, length};
 ghost use Rattle.types.specs.Queue.{queue_number};
 ghost use Rattle.model.specs.State.{max_peers, max_priority};

@@ -1,5 +1,7 @@
 // The bucket list in the lent words rebuilt where it is dirty: its places are lent to `list_rebuild` with the ranks of all pieces, and its
 // length stored.
+#![tactic(auto)]
+
 ghost use Rattle.std.specs.Prelude.{◌≡◌, true, ◌≤◌, length};
 ghost use Rattle.model.specs.list.Order.{update_pieces};
 ghost use Rattle.memory_layout.specs.Decode.{head_word, yes?};

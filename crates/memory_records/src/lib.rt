@@ -1,6 +1,8 @@
 // The lent slice of partial records: the record at a place, and the records as rows of numbers, which is how code without slices of
 // structs sees them; what searches and edits by piece come to (the code is `memory_search` and `memory_edits`). Every public call over
 // words, cells and partials stands on it (`memory_walks`).
+#![tactic(auto)]
+
 mod edits;
 mod record;
 mod rows;

@@ -1,4 +1,6 @@
 // The local rows of a call, which are its live records: the partial of a piece among them, by the search of memory_lower_bound.
+#![tactic(auto)]
+
 ghost use Rattle.std.specs.Prelude.{◌≡◌, true, ◌≤◌, length};
 ghost use Rattle.memory_records.specs.Records.{answer_of, seek_from, rising_from};
 ghost use Rattle.memory_records.specs.Rows.{records_in};

@@ -1,4 +1,6 @@
 // The bucket list in the lent words mended after the rank of one piece changed: its places are lent to `list_words`, and its length stored.
+#![tactic(auto)]
+
 ghost use Rattle.std.specs.Prelude.{◌≡◌, false, ◌≤◌, ◌<◌, length};
 ghost use Rattle.model.specs.list.Order.{update};
 ghost use Rattle.memory_layout.specs.Decode.{head_word, yes?};

@@ -1,5 +1,7 @@
 // The pick program: an image and one pick record on standard input, a bitfield of ones, every draw 0. It prints the blocks picked, a line
 // each, then the flags, the draws used and the counters; or the refusal.
+#![tactic(auto)]
+
 ghost use Rattle.std.specs.Prelude.{◌≡◌, length};
 
 use pick_job::{JobAnswer, job};

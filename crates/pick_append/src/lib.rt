@@ -1,4 +1,6 @@
 // Blocks set aside appended to the output, and places gathered in a local row.
+#![tactic(auto)]
+
 mod aside;
 mod rows;
 

@@ -1,4 +1,6 @@
 // What a piece adds to a pick, by its state.
+#![tactic(auto)]
+
 mod adding;
 mod standing;
 

@@ -1,4 +1,6 @@
 // The pieces of the recent extents, in a pick that goes by rarity; one finished extent is forgotten, the last found.
+#![tactic(auto)]
+
 ghost use Rattle.std.specs.Prelude.{◌≡◌, true, ◌+◌, ◌≤◌, ◌<◌};
 ghost use Rattle.model.specs.Lists.{range, every, walk};
 ghost use Rattle.model.specs.State.{max_extents, piece_at};

@@ -1,5 +1,7 @@
 // Which pieces a pick may take, and the span of pieces around one that holds the run. All of it is told by the cells, beside any words and
 // records.
+#![tactic(auto)]
+
 mod pieces;
 mod spans;
 

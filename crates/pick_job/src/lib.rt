@@ -1,4 +1,6 @@
 // The pick program without its input and output: bytes lent, an image and a pick record, and what the definition's program answers to them.
+#![tactic(auto)]
+
 mod answer;
 mod asking;
 mod picking;

@@ -7,7 +7,7 @@ use types::{PickerOptions, i32_to_usize};
 
 // The arguments of `pick_pieces` but for the lent slices: `bits` is the number of bits of the bitfield, `end` the place where the output so
 // far ends. A peer that is not there is a flag of false.
-#[derive(Drop)]
+#[derive(Clone, Copy)]
 pub struct PickInput {
     pub options: PickerOptions,
     pub num_blocks: i32,

@@ -1,4 +1,6 @@
 // What the public pick is asked, in the Rust's types, and the judge of it.
+#![tactic(auto)]
+
 mod arguments;
 mod judge;
 

@@ -1,4 +1,6 @@
 // The phases of a pick that go by the list: it is made anew where it is dirty, then a sequential walk, then the one by rarity.
+#![tactic(auto)]
+
 ghost use Rattle.std.specs.Prelude.{◌≡◌, ◌≤◌, length};
 ghost use Rattle.model.specs.Lists.{nth};
 ghost use Rattle.model.specs.list.Order.{update_pieces};

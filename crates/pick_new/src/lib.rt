@@ -1,4 +1,6 @@
 // Blocks of Open pieces: without a run as many as are wanted of one piece, else the whole span of pieces around it.
+#![tactic(auto)]
+
 mod blocks;
 mod pieces;
 mod spans;

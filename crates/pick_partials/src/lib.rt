@@ -1,4 +1,6 @@
 // The first phase of a pick: partials before all else, where they come first.
+#![tactic(auto)]
+
 mod phase;
 mod rarest;
 mod walks;

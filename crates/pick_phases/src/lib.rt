@@ -1,4 +1,6 @@
 // The phases of a pick: partials, suggestions, sequential, rarest or random, backup blocks, end game. A spent N stops it.
+#![tactic(auto)]
+
 ghost use Rattle.std.specs.Prelude.{◌≡◌, ◌≤◌, length};
 ghost use Rattle.types.specs.Piece.{number_of};
 ghost use Rattle.model.specs.Lists.{each};

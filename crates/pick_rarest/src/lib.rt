@@ -1,4 +1,6 @@
 // The phase of a pick that goes by rarity.
+#![tactic(auto)]
+
 mod listed;
 mod rarest;
 

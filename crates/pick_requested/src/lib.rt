@@ -1,4 +1,6 @@
 // Who works on a partial, and its longest run of free blocks, as far as a pick asks.
+#![tactic(auto)]
+
 mod known;
 mod requested;
 

@@ -9,7 +9,7 @@ use memory_layout::Shape;
 use pick_state::PickRequest;
 
 // No other peer's block; another peer has a request; the longest run of free blocks, and its first.
-#[derive(Drop)]
+#[derive(Clone, Copy)]
 pub struct RequestedFrom {
     pub exclusive: bool,
     pub active: bool,

@@ -1,4 +1,6 @@
 // The random walk's own run: all blocks of the pieces of a span, pads too, each of them counted.
+#![tactic(auto)]
+
 mod blocks;
 mod spans;
 

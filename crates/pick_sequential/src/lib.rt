@@ -1,4 +1,6 @@
 // The sequential phase of a pick: the pieces of the top priority in the list's order, then the range from cursor to reverse cursor.
+#![tactic(auto)]
+
 ghost use Rattle.std.specs.Prelude.{◌≤◌};
 ghost use Rattle.model.specs.pick.Pick.{pick_range, pick_sequential};
 ghost use Rattle.memory_rows.specs.Lookup.{picker_in};

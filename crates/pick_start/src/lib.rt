@@ -1,4 +1,6 @@
 // How a pick begins: the forcing rule, what is asked after it, and the numbers that the pick starts from.
+#![tactic(auto)]
+
 mod forced;
 mod start;
 

@@ -1,5 +1,7 @@
 // What a pick works on: its request and its numbers by value; beside them the lent output, the blocks set aside, the marks of ignored
 // pieces and the counters. The steps on one of these that every phase is made of.
+#![tactic(auto)]
+
 mod counters;
 mod numbers;
 mod request;

@@ -8,7 +8,7 @@ use types::PickerFlags;
 
 // Blocks still wanted; the run asked for and the blocks given towards it; draws used; flags set; where the output ends, and how many blocks
 // are set aside.
-#[derive(Drop)]
+#[derive(Clone, Copy)]
 pub struct PickNumbers {
     pub left: usize,
     pub asked: usize,

@@ -1,7 +1,7 @@
 // What a pick is asked, in numbers: the arguments of `pick_pieces` but for the lent slices.
 use types::PickerOptions;
 
-#[derive(Drop)]
+#[derive(Clone, Copy)]
 pub struct PickRequest {
     pub options: PickerOptions,
     pub wanted: usize,

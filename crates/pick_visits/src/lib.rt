@@ -1,4 +1,6 @@
 // A piece visited in a walk of a pick, and the walk over the suggested pieces. A function that has no counters leaves them as they are.
+#![tactic(auto)]
+
 mod suggestions;
 mod visits;
 

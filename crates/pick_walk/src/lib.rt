@@ -1,4 +1,6 @@
 // The random walk round the torrent: where it stands, on to the next piece that may be visited, and whether a lap ends there.
+#![tactic(auto)]
+
 mod skipping;
 mod tests;
 mod walk;

@@ -5,7 +5,7 @@ ghost use Rattle.pick_walk.specs.Walks.{moved, ended, marked};
 use pick_state::PickNumbers;
 
 // What tells whether a lap did anything: where the output ended, blocks set aside, pieces ignored since the walk began.
-#[derive(Drop)]
+#[derive(Clone, Copy)]
 pub struct Trace {
     pub taken: usize,
     pub aside: usize,
@@ -14,7 +14,7 @@ pub struct Trace {
 
 // The pick's numbers; the piece that the walk stands at; whether skipping brought it back to the start; what it had come to when it last
 // stood there; whether it is over; how many pieces were ignored since it began.
-#[derive(Drop)]
+#[derive(Clone, Copy)]
 pub struct RandomWalk {
     pub work: PickNumbers,
     pub place: usize,

@@ -1,6 +1,8 @@
 // Every public call of the piece picker, with what it takes and answers, under one name. No call requires anything.
 
 // A picker made, its image taken and read, and what both need.
+#![tactic(auto)]
+
 pub use picker_images::{
     ImageTaken, Making, image_needed, memory_needed, new, read_image, take_image,
 };

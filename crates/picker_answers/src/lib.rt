@@ -1,4 +1,6 @@
 // What every public question is made of: its memory and its arguments admitted or refused, and what it answers.
+#![tactic(auto)]
+
 mod admitted;
 mod answers;
 

@@ -1,5 +1,7 @@
 // The public questions of a block. None requires anything: each is refused as the table says, or answers what the definition replies.
 // Written by tools/publics.py, and not by hand.
+#![tactic(auto)]
+
 mod answers;
 mod peers;
 mod states;

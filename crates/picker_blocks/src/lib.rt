@@ -1,4 +1,6 @@
 // What the public calls of a block share: what they take, and their judges.
+#![tactic(auto)]
+
 mod arguments;
 mod blocks;
 mod marks;

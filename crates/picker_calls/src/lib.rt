@@ -1,4 +1,6 @@
 // What every public call is made of: the memory admitted or refused, and what a call answers.
+#![tactic(auto)]
+
 mod admission;
 mod judgement;
 mod outcomes;

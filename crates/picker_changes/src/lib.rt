@@ -1,5 +1,7 @@
 // The public changes of one piece's peers. None requires anything: each is refused as the table says, with every buffer as it was, or does
 // what the definition's step does.
+#![tactic(auto)]
+
 mod counts;
 
 pub use counts::{dec_refcount, inc_refcount};

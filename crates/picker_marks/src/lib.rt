@@ -1,5 +1,7 @@
 // The public marks of a block that came. None requires anything: each is refused as the table says, with every buffer as it was, or does
 // what the definition's step does.
+#![tactic(auto)]
+
 mod finishes;
 mod receipts;
 

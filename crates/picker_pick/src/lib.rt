@@ -1,5 +1,7 @@
 // The public `pick_pieces`. It requires nothing: it is refused as the table says, with every buffer as it was, or does what the
 // definition's pick does.
+#![tactic(auto)]
+
 ghost use Rattle.std.specs.Prelude.{◌≡◌, length};
 ghost use Rattle.types.specs.Piece.{number_of};
 ghost use Rattle.model.specs.Lists.{each};

@@ -1,6 +1,8 @@
 // The public questions of a piece that its own fields and the geometry answer. None requires anything: each is refused as the table says,
 // or answers what the definition replies.
 // Written by tools/publics.py, and not by hand.
+#![tactic(auto)]
+
 mod answers;
 mod fields;
 mod lengths;

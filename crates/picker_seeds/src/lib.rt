@@ -1,5 +1,7 @@
 // The public changes of the seeds. None requires anything: each is refused as the table says, with every buffer as it was, or does what the
 // definition's step does.
+#![tactic(auto)]
+
 mod seeds;
 
 pub use seeds::{dec_refcount_all, inc_refcount_all};

@@ -1,1 +1,3 @@
 // What the Rust was recorded to answer, computed from the definition. It has no functions.
+
+#![tactic(auto)]

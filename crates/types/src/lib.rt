@@ -1,4 +1,6 @@
 // The value types of the piece picker: piece and block numbers, priorities, queues, block states, option and flag bits, refusals; limits; and numbers in another width.
+#![tactic(auto)]
+
 mod block;
 mod convert;
 mod flags;

@@ -5,7 +5,7 @@ ghost use Rattle.types.specs.Piece.{number_of, index_of, after, largest};
 use crate::convert::i32_to_usize;
 
 // The number of a piece. A number of its own kind, so that it cannot be taken for a block or a list place.
-#[derive(Drop)]
+#[derive(Clone, Copy)]
 pub struct PieceIndex(pub i32);
 
 impl PieceIndex {

@@ -2,7 +2,7 @@
 ghost use Rattle.std.specs.Prelude.{◌≡◌, map};
 ghost use Rattle.types.specs.Queue.{queue_number, queue_with_number, queues, unreverse, make_reverse, is_reverse, is_downloading};
 
-#[derive(Drop)]
+#[derive(Clone, Copy)]
 pub enum DownloadQueue {
     // Some blocks are outstanding.
     Downloading,

@@ -1,4 +1,6 @@
 // Calls of three shapes, to show that a walk of `memory_walks` can be used as it stands. The cores are as small as can be.
+#![tactic(auto)]
+
 ghost use Rattle.std.specs.Prelude.{◌≡◌, length};
 ghost use Rattle.walk_examples.specs.Starting.{start_edit, started};
 
