@@ -1,0 +1,17 @@
+-- `more_from` meets its contract: after k turns it holds for the first k pieces of the stretch. Assumes nothing.
+use mathlib.Core.Path.{◌≡◌, refl, ap, ◌∙◌}
+use Prim.Native.Nat.{ℕ, ◌+◌, ◌-◌, ◌≤◌}
+use native.Mathlib.Omega.{arith}
+use borrow.Author.Rules.{rules}
+use lib.Dec.{ltb}
+use Rattle.model.specs.Lists.{count}
+use Rattle.memory_layout.specs.Tables.{tabulate}
+use Rattle.ask_columns.specs.Copies.{least_of, copies_from}
+use Rattle.ask_columns.proofs.LeastLaws.{more_next, more_few}
+use Rattle.ask_columns.proofs.copies.more_from.Given as goal
+
+abbrev pub invariant-loop-k : goal.invariant-loop-k
+invariant-loop-k l = (l.k ≤ l.many) × (l.more ≡ count (ltb l.lowest) (copies_from l.cells l.s.pieces l.i l.k))
+
+abbrev pub decreases-loop-k : goal.decreases-loop-k
+decreases-loop-k l = l.many - l.k

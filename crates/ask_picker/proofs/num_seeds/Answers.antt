@@ -1,0 +1,10 @@
+-- `num_seeds` meets its contract. Assumes nothing.
+-- Written by tools/asks.py, and not by hand.
+use mathlib.Core.Path.{ap}
+use borrow.Author.Rules.{rules}
+use Rattle.model.specs.ask.Questions.{reply_picker, one}
+use Rattle.ask_picker.proofs.num_seeds.Goals as goal
+
+pub returns : goal.returns
+unfolding reply_picker
+returns c = record { is = λ records cells. ap one (c.seeds.ensures.is records cells) }

@@ -1,0 +1,10 @@
+-- `download_state` meets its contract. Assumes nothing.
+-- Written by tools/asks.py, and not by hand.
+use mathlib.Core.Path.{ap}
+use borrow.Author.Rules.{rules}
+use Rattle.model.specs.ask.Questions.{reply_piece, one}
+use Rattle.ask_piece.proofs.fields.download_state.Goals as goal
+
+pub returns : goal.returns
+unfolding reply_piece
+returns c = record { is = λ records words q. ap one (c.state.ensures.is records words q) }

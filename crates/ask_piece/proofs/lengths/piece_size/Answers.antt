@@ -1,0 +1,34 @@
+-- `piece_size` meets its contract. Assumes nothing.
+-- Written by tools/asks.py, and not by hand.
+use mathlib.Core.Path.{ap, ◌∙◌}
+use native.Mathlib.Omega.{arith}
+use borrow.Author.Rules.{rules}
+use Rattle.model.specs.State.{piece_size_at}
+use Rattle.model.specs.ask.Questions.{reply_piece, one}
+use Rattle.memory_layout.proofs.OffsetLaws.{head_in}
+use Rattle.ask_piece.proofs.PieceLaws.{piece_there}
+use Rattle.ask_piece.proofs.lengths.piece_size.Goals as goal
+
+pub head_word-requires : goal.head_word-requires
+head_word-requires c = record {
+  in_bounds = head_in c.args.s c.args.words.now c.requires.words_span;
+  k_bound = omega arith;
+}
+
+pub head_word-requires-2 : goal.head_word-requires-2
+head_word-requires-2 c = record {
+  in_bounds = head_in c.args.s c.args.words.now c.requires.words_span;
+  k_bound = omega arith;
+}
+
+pub piece_length-requires : goal.piece_length-requires
+piece_length-requires c = rw (c.usize_to_u64.ensures, c.head_word-2.ensures, c.head_word.ensures) (piece_there c.args.s
+    c.args.words.now c.args.i c.requires.shape_of c.requires.i_lt_pieces)
+
+pub returns : goal.returns
+unfolding reply_piece piece_size_at
+returns c = record {
+  is = λ records cells.
+      ap one (c.piece_length.ensures
+      ∙ rw (c.usize_to_u64.ensures, c.head_word-2.ensures, c.head_word.ensures));
+}

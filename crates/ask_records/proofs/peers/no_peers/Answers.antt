@@ -1,0 +1,29 @@
+-- `no_peers` meets its contract. Assumes nothing.
+use Prim.Native.Nat.{◌-◌, ◌≤◌}
+use Rattle.ask_records.proofs.BlockRecords.{no_peer_row}
+use Rattle.ask_records.proofs.RecordLaws.{lists_start, lists_next, lists_end}
+use Rattle.ask_records.specs.Records.{peer_read, Lists}
+use mathlib.Core.List.{[], ◌∷◌}
+use mathlib.Core.Option.{none}
+use mathlib.Core.Path.{refl}
+use native.Mathlib.Omega.{arith}
+use borrow.Author.Rules.{rules}
+use Rattle.ask_records.proofs.peers.no_peers.Goals as goal
+
+pub loop-j-init : goal.loop-j-init
+loop-j-init c = (omega arith, lists_start _ _ _ _)
+
+pub overflow_mul-j : goal.overflow_mul-j
+overflow_mul-j c = omega (arith, c.requires)
+
+pub put_words-requires : goal.put_words-requires
+put_words-requires c = omega (arith, c.requires, c.loop-j.invariant.1.written.long)
+
+pub loop-j-preserved : goal.loop-j-preserved
+loop-j-preserved c = (omega arith, lists_next 2 peer_read (λ k. none ∷ []) _ _ _ _ _ c.loop-j.invariant.1 c.put_words.ensures refl no_peer_row)
+
+pub shape_of-out : goal.shape_of-out
+shape_of-out c = c.loop-j.invariant.1.written.long
+
+pub returns : goal.returns
+returns c = lists_end _ _ _ _ _ _ _ c.loop-j.invariant.1 (omega (arith, c.loop-j.invariant.0))

@@ -1,0 +1,17 @@
+-- `peers_at` meets its contract. Assumes nothing.
+use Prim.Native.Nat.{◌-◌, ◌≤◌}
+use Rattle.ask_records.proofs.BlockRecords.{peer_row}
+use Rattle.ask_records.proofs.RecordLaws.{lists_start, lists_next, lists_end}
+use Rattle.ask_records.specs.Records.{peer_read, Lists}
+use Rattle.memory_layout.specs.Decode.{block_held}
+use mathlib.Core.List.{[], ◌∷◌}
+use mathlib.Core.Path.{refl}
+use native.Mathlib.Omega.{arith}
+use borrow.Author.Rules.{rules}
+use Rattle.ask_records.proofs.peers.peers_at.Given as goal
+
+abbrev pub invariant-loop-j : goal.invariant-loop-j
+invariant-loop-j l = (l.j ≤ l.many) × Lists 2 peer_read (λ k. (block_held l.words l.cells l.s.pieces l.s.blocks l.p k).peer ∷ []) l.j l.initial.out l.out
+
+abbrev pub decreases-loop-j : goal.decreases-loop-j
+decreases-loop-j l = l.many - l.j

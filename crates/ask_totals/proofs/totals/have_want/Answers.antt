@@ -1,0 +1,10 @@
+-- `have_want` meets its contract. Assumes nothing.
+-- Written by tools/asks.py, and not by hand.
+use borrow.Author.Rules.{rules}
+use Rattle.model.specs.ask.Questions.{reply_picker}
+use Rattle.ask_totals.proofs.CountLaws.{count_reply_lem}
+use Rattle.ask_totals.proofs.totals.have_want.Goals as goal
+
+pub returns : goal.returns
+unfolding reply_picker
+returns c = count_reply_lem _ _ _ c.counted.ensures

@@ -1,0 +1,10 @@
+-- `num_have` meets its contract. Assumes nothing.
+-- Written by tools/asks.py, and not by hand.
+use mathlib.Core.Path.{ap}
+use borrow.Author.Rules.{rules}
+use Rattle.model.specs.ask.Questions.{reply_picker, one, num_have}
+use Rattle.ask_totals.proofs.totals.num_have.Goals as goal
+
+pub returns : goal.returns
+unfolding reply_picker num_have
+returns c = ap one c.counted.ensures.pieces

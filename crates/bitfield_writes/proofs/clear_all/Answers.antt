@@ -1,0 +1,11 @@
+-- `clear_all` meets its contract: a fill from bit 0 on. Assumes nothing.
+use mathlib.Core.Path.{◌∙◌}
+use mathlib.Core.Bool.{false}
+use Rattle.bitfield_writes.specs.Writing.{grown}
+use Rattle.bitfield_writes.proofs.RunLaws.{fill_all}
+use borrow.Author.Rules.{rules}
+use Rattle.bitfield_writes.proofs.clear_all.Goals as goal
+
+pub returns : goal.returns
+unfolding grown
+returns c = c.fill_to.ensures ∙ fill_all _ (λ i. false) _

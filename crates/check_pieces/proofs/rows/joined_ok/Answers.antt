@@ -1,0 +1,8 @@
+-- `check_pieces::joined_ok` meets its contract: the tests are those of the definition. Assumes nothing.
+use mathlib.Core.Path.{refl}
+use Rattle.check_pieces.specs.Rows.{joined_ok}
+use Rattle.check_pieces.proofs.rows.joined_ok.Goals as goal
+
+pub returns : goal.returns
+unfolding joined_ok
+returns c = refl

@@ -1,0 +1,11 @@
+-- `of_peer` meets its contract. Assumes nothing.
+use mathlib.Core.Path.{ap, sym, ◌∙◌}
+use Rattle.export_answers.specs.Replies.{of_peer}
+use borrow.Author.Rules.{rules}
+use Rattle.export_answers.proofs.replies.of_peer.Goals as goal
+
+pub returns-in-Refused : goal.returns-in-Refused
+returns-in-Refused c = c.refused.ensures ∙ ap of_peer (sym c.in-Refused.is)
+
+pub returns-in-Replied : goal.returns-in-Replied
+returns-in-Replied c = c.of_peer_of.ensures ∙ ap of_peer (sym c.in-Replied.is)

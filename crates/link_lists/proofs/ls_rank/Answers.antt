@@ -1,0 +1,19 @@
+-- `ls_rank` asks of its caller what `rank_at` asks. Assumes nothing.
+use borrow.Author.Rules.{rules}
+use mathlib.Core.Path.{sym, subst, ap, ◌∙◌}
+use Prim.Native.Nat.{◌<◌}
+use Rattle.memory_layout.specs.declared.shape.Shape.{Shape}
+use Rattle.memory_list.specs.Listings.{ListBounds}
+use Rattle.link_lists.proofs.ls_rank.Goals as goal
+
+pub rank_at-requires : goal.rank_at-requires
+rank_at-requires c = let e = sym c.shape.ensures in
+    let bounds = subst (λ s. ListBounds s c.args.words.now c.args.cells.now) e c.requires.list_bounds in
+    record {
+      spans = bounds.spans;
+      ranges = bounds.ranges;
+      i_lt_pieces = subst (λ (s : Shape). c.args.i < s.pieces) e c.requires.i_lt_pieces;
+    }
+
+pub returns : goal.returns
+returns c = c.rank_at.ensures.is (ap (λ (s : Shape). s.pieces) c.shape.ensures ∙ c.requires.list_bounds.pieces)

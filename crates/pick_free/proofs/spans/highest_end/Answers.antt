@@ -1,0 +1,10 @@
+-- `highest_end` meets its contract. Assumes nothing.
+use mathlib.Core.Path.{refl, ◌∙◌}
+use borrow.Author.Rules.{rules}
+use Rattle.pick_free.proofs.spans.highest_end.Goals as goal
+
+pub returns-then-aligned : goal.returns-then-aligned
+returns-then-aligned c = c.lesser.ensures ∙ rw c.if-aligned.true refl
+
+pub returns : goal.returns
+returns c = c.lesser-2.ensures ∙ rw c.if-aligned.false refl

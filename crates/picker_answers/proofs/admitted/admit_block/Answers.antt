@@ -1,0 +1,44 @@
+-- `admit_block` meets its contract. Assumes nothing.
+use mathlib.Core.Option.{none}
+use native.Mathlib.Omega.{arith}
+use Rattle.model.specs.Calls.{refuse_bad_block}
+use Rattle.picker_calls.proofs.CoreLaws.{stood_at}
+use Rattle.picker_answers.proofs.AdmittedLaws.{refused_for_memory, refused_by_rule, admitted_by_rule, shaped, block_rule, piece_past}
+use Rattle.picker_answers.proofs.AdmittedLaws.{block_past, block_there, block_fits}
+use borrow.Author.Rules.{rules}
+use Rattle.picker_answers.proofs.admitted.admit_block.Goals as goal
+
+-- src/admitted.rt:88:17
+pub returns-then-s-i : goal.returns-then-s-i
+unfolding refuse_bad_block
+returns-then-s-i c = let t = (stood_at _ _ _ _ _ c.admit.result c.admit.ensures _ c.in-At.is).stands in
+    refused_by_rule (λ d. refuse_bad_block d c.args.i c.args.j none) (block_rule c.args.i c.args.j) _ _ _ _ _ _ c.admit.result c.admit.ensures _ c.in-At.is _
+    (piece_past _ _ _ _ t c.args.i _ c.if-s-i.true)
+
+-- src/admitted.rt:90:29
+pub blocks_in_piece-requires : goal.blocks_in_piece-requires
+blocks_in_piece-requires c = let t = stood_at _ _ _ _ _ c.admit.result c.admit.ensures _ c.in-At.is in
+    record {
+      words_span = t.stands.bounds.spans.in_words;
+      shape_of = shaped _ _ _ _ _ _ _ t;
+      i_lt_pieces = c.if-s-i.false;
+    }
+
+-- src/admitted.rt:91:17
+pub returns-then-u64_to_usize-j : goal.returns-then-u64_to_usize-j
+returns-then-u64_to_usize-j c = let t = (stood_at _ _ _ _ _ c.admit.result c.admit.ensures _ c.in-At.is).stands in
+    refused_by_rule (λ d. refuse_bad_block d c.args.i c.args.j none) (block_rule c.args.i c.args.j) _ _ _ _ _ _ c.admit.result c.admit.ensures _ c.in-At.is _
+    (block_past _ _ _ _ t c.args.i c.args.j _ c.if-s-i.false c.blocks_in_piece.ensures
+    (omega (arith, c.u64_to_usize.ensures, c.if-u64_to_usize-j.true)))
+
+-- src/admitted.rt:71:1
+pub returns-in-Refused : goal.returns-in-Refused
+returns-in-Refused c = refused_for_memory (λ d. refuse_bad_block d c.args.i c.args.j none) (block_rule c.args.i c.args.j) _ _ _ _ _ _ c.admit.result c.admit.ensures _
+    c.in-Refused.is
+
+-- src/admitted.rt:71:1
+pub returns-else-u64_to_usize-j : goal.returns-else-u64_to_usize-j
+returns-else-u64_to_usize-j c = let t = (stood_at _ _ _ _ _ c.admit.result c.admit.ensures _ c.in-At.is).stands in
+    admitted_by_rule (λ d. refuse_bad_block d c.args.i c.args.j none) (block_rule c.args.i c.args.j) _ _ _ _ _ _ c.admit.result c.admit.ensures _ c.in-At.is
+    (block_there _ _ _ _ t c.args.i c.args.j _ c.if-s-i.false c.blocks_in_piece.ensures (omega (arith, c.u64_to_usize.ensures, c.if-u64_to_usize-j.false)))
+    (block_fits _ _ _ _ t c.args.i c.args.j _ c.if-s-i.false c.blocks_in_piece.ensures (omega (arith, c.u64_to_usize.ensures, c.if-u64_to_usize-j.false))) _ c.live_records.ensures

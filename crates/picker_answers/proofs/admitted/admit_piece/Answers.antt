@@ -1,0 +1,25 @@
+-- `admit_piece` meets its contract. Assumes nothing.
+use mathlib.Core.Option.{none}
+use Rattle.model.specs.Calls.{refuse_bad_piece}
+use Rattle.picker_calls.proofs.CoreLaws.{stood_at}
+use Rattle.picker_answers.proofs.AdmittedLaws.{refused_for_memory, refused_by_rule, admitted_by_rule}
+use Rattle.picker_answers.proofs.AdmittedLaws.{piece_rule, piece_past, piece_there}
+use borrow.Author.Rules.{rules}
+use Rattle.picker_answers.proofs.admitted.admit_piece.Goals as goal
+
+-- src/admitted.rt:55:17
+pub returns-then-s-i : goal.returns-then-s-i
+returns-then-s-i c = let t = (stood_at _ _ _ _ _ c.admit.result c.admit.ensures _ c.in-At.is).stands in
+    refused_by_rule (λ d. refuse_bad_piece d c.args.i none) (piece_rule c.args.i) _ _ _ _ _ _ c.admit.result c.admit.ensures _ c.in-At.is _
+    (piece_past _ _ _ _ t c.args.i none c.if-s-i.true)
+
+-- src/admitted.rt:39:1
+pub returns-in-Refused : goal.returns-in-Refused
+returns-in-Refused c = refused_for_memory (λ d. refuse_bad_piece d c.args.i none) (piece_rule c.args.i) _ _ _ _ _ _ c.admit.result c.admit.ensures _
+    c.in-Refused.is
+
+-- src/admitted.rt:39:1
+pub returns-else-s-i : goal.returns-else-s-i
+returns-else-s-i c = let t = (stood_at _ _ _ _ _ c.admit.result c.admit.ensures _ c.in-At.is).stands in
+    admitted_by_rule (λ d. refuse_bad_piece d c.args.i none) (piece_rule c.args.i) _ _ _ _ _ _ c.admit.result c.admit.ensures _ c.in-At.is
+    (piece_there _ _ _ _ t c.args.i none c.if-s-i.false) c.if-s-i.false _ c.live_records.ensures

@@ -1,0 +1,38 @@
+-- `admit_place` meets its contract. Assumes nothing.
+use mathlib.Core.Path.{sym, ap, ◌∙◌}
+use mathlib.Core.Bool.{Bool}
+use mathlib.Core.Option.{none}
+use Rattle.types.specs.declared.refusal.Refusal.TheVariants.{OutOfRange}
+use Rattle.model.specs.Calls.{check, no_place}
+use Rattle.picker_calls.proofs.CoreLaws.{stood_at}
+use Rattle.picker_answers.proofs.AdmittedLaws.{refused_for_memory, refused_by_rule, admitted_by_rule, place_rule}
+use borrow.Author.Rules.{rules}
+use Rattle.picker_answers.proofs.admitted.admit_place.Goals as goal
+
+-- src/admitted.rt:125:16
+pub past_list-requires : goal.past_list-requires
+past_list-requires c = (stood_at _ _ _ _ _ c.admit.result c.admit.ensures _ c.in-At.is).stands.bounds.spans.in_words
+
+-- src/admitted.rt:126:17
+pub returns-then-past_list : goal.returns-then-past_list
+unfolding check
+returns-then-past_list c = let t = (stood_at _ _ _ _ _ c.admit.result c.admit.ensures _ c.in-At.is).stands in
+    refused_by_rule (λ d. check (no_place d.listing c.args.k) OutOfRange none) (place_rule c.args.k) _ _ _ _ _ _
+    c.admit.result c.admit.ensures _ c.in-At.is _
+    (ap (λ (x : Bool). check x OutOfRange none)
+    (sym (c.past_list.ensures.is _ _ t.bounds) ∙ c.if-past_list.true))
+
+-- src/admitted.rt:110:1
+pub returns-in-Refused : goal.returns-in-Refused
+returns-in-Refused c = refused_for_memory (λ d. check (no_place d.listing c.args.k) OutOfRange none) (place_rule c.args.k) _ _ _ _ _ _ c.admit.result c.admit.ensures _
+    c.in-Refused.is
+
+-- src/admitted.rt:110:1
+pub returns-else-past_list : goal.returns-else-past_list
+unfolding check
+returns-else-past_list c = let t = (stood_at _ _ _ _ _ c.admit.result c.admit.ensures _ c.in-At.is).stands in
+    admitted_by_rule (λ d. check (no_place d.listing c.args.k) OutOfRange none) (place_rule c.args.k) _ _ _ _ _ _
+    c.admit.result c.admit.ensures _ c.in-At.is
+    (ap (λ (x : Bool). check x OutOfRange none)
+    (sym (c.past_list.ensures.is _ _ t.bounds) ∙ c.if-past_list.false)) tt _
+    c.live_records.ensures

@@ -1,0 +1,29 @@
+-- `admit` meets its contract. Assumes nothing.
+use mathlib.Core.Path.{ap}
+use Rattle.check_memory.specs.Verdicts.{refusal_of}
+use Rattle.picker_calls.proofs.AdmissionLaws.{refused_verdict, good_long, good_geometry, good_stood}
+use borrow.Author.Rules.{rules}
+use Rattle.picker_calls.proofs.admission.admit.Goals as goal
+
+-- src/admission.rt:31:40
+pub shape_of-requires-in-Good : goal.shape_of-requires-in-Good
+shape_of-requires-in-Good c = record {
+  in_bounds = good_long _ _ _ _ _ c.check_memory.result c.check_memory.ensures c.in-Good.is;
+  words_value = good_geometry _ _ _ _ _ c.check_memory.result c.check_memory.ensures
+      c.in-Good.is;
+}
+
+-- src/admission.rt:18:1
+pub returns-in-Short : goal.returns-in-Short
+unfolding refusal_of
+returns-in-Short c = refused_verdict _ _ _ _ _ c.check_memory.result c.check_memory.ensures _ (ap refusal_of c.in-Short.is)
+
+-- src/admission.rt:18:1
+pub returns-in-IllFormed : goal.returns-in-IllFormed
+unfolding refusal_of
+returns-in-IllFormed c = refused_verdict _ _ _ _ _ c.check_memory.result c.check_memory.ensures _ (ap refusal_of c.in-IllFormed.is)
+
+-- src/admission.rt:18:1
+pub returns-in-Good : goal.returns-in-Good
+returns-in-Good c = good_stood _ _ _ _ _ c.check_memory.result c.check_memory.ensures c.in-Good.is c.shape_of.result c.shape_of.ensures
+    c.requires.0

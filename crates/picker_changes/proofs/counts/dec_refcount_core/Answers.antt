@@ -1,0 +1,46 @@
+-- `dec_refcount_core` meets its contract. Assumes nothing.
+-- Written by tools/calls.py, and not by hand.
+use mathlib.Core.Path.{refl}
+use Prim.Native.Nat.{ℕ}
+use Rattle.model.specs.change.Changes.{dec_refcount}
+use Rattle.model.specs.Calls.{act, do_dec_refcount}
+use Rattle.memory_layout.specs.Standing.{edit_records}
+use Rattle.picker_calls.proofs.ListlessLaws.{listless}
+use Rattle.picker_calls.proofs.CoreLaws.{stood_at, stood_beside, of_argument, barred, denied, passed, acted_quietly, keep_insert}
+use Rattle.picker_changes.proofs.CountLaws.{dec_passed}
+use borrow.Author.Rules.{rules}
+use Rattle.picker_changes.proofs.counts.dec_refcount_core.Goals as goal
+
+pub judge_dec_refcount-requires : goal.judge_dec_refcount-requires
+judge_dec_refcount-requires c = stood_beside _ _ _ _ _ _ (stood_at _ _ _ _ _ c.admit.result c.admit.ensures _ c.in-At.is)
+
+pub dec_refcount-used-requires : goal.dec_refcount-used-requires
+dec_refcount-used-requires c = let t = stood_at _ _ _ _ _ c.admit.result c.admit.ensures _ c.in-At.is in
+    let l = listless (do_dec_refcount _ _) refl in
+    let p = passed _ _ _ _ _ _ t _ l c.judge_dec_refcount.result (c.judge_dec_refcount.ensures.is _ t.stands) c.in-Passed.is in
+    let all = dec_passed _ _ _ _ t.stands _ _ p in
+    record {
+      stands_beside = stood_beside _ _ _ _ _ _ t;
+      i_lt_pieces = all.0;
+      nonzero = all.1;
+    }
+
+pub returns-in-Refused : goal.returns-in-Refused
+returns-in-Refused c = let l = listless (do_dec_refcount _ _) refl in
+    barred _ _ _ _ _ c.admit.result c.admit.ensures _ c.in-Refused.is _ l _ _ _ c.refused.ensures
+
+pub returns-in-Refused-judge_dec_refcount : goal.returns-in-Refused-judge_dec_refcount
+returns-in-Refused-judge_dec_refcount c = let t = stood_at _ _ _ _ _ c.admit.result c.admit.ensures _ c.in-At.is in
+    of_argument (λ (i : ℕ). do_dec_refcount i c.args.draws.now) _ _ c.number-i.ensures _ _ _ _ _ _ _ _ _
+    (denied _ _ _ _ _ _ t _ (listless (do_dec_refcount _ _) refl) c.judge_dec_refcount.result (c.judge_dec_refcount.ensures.is _ t.stands) _
+    c.in-Refused-judge_dec_refcount.is _ _ _ c.refused-in-Refused-judge_dec_refcount.ensures)
+
+pub returns-in-Passed : goal.returns-in-Passed
+unfolding act edit_records
+returns-in-Passed c = let t = stood_at _ _ _ _ _ c.admit.result c.admit.ensures _ c.in-At.is in
+    let l = listless (do_dec_refcount _ _) refl in
+    let p = passed _ _ _ _ _ _ t _ l c.judge_dec_refcount.result (c.judge_dec_refcount.ensures.is _ t.stands) c.in-Passed.is in
+    let d = c.dec_refcount-used.ensures.done _ t.stands in
+    of_argument (λ (i : ℕ). do_dec_refcount i c.args.draws.now) _ _ c.number-i.ensures _ _ _ _ _ _ _ _ _
+    (acted_quietly _ _ _ _ _ _ t _ l p c.live_records-live.result c.live_records-live.ensures _ keep_insert _ _ (dec_refcount c.args.draws.now c.number-i.result) refl
+    c.dec_refcount-used.result d.draws d.changed)

@@ -1,0 +1,10 @@
+-- `read_image_core` meets its contract: each return is an arm of reading an image. Assumes nothing.
+use Rattle.picker_images.proofs.ReadingLaws.{refused_read, done_read}
+use borrow.Author.Rules.{rules}
+use Rattle.picker_images.proofs.reading.read_image_core.Goals as goal
+
+pub returns-in-Read : goal.returns-in-Read
+returns-in-Read c = done_read _ _ _ _ _ _ _ _ c.read_image.result c.read_image.ensures _ c.in-Read.is
+
+pub returns-in-Refused : goal.returns-in-Refused
+returns-in-Refused c = refused_read _ _ _ _ _ _ _ _ c.read_image.result c.read_image.ensures _ c.in-Refused.is

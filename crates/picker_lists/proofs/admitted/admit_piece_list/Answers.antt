@@ -1,0 +1,24 @@
+-- `admit_piece_list` meets its contract. Assumes nothing.
+use mathlib.Core.Option.{none}
+use Rattle.model.specs.Calls.{refuse_bad_piece}
+use Rattle.picker_answers.proofs.AdmittedLaws.{piece_rule, piece_past, piece_there}
+use Rattle.picker_lists.proofs.RoomLaws.{roomy, list_refused, list_past, list_admitted}
+use borrow.Author.Rules.{rules}
+use Rattle.picker_lists.proofs.admitted.admit_piece_list.Goals as goal
+
+pub returns-then-s-i : goal.returns-then-s-i
+returns-then-s-i c = let t = (roomy _ _ _ _ _ _ _ c.admit_room.result c.admit_room.ensures _ c.in-At.is).stood.stands in
+    list_past _ _ (λ d. refuse_bad_piece d c.args.i none) (piece_rule c.args.i) _ _ _ _ _ _
+    c.admit_room.result c.admit_room.ensures _ c.in-At.is _
+    (piece_past _ _ _ _ t c.args.i none c.if-s-i.true)
+
+pub returns-in-Refused : goal.returns-in-Refused
+returns-in-Refused c = list_refused _ _ (λ d. refuse_bad_piece d c.args.i none) (piece_rule c.args.i) _ _ _ _ _ _
+    c.admit_room.result c.admit_room.ensures _ c.in-Refused.is
+
+pub returns-else-s-i : goal.returns-else-s-i
+returns-else-s-i c = let g = roomy _ _ _ _ _ _ _ c.admit_room.result c.admit_room.ensures _ c.in-At.is in
+    list_admitted _ _ (λ d. refuse_bad_piece d c.args.i none) (piece_rule c.args.i) _ _ _ _ _ _
+    c.admit_room.result c.admit_room.ensures _ c.in-At.is
+    (piece_there _ _ _ _ g.stood.stands c.args.i none c.if-s-i.false) (c.if-s-i.false, g.enough) _
+    c.live_records.ensures

@@ -1,0 +1,31 @@
+-- `blocks_for_piece_core` meets its contract. Assumes nothing.
+use mathlib.Core.Path.{refl}
+use Prim.Native.Nat.{◌/◌}
+use lib.ListN.{length}
+use Rattle.model.specs.ask.Questions.{reply, list_of_piece, blocks_for_piece}
+use Rattle.model.specs.Calls.{question_refusal}
+use Rattle.picker_answers.proofs.AdmittedLaws.{granted, asked}
+use Rattle.picker_lists.specs.Rooms.{room_rule}
+use Rattle.picker_lists.proofs.ListLaws.{list_refused, blocks_replied, room_four}
+use borrow.Author.Rules.{rules}
+use Rattle.picker_lists.proofs.blocks.blocks_for_piece_core.Goals as goal
+
+pub blocks_for_piece-requires : goal.blocks_for_piece-requires
+blocks_for_piece-requires c = let g = granted _ _ _ _ _ _ _ c.admit_piece_list.result c.admit_piece_list.ensures _ _ c.in-To.is in
+    record {
+      asked = asked _ _ _ _ _ _ _ g.stood;
+      i_lt_pieces = g.fits.0;
+      blocks_in_bounds = room_four _ _ g.fits.1;
+    }
+
+pub returns-in-Refused : goal.returns-in-Refused
+unfolding question_refusal room_rule
+returns-in-Refused c = let room = length c.args.out.now / 4 in
+    list_refused _ _ _ _ _ _ _ c.admit_piece_list.result c.admit_piece_list.ensures (list_of_piece blocks_for_piece c.number-i.result room) _
+    (λ n. list_of_piece blocks_for_piece (c.number-i.ensures n) room) (λ d. refl) _ _ _ _ c.in-Refused.is
+
+pub returns-in-To : goal.returns-in-To
+unfolding reply question_refusal room_rule
+returns-in-To c = let room = length c.args.out.now / 4 in
+    rw c.of_records.ensures (blocks_replied _ _ _ _ _ _ _ c.admit_piece_list.result c.admit_piece_list.ensures (list_of_piece blocks_for_piece c.number-i.result room) _
+    (λ n. list_of_piece blocks_for_piece (c.number-i.ensures n) room) (λ d. refl) _ _ _ c.in-To.is _ _ c.blocks_for_piece.ensures.result_after c.blocks_for_piece.ensures.written)

@@ -1,0 +1,32 @@
+-- `get_downloaders_core` meets its contract. Assumes nothing.
+use mathlib.Core.Path.{refl}
+use Prim.Native.Nat.{◌/◌}
+use lib.ListN.{length}
+use Rattle.model.specs.ask.Questions.{reply, list_of_piece, get_downloaders}
+use Rattle.model.specs.Calls.{question_refusal}
+use Rattle.picker_answers.proofs.AdmittedLaws.{granted, asked}
+use Rattle.picker_lists.specs.Rooms.{room_rule}
+use Rattle.picker_lists.specs.Listing.{tell_peers}
+use Rattle.picker_lists.proofs.ListLaws.{list_refused, list_replied, room_two}
+use borrow.Author.Rules.{rules}
+use Rattle.picker_lists.proofs.blocks.get_downloaders_core.Goals as goal
+
+pub get_downloaders-requires : goal.get_downloaders-requires
+get_downloaders-requires c = let g = granted _ _ _ _ _ _ _ c.admit_piece_list.result c.admit_piece_list.ensures _ _ c.in-To.is in
+    record {
+      asked = asked _ _ _ _ _ _ _ g.stood;
+      i_lt_pieces = g.fits.0;
+      blocks_in_bounds = room_two _ _ g.fits.1;
+    }
+
+pub returns-in-Refused : goal.returns-in-Refused
+unfolding question_refusal room_rule
+returns-in-Refused c = let room = length c.args.out.now / 2 in
+    list_refused _ _ _ _ _ _ _ c.admit_piece_list.result c.admit_piece_list.ensures (list_of_piece get_downloaders c.number-i.result room) _
+    (λ n. list_of_piece get_downloaders (c.number-i.ensures n) room) (λ d. refl) _ _ _ _ c.in-Refused.is
+
+pub returns-in-To : goal.returns-in-To
+unfolding reply question_refusal room_rule tell_peers
+returns-in-To c = let room = length c.args.out.now / 2 in
+    list_replied _ _ _ _ _ _ _ c.admit_piece_list.result c.admit_piece_list.ensures (list_of_piece get_downloaders c.number-i.result room) _
+    (λ n. list_of_piece get_downloaders (c.number-i.ensures n) room) (λ d. refl) _ _ _ _ _ c.in-To.is _ _ c.get_downloaders.ensures.out_after c.get_downloaders.ensures.written

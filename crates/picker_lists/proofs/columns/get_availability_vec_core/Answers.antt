@@ -1,0 +1,28 @@
+-- `get_availability_vec_core` meets its contract. Assumes nothing.
+-- Written by tools/publics.py, and not by hand.
+use mathlib.Core.Path.{refl}
+use Rattle.model.specs.ask.Questions.{reply}
+use Rattle.model.specs.Calls.{question_refusal, records_needed}
+use Rattle.picker_answers.proofs.AdmittedLaws.{granted, beside}
+use Rattle.picker_lists.specs.Rooms.{room_rule}
+use Rattle.picker_lists.specs.Listing.{tell_numbers}
+use Rattle.picker_lists.proofs.ListLaws.{list_refused, list_replied, column_written}
+use borrow.Author.Rules.{rules}
+use Rattle.picker_lists.proofs.columns.get_availability_vec_core.Goals as goal
+
+pub get_availability_vec-requires : goal.get_availability_vec-requires
+get_availability_vec-requires c = let g = granted _ _ _ _ _ _ _ c.admit_list.result c.admit_list.ensures _ _ c.in-To.is in
+    record {
+      stands_beside = beside _ _ _ _ _ _ _ g.stood;
+      pieces_in_bounds = g.fits;
+    }
+
+pub returns-in-Refused : goal.returns-in-Refused
+unfolding question_refusal records_needed room_rule
+returns-in-Refused c = list_refused _ _ _ _ _ _ _ c.admit_list.result c.admit_list.ensures _ _ refl (λ d. refl) _ _ _ _ c.in-Refused.is
+
+pub returns-in-To : goal.returns-in-To
+unfolding reply question_refusal records_needed room_rule tell_numbers
+returns-in-To c = let t = (granted _ _ _ _ _ _ _ c.admit_list.result c.admit_list.ensures _ _ c.in-To.is).stood in
+    list_replied _ _ _ _ _ _ _ c.admit_list.result c.admit_list.ensures _ _ refl (λ d. refl) _ _ _ _ _ c.in-To.is _ _
+    (c.get_availability_vec.ensures.is _ t.stands.bounds) (column_written _ _ _ _ _ _ c.get_availability_vec.ensures)

@@ -1,0 +1,26 @@
+-- `get_download_queue_core` meets its contract. Assumes nothing.
+use mathlib.Core.Path.{refl}
+use Rattle.model.specs.ask.Questions.{reply}
+use Rattle.model.specs.Calls.{question_refusal, records_needed}
+use Rattle.picker_answers.proofs.AdmittedLaws.{granted, asked}
+use Rattle.picker_lists.specs.Rooms.{room_rule}
+use Rattle.picker_lists.specs.Listing.{tell_infos}
+use Rattle.picker_lists.proofs.ListLaws.{list_refused, list_replied, room_seven}
+use borrow.Author.Rules.{rules}
+use Rattle.picker_lists.proofs.queue.get_download_queue_core.Goals as goal
+
+pub get_download_queue-requires : goal.get_download_queue-requires
+get_download_queue-requires c = let g = granted _ _ _ _ _ _ _ c.admit_list.result c.admit_list.ensures _ _ c.in-To.is in
+    let t = g.stood in
+    record {
+      asked_counts = record { asked = asked _ _ _ _ _ _ _ t; held = t.counted; wide = t.long_counts };
+      places_in_bounds = room_seven _ _ g.fits;
+    }
+
+pub returns-in-Refused : goal.returns-in-Refused
+unfolding question_refusal records_needed room_rule
+returns-in-Refused c = list_refused _ _ _ _ _ _ _ c.admit_list.result c.admit_list.ensures _ _ refl (λ d. refl) _ _ _ _ c.in-Refused.is
+
+pub returns-in-To : goal.returns-in-To
+unfolding reply question_refusal records_needed room_rule tell_infos
+returns-in-To c = list_replied _ _ _ _ _ _ _ c.admit_list.result c.admit_list.ensures _ _ refl (λ d. refl) _ _ _ _ _ c.in-To.is _ _ c.get_download_queue.ensures.out_after c.get_download_queue.ensures.written

@@ -1,0 +1,29 @@
+-- `hashing_core` meets its contract. Assumes nothing.
+-- Written by tools/publics.py, and not by hand.
+use mathlib.Core.Path.{refl}
+use borrow.Author.Rules.{rules}
+use Rattle.model.specs.ask.Questions.{of_piece, hashing?, reply}
+use Rattle.model.specs.Calls.{question_refusal}
+use Rattle.picker_answers.proofs.AdmittedLaws.{granted, question_refused, question_replied, few_rows, rising, live-rows}
+use Rattle.picker_partial_questions.proofs.flags.hashing_core.Goals as goal
+
+pub hashing-requires : goal.hashing-requires
+hashing-requires c = let g = granted _ _ _ _ _ _ _ c.admit_piece.result c.admit_piece.ensures _ _ c.in-To.is in
+    let t = g.stood in
+    record {
+      live_bound = few_rows _ _ _ _ _ _ _ t;
+      rows_value = rising _ _ _ _ _ _ _ t;
+    }
+
+pub returns-in-Refused : goal.returns-in-Refused
+unfolding question_refusal
+returns-in-Refused c = question_refused _ _ _ _ _ _ _ c.admit_piece.result c.admit_piece.ensures (of_piece hashing? c.number-i.result) _
+    (λ n. of_piece hashing? (c.number-i.ensures n)) (λ d. refl) _ c.in-Refused.is
+
+pub returns-in-To : goal.returns-in-To
+unfolding reply question_refusal
+returns-in-To c = let g = granted _ _ _ _ _ _ _ c.admit_piece.result c.admit_piece.ensures _ _ c.in-To.is in
+    let t = g.stood in
+    question_replied _ _ _ _ _ _ _ c.admit_piece.result c.admit_piece.ensures (of_piece hashing? c.number-i.result) _
+    (λ n. of_piece hashing? (c.number-i.ensures n)) (λ d. refl) _ _ c.in-To.is _
+    (c.hashing.ensures.is _ _ _ (live-rows _ _ _ _ _ _ _ t))

@@ -1,0 +1,29 @@
+-- `download_state_core` meets its contract. Assumes nothing.
+-- Written by tools/publics.py, and not by hand.
+use mathlib.Core.Path.{refl, ap, ◌∙◌}
+use borrow.Author.Rules.{rules}
+use Rattle.model.specs.ask.Questions.{of_piece, download_state, reply, one}
+use Rattle.model.specs.Calls.{question_refusal}
+use Rattle.picker_answers.proofs.AdmittedLaws.{granted, question_refused, question_replied}
+use Rattle.picker_piece_questions.proofs.fields.download_state_core.Goals as goal
+
+pub download_state-requires : goal.download_state-requires
+download_state-requires c = let g = granted _ _ _ _ _ _ _ c.admit_piece.result c.admit_piece.ensures _ _ c.in-To.is in
+    let t = g.stood in
+    record {
+      cells_span = t.stands.bounds.spans.in_cells;
+      i_lt_pieces = g.fits;
+    }
+
+pub returns-in-Refused : goal.returns-in-Refused
+unfolding question_refusal
+returns-in-Refused c = question_refused _ _ _ _ _ _ _ c.admit_piece.result c.admit_piece.ensures (of_piece download_state c.number-i.result) _
+    (λ n. of_piece download_state (c.number-i.ensures n)) (λ d. refl) _ c.in-Refused.is
+
+pub returns-in-To : goal.returns-in-To
+unfolding reply question_refusal
+returns-in-To c = let g = granted _ _ _ _ _ _ _ c.admit_piece.result c.admit_piece.ensures _ _ c.in-To.is in
+    let t = g.stood in
+    question_replied _ _ _ _ _ _ _ c.admit_piece.result c.admit_piece.ensures (of_piece download_state c.number-i.result) _
+    (λ n. of_piece download_state (c.number-i.ensures n)) (λ d. refl) _ _ c.in-To.is _
+    (ap one c.u16_to_u64.ensures ∙ c.download_state.ensures.is _ _ t.stands.bounds)

@@ -1,0 +1,30 @@
+-- `payload_blocks_in_piece_core` meets its contract. Assumes nothing.
+-- Written by tools/publics.py, and not by hand.
+use mathlib.Core.Path.{refl}
+use borrow.Author.Rules.{rules}
+use Rattle.model.specs.ask.Questions.{of_piece, ask_payload_blocks_in_piece, reply}
+use Rattle.model.specs.Calls.{question_refusal}
+use Rattle.picker_answers.proofs.AdmittedLaws.{granted, question_refused, question_replied, shaped}
+use Rattle.picker_piece_questions.proofs.lengths.payload_blocks_in_piece_core.Goals as goal
+
+pub payload_blocks_in_piece-requires : goal.payload_blocks_in_piece-requires
+payload_blocks_in_piece-requires c = let g = granted _ _ _ _ _ _ _ c.admit_piece.result c.admit_piece.ensures _ _ c.in-To.is in
+    let t = g.stood in
+    record {
+      words_span = t.stands.bounds.spans.in_words;
+      shape_of = shaped _ _ _ _ _ _ _ t;
+      i_lt_pieces = g.fits;
+    }
+
+pub returns-in-Refused : goal.returns-in-Refused
+unfolding question_refusal
+returns-in-Refused c = question_refused _ _ _ _ _ _ _ c.admit_piece.result c.admit_piece.ensures (of_piece ask_payload_blocks_in_piece c.number-i.result) _
+    (λ n. of_piece ask_payload_blocks_in_piece (c.number-i.ensures n)) (λ d. refl) _ c.in-Refused.is
+
+pub returns-in-To : goal.returns-in-To
+unfolding reply question_refusal
+returns-in-To c = let g = granted _ _ _ _ _ _ _ c.admit_piece.result c.admit_piece.ensures _ _ c.in-To.is in
+    let t = g.stood in
+    question_replied _ _ _ _ _ _ _ c.admit_piece.result c.admit_piece.ensures (of_piece ask_payload_blocks_in_piece c.number-i.result) _
+    (λ n. of_piece ask_payload_blocks_in_piece (c.number-i.ensures n)) (λ d. refl) _ _ c.in-To.is _
+    (c.payload_blocks_in_piece.ensures.is _ _ t.stands.bounds)

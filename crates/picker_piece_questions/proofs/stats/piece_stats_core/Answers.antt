@@ -1,0 +1,29 @@
+-- `piece_stats_core` meets its contract. Assumes nothing.
+-- Written by tools/publics.py, and not by hand.
+use mathlib.Core.Path.{refl}
+use borrow.Author.Rules.{rules}
+use Rattle.model.specs.ask.Questions.{of_piece, piece_stats, reply}
+use Rattle.model.specs.Calls.{question_refusal}
+use Rattle.picker_answers.proofs.AdmittedLaws.{granted, question_refused, question_replied, beside}
+use Rattle.picker_piece_questions.proofs.stats.piece_stats_core.Goals as goal
+
+pub piece_stats-requires : goal.piece_stats-requires
+piece_stats-requires c = let g = granted _ _ _ _ _ _ _ c.admit_piece.result c.admit_piece.ensures _ _ c.in-To.is in
+    let t = g.stood in
+    record {
+      stands_beside = beside _ _ _ _ _ _ _ t;
+      i_lt_pieces = g.fits;
+    }
+
+pub returns-in-Refused : goal.returns-in-Refused
+unfolding question_refusal
+returns-in-Refused c = question_refused _ _ _ _ _ _ _ c.admit_piece.result c.admit_piece.ensures (of_piece piece_stats c.number-i.result) _
+    (λ n. of_piece piece_stats (c.number-i.ensures n)) (λ d. refl) _ c.in-Refused.is
+
+pub returns-in-To : goal.returns-in-To
+unfolding reply question_refusal
+returns-in-To c = let g = granted _ _ _ _ _ _ _ c.admit_piece.result c.admit_piece.ensures _ _ c.in-To.is in
+    let t = g.stood in
+    question_replied _ _ _ _ _ _ _ c.admit_piece.result c.admit_piece.ensures (of_piece piece_stats c.number-i.result) _
+    (λ n. of_piece piece_stats (c.number-i.ensures n)) (λ d. refl) _ _ c.in-To.is _
+    (c.piece_stats.ensures.is _ t.stands.bounds)

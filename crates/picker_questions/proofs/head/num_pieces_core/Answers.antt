@@ -1,0 +1,21 @@
+-- `num_pieces_core` meets its contract. Assumes nothing.
+-- Written by tools/publics.py, and not by hand.
+use mathlib.Core.Path.{refl, ap, ◌∙◌}
+use borrow.Author.Rules.{rules}
+use Rattle.model.specs.ask.Questions.{of_picker, num_pieces, reply, one}
+use Rattle.model.specs.Calls.{question_refusal}
+use Rattle.picker_answers.proofs.AdmittedLaws.{granted, question_refused, question_replied}
+use Rattle.picker_questions.proofs.head.num_pieces_core.Goals as goal
+
+pub returns-in-Refused : goal.returns-in-Refused
+unfolding question_refusal
+returns-in-Refused c = question_refused _ _ _ _ _ _ _ c.admit_picker.result c.admit_picker.ensures (of_picker num_pieces) _
+    refl (λ d. refl) _ c.in-Refused.is
+
+pub returns-in-To : goal.returns-in-To
+unfolding reply question_refusal
+returns-in-To c = let g = granted _ _ _ _ _ _ _ c.admit_picker.result c.admit_picker.ensures _ _ c.in-To.is in
+    let t = g.stood in
+    question_replied _ _ _ _ _ _ _ c.admit_picker.result c.admit_picker.ensures (of_picker num_pieces) _
+    refl (λ d. refl) _ _ c.in-To.is _
+    (ap one c.usize_to_u64.ensures ∙ c.num_pieces.ensures.is _ _ _ t.stands.bounds)
