@@ -1,9 +1,0 @@
-pub mod Code
-pub mod Again
-pub mod Loan
-pub mod CallSteps
-pub mod RecordSteps
-pub mod LiveSteps
-pub mod UnpackSteps
-pub mod PackSteps
-pub mod Values
