@@ -23,6 +23,7 @@ pub fn live_records(words: &[u64]) -> usize
 }
 
 // Row k holds d.
+#[tactic(auto, unfolding(crate::specs::Rows::row_put))]
 pub fn set_row(rows: &mut [u32], k: usize, d: DownloadingPiece)
     requires { (k < 512) × (length rows.old ≡ 1536) }
     ensures { rows.new ≡ row_put rows.old k d }
@@ -33,6 +34,7 @@ pub fn set_row(rows: &mut [u32], k: usize, d: DownloadingPiece)
 }
 
 // The record in row k.
+#[tactic(auto, unfolding(crate::specs::Rows::row_at))]
 pub fn row(rows: &[u32], k: usize) -> DownloadingPiece
     requires { (k < 512) × (length rows.now ≡ 1536) }
     ensures { result ≡ row_at rows.now k }

@@ -1,30 +1,33 @@
 -- Facts of the definitions: the first place that passes a test, and a search that starts behind records of lower pieces. Assumes nothing.
 use mathlib.Core.Path.{◌≡◌, refl, ap, subst, ◌∙◌}
 use Prim.Native.Nat.{ℕ, zero, suc, ◌+◌, ◌-◌, ◌<◌, ◌≤◌}
-use mathlib.Core.Bool.{Bool, true, false, not}
+use mathlib.Core.Bool.{Bool, true, false}
 use native.Mathlib.Omega.{arith}
 use native.Mathlib.Nat.{zero-add}
 use mathlib.Core.List.{List}
 use lib.ListN.{get_or}
-use lib.Dec.{T, ltb, eqb, ltb→lt, eqb→eq}
+use lib.Dec.{ltb, eqb, ltb→lt, eqb→eq}
 use Rattle.memory_records.specs.declared.record.DownloadingPiece.{DownloadingPiece}
 use Rattle.memory_records.specs.Records.{no_record, place_of, first_from, above_from, seek_from}
-use Rattle.memory_records.proofs.laws.SearchLaws.{holds, fails}
+use Rattle.memory_records.proofs.laws.SearchLaws.{fails}
 use Rattle.memory_search.specs.Skips.{Skipped}
-
-pub fails_not : (t : Bool) → T (not t) → t ≡ false
-fails_not true a = absurd a
-fails_not false _ = refl
 
 chosen : (b : Bool) (k m t : ℕ) → m ≤ suc k + t → place_of b k m ≤ k + suc t
 chosen true k m t h = omega arith
 chosen false k m t h = omega (arith, h)
 
-pub hit : (test : ℕ → Bool) (t k : ℕ) → T (test k) → first_from test (suc t) k ≡ k
-hit test t k h = ap (λ (b : Bool). place_of b k (first_from test t (suc k))) (holds (test k) h)
+-- a search among n that comes past place k
+pub step_on : (test : ℕ → Bool) (n k : ℕ) → k < n → test k ≡ false → first_from test (n - k) k ≡ first_from test (n - (k + 1)) (k + 1)
+step_on test n k h e =
+    ap (λ (t : ℕ). first_from test t k) left
+    ∙ ap (λ (b : Bool). place_of b k (first_from test (n - (k + 1)) (suc k))) e
+    ∙ ap (first_from test (n - (k + 1))) place
+  where
+    left : n - k ≡ suc (n - (k + 1))
+    left = omega (arith, h)
 
-pub miss : (test : ℕ → Bool) (t k : ℕ) → T (not (test k)) → first_from test (suc t) k ≡ first_from test t (suc k)
-miss test t k h = ap (λ (b : Bool). place_of b k (first_from test t (suc k))) (fails_not (test k) h)
+    place : suc k ≡ k + 1
+    place = omega arith
 
 -- it stops among them or right behind
 pub first_bound : (test : ℕ → Bool) (t k : ℕ) → first_from test t k ≤ k + t

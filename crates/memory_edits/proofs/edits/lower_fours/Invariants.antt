@@ -1,0 +1,13 @@
+-- At k: the rest of the gap over what stands is the whole gap.
+use Rattle.std.proofs.Common.{◌≡◌, ◌-◌, length}
+use Rattle.memory_edits.specs.Partway.{Lowered}
+use Rattle.memory_edits.proofs.edits.lower_fours.Given as goal
+
+abbrev pub invariant-loop-k : goal.invariant-loop-k
+invariant-loop-k l = record {
+  long : length l.partials ≡ length l.fn.partials;
+  gap : Lowered l.i l.last l.fn.partials l.k l.partials;
+}
+
+abbrev pub decreases-loop-k : goal.decreases-loop-k
+decreases-loop-k l = l.last - l.k
