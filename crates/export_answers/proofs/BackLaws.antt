@@ -1,4 +1,5 @@
 -- A public answer written as a struct of numbers is what the struct says. Assumes nothing.
+use mir.ValLaws.{to_z-of_z}
 use mathlib.Core.Path.{◌≡◌, refl, ap}
 use mathlib.Core.Bool.{true, false}
 use Rattle.picker_calls.specs.declared.outcomes.Outcome.{Outcome}
@@ -138,3 +139,9 @@ pub pick_back : (o : PickOutcome) → pick_in (of_pick o) ≡ o
 unfolding pick_in refusal_of
 pick_back (NotPicked why) = ap (unless_refusal NotPicked _) (refusal_back why)
 pick_back (PickDone x) = refl
+
+-- every one of them, for the exports' proofs
+pub ruleset backs = (number_back, flag_back, place_back, partial_flag_back, block_number_back, peer_back, list_back, making_back, image_back, outcome_back, copies_back, count_back, sizes_back, stats_back, info_back, pick_back)
+
+-- a signed argument that is handed on as it came
+pub ruleset signed = (to_z-of_z)

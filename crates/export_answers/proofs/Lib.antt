@@ -1,3 +1,2 @@
 pub mod BackLaws
 pub mod RefusalLaws
-pub mod Values

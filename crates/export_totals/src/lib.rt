@@ -1,6 +1,6 @@
 // The totals over the pieces, for C: each passes on to the public call.
 // Written by tools/exports.py, and not by hand.
-#![tactic(auto)]
+#![tactic(auto, using(export_walks::proofs::Carrying::carried, export_answers::proofs::BackLaws::backs, export_answers::proofs::BackLaws::signed))]
 
 mod progress;
 mod totals;

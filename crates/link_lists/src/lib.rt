@@ -35,8 +35,7 @@ fn shape(g: Geometry) -> Shape
 }
 
 // The rank of piece i.
-#[unsafe(no_mangle)]
-pub extern "C" fn ls_rank(words: &[u64], cells: &[u16], g: Geometry, i: usize) -> u16
+pub fn ls_rank(words: &[u64], cells: &[u16], g: Geometry, i: usize) -> u16
     requires list_bounds { ListBounds (shaped g.pieces g.blocks g.places) words.now cells.now }
     requires i_lt_pieces { i < g.pieces }
     ensures { RankOf words.now cells.now i result }
@@ -45,8 +44,7 @@ pub extern "C" fn ls_rank(words: &[u64], cells: &[u16], g: Geometry, i: usize) -
 }
 
 // The list mended after piece i came from rank `old` to the one it has. Answers how many draws were used.
-#[unsafe(no_mangle)]
-pub extern "C" fn ls_update(
+pub fn ls_update(
     words: &mut [u64],
     cells: &[u16],
     g: Geometry,
@@ -65,13 +63,7 @@ pub extern "C" fn ls_update(
 }
 
 // The list rebuilt where it is dirty. Answers how many draws were used.
-#[unsafe(no_mangle)]
-pub extern "C" fn ls_update_pieces(
-    words: &mut [u64],
-    cells: &[u16],
-    g: Geometry,
-    draws: &[u32],
-) -> usize
+pub fn ls_update_pieces(words: &mut [u64], cells: &[u16], g: Geometry, draws: &[u32]) -> usize
     requires list_bounds { ListBounds (shaped g.pieces g.blocks g.places) words.old cells.now }
     requires ranks_right { RanksRight (shaped g.pieces g.blocks g.places) words.old cells.now }
     ensures { ListBecame (shaped g.pieces g.blocks g.places) (update_pieces draws.now)
@@ -82,8 +74,7 @@ pub extern "C" fn ls_update_pieces(
 }
 
 // Place k of queue q among the partials; 512 where the queue has none. The first `live` rows are the live records.
-#[unsafe(no_mangle)]
-pub extern "C" fn ls_queue_place(
+pub fn ls_queue_place(
     words: &[u64],
     cells: &[u16],
     rows: &[u32],

@@ -10,8 +10,9 @@ use Rattle.link_lists.proofs.QueueLaws.{queue_ends, queue_place, place_low}
 use Rattle.link_lists.proofs.ls_queue_place.Goals as goal
 
 pub download_queues-requires : goal.download_queues-requires
-download_queues-requires c = let e = sym c.shape-s.ensures in
-    let rows = subst (λ s. LiveRows s c.args.live c.args.rows.now c.args.words.now c.args.cells.now) e c.requires.live_rows in
+download_queues-requires c = let a = c.args in
+    let e = sym c.shape-s.ensures in
+    let rows = subst (λ s. LiveRows s a.live a.rows.now a.words.now a.cells.now) e c.requires.live_rows in
     record {
       cells_span = rows.bounds.spans.in_cells;
       rows_len = c.requires.rows_len;
@@ -21,21 +22,24 @@ download_queues-requires c = let e = sym c.shape-s.ensures in
 
 pub returns-then-sizes-q : goal.returns-then-sizes-q
 unfolding nth
-returns-then-sizes-q c = let e = sym c.shape-s.ensures in
-    let rows = subst (λ s. LiveRows s c.args.live c.args.rows.now c.args.words.now c.args.cells.now) e c.requires.live_rows in
-    queue_ends _ _ _ (c.download_queues.ensures.places c.args.words.now rows) _ c.requires.q_bound _
+returns-then-sizes-q c = let a = c.args in
+    let e = sym c.shape-s.ensures in
+    let rows = subst (λ s. LiveRows s a.live a.rows.now a.words.now a.cells.now) e c.requires.live_rows in
+    queue_ends _ _ _ (c.download_queues.ensures.places a.words.now rows) _ c.requires.q_bound _
     (omega (arith, c.if-sizes-q.true))
 
 pub place_at-requires : goal.place_at-requires
 unfolding nth
-place_at-requires c = let e = sym c.shape-s.ensures in
-    let rows = subst (λ s. LiveRows s c.args.live c.args.rows.now c.args.words.now c.args.cells.now) e c.requires.live_rows in
-    let held = c.download_queues.ensures.places c.args.words.now rows in
+place_at-requires c = let a = c.args in
+    let e = sym c.shape-s.ensures in
+    let rows = subst (λ s. LiveRows s a.live a.rows.now a.words.now a.cells.now) e c.requires.live_rows in
+    let held = c.download_queues.ensures.places a.words.now rows in
     (c.requires.q_bound, place_low _ _ _ held _ c.requires.q_bound _ c.requires.cells_value (omega (arith, c.if-sizes-q.false)))
 
 pub returns : goal.returns
 unfolding nth
-returns c = let e = sym c.shape-s.ensures in
-    let rows = subst (λ s. LiveRows s c.args.live c.args.rows.now c.args.words.now c.args.cells.now) e c.requires.live_rows in
-    let held = c.download_queues.ensures.places c.args.words.now rows in
+returns c = let a = c.args in
+    let e = sym c.shape-s.ensures in
+    let rows = subst (λ s. LiveRows s a.live a.rows.now a.words.now a.cells.now) e c.requires.live_rows in
+    let held = c.download_queues.ensures.places a.words.now rows in
     c.place_at.ensures ∙ queue_place _ _ _ held _ c.requires.q_bound _ (omega (arith, c.if-sizes-q.false))

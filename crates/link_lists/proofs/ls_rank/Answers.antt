@@ -7,12 +7,13 @@ use Rattle.memory_list.specs.Listings.{ListBounds}
 use Rattle.link_lists.proofs.ls_rank.Goals as goal
 
 pub rank_at-requires : goal.rank_at-requires
-rank_at-requires c = let e = sym c.shape.ensures in
-    let bounds = subst (λ s. ListBounds s c.args.words.now c.args.cells.now) e c.requires.list_bounds in
+rank_at-requires c = let a = c.args in
+    let e = sym c.shape.ensures in
+    let bounds = subst (λ s. ListBounds s a.words.now a.cells.now) e c.requires.list_bounds in
     record {
       spans = bounds.spans;
       ranges = bounds.ranges;
-      i_lt_pieces = subst (λ (s : Shape). c.args.i < s.pieces) e c.requires.i_lt_pieces;
+      i_lt_pieces = subst (λ (s : Shape). a.i < s.pieces) e c.requires.i_lt_pieces;
     }
 
 pub returns : goal.returns

@@ -9,16 +9,19 @@ use Rattle.memory_list.specs.Listings.{ListBounds, ListBefore, ListBecame}
 use Rattle.link_lists.proofs.ls_update.Goals as goal
 
 pub update-requires : goal.update-requires
-update-requires c = let e = sym c.shape-s.ensures in
-    let bounds = subst (λ s. ListBounds s c.args.words.now c.args.cells.now) e c.requires.list_bounds in
-    let was = subst (λ s. ListBefore s c.args.words.now c.args.cells.now c.args.old c.args.i) e c.requires.list_before in
+update-requires c = let a = c.args in
+    let e = sym c.shape-s.ensures in
+    let bounds = subst (λ s. ListBounds s a.words.now a.cells.now) e c.requires.list_bounds in
+    let was = subst (λ s. ListBefore s a.words.now a.cells.now a.old a.i) e c.requires.list_before in
     record {
       list_bounds = bounds;
-      i_lt_pieces = subst (λ (s : Shape). c.args.i < s.pieces) e c.requires.i_lt_pieces;
+      i_lt_pieces = subst (λ (s : Shape). a.i < s.pieces) e c.requires.i_lt_pieces;
       list_before = was;
       used_in_bounds = omega arith;
     }
 
 pub returns : goal.returns
-returns c = subst (λ s. ListBecame s (update c.args.draws.now c.args.old c.args.i) c.args.words.now c.update.new.words c.args.cells.now 0 c.update.result)
-    c.shape-s.ensures c.update.ensures
+returns c = let a = c.args in
+    let u = c.update in
+    subst (λ s. ListBecame s (update a.draws.now a.old a.i) a.words.now u.new.words a.cells.now 0 u.result)
+    c.shape-s.ensures u.ensures

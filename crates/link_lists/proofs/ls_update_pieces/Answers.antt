@@ -7,14 +7,17 @@ use Rattle.memory_list.specs.Listings.{ListBounds, RanksRight, ListBecame}
 use Rattle.link_lists.proofs.ls_update_pieces.Goals as goal
 
 pub update_pieces-requires : goal.update_pieces-requires
-update_pieces-requires c = let e = sym c.shape-s.ensures in
-    let bounds = subst (λ s. ListBounds s c.args.words.now c.args.cells.now) e c.requires.list_bounds in
+update_pieces-requires c = let a = c.args in
+    let e = sym c.shape-s.ensures in
+    let bounds = subst (λ s. ListBounds s a.words.now a.cells.now) e c.requires.list_bounds in
     record {
       list_bounds = bounds;
-      ranks_right = subst (λ s. RanksRight s c.args.words.now c.args.cells.now) e c.requires.ranks_right;
+      ranks_right = subst (λ s. RanksRight s a.words.now a.cells.now) e c.requires.ranks_right;
       used_in_bounds = omega arith;
     }
 
 pub returns : goal.returns
-returns c = subst (λ s. ListBecame s (update_pieces c.args.draws.now) c.args.words.now c.update_pieces.new.words c.args.cells.now 0 c.update_pieces.result)
-    c.shape-s.ensures c.update_pieces.ensures
+returns c = let a = c.args in
+    let u = c.update_pieces in
+    subst (λ s. ListBecame s (update_pieces a.draws.now) a.words.now u.new.words a.cells.now 0 u.result)
+    c.shape-s.ensures u.ensures

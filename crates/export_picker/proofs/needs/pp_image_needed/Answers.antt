@@ -9,7 +9,8 @@ use borrow.Author.Rules.{rules}
 use Rattle.export_picker.proofs.needs.pp_image_needed.Goals as goal
 
 pub returns : goal.returns
-returns c = let fits_t : SFits w64 c.args.total_size = search rules in
-    let fits_z : SFits w32 c.args.piece_size = search rules in
+returns c = let a = c.args in
+    let fits_t : SFits w64 a.total_size = search rules in
+    let fits_z : SFits w32 a.piece_size = search rules in
     c.image_needed.ensures
-    ∙ ap₂ bytes_for (ap number_of (to_z-of_z w64 c.args.total_size fits_t)) (ap number_of (to_z-of_z w32 c.args.piece_size fits_z))
+    ∙ ap₂ bytes_for (ap number_of (to_z-of_z w64 a.total_size fits_t)) (ap number_of (to_z-of_z w32 a.piece_size fits_z))
