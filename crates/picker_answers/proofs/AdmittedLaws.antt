@@ -122,8 +122,8 @@ module _ (rule : Picker → Option Refusal) (not_memory : NotOfMemory rule) (Fit
 
 -- ---- what stands where a picker does
 module _ (s : Shape) (live lent : ℕ) (rows counts words cells : List ℕ) (t : Stood s live lent rows counts words cells) where
-  pub live-rows : LiveRows s live rows words cells
-  live-rows = record { bounds = t.stands.bounds; many = t.many }
+  pub live_rows : LiveRows s live rows words cells
+  live_rows = record { bounds = t.stands.bounds; many = t.many }
 
   pub beside : StandsBeside s words cells
   beside = record { records = records_in live rows; stands = t.stands }

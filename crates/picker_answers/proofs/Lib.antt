@@ -1,2 +1,1 @@
 pub mod AdmittedLaws
-pub mod Values

@@ -3,6 +3,6 @@ pub mod AdmissionLaws
 pub mod CallLaws
 pub mod ListlessLaws
 pub mod JudgeLaws
-pub mod Values
 pub mod CoreLaws
 pub mod StartingLaws
+pub mod PublicLaws

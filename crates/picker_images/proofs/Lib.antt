@@ -1,4 +1,3 @@
 pub mod MakingLaws
 pub mod ReadingLaws
 pub mod TakingLaws
-pub mod Values

@@ -1,6 +1,6 @@
 // The public calls that make a picker, the one that takes its image, and the needs. None requires anything: each is refused as the table
 // says, with every buffer as it was, or does what the definition does.
-#![tactic(auto)]
+#![tactic(auto, using(picker_calls::proofs::PublicLaws::public_calls))]
 
 mod answers;
 mod making;

@@ -1,6 +1,6 @@
 // The public questions that fill a lent list. None requires anything: each is refused as the table says, 2 of the list's places among them,
 // or writes the records that the definition replies. What lies behind them is untouched, and all of it where the call is refused.
-#![tactic(auto)]
+#![tactic(auto, using(picker_calls::proofs::PublicLaws::public_calls))]
 
 mod admitted;
 mod answers;

@@ -1,6 +1,6 @@
 // The public `pick_pieces`. It requires nothing: it is refused as the table says, with every buffer as it was, or does what the
 // definition's pick does.
-#![tactic(auto)]
+#![tactic(auto, using(picker_calls::proofs::PublicLaws::public_calls))]
 
 ghost use Rattle.std.specs.Prelude.{◌≡◌, length};
 ghost use Rattle.types.specs.Piece.{number_of};

@@ -1,7 +1,7 @@
 // The public questions of a piece that its own fields and the geometry answer. None requires anything: each is refused as the table says,
 // or answers what the definition replies.
 // Written by tools/publics.py, and not by hand.
-#![tactic(auto)]
+#![tactic(auto, using(picker_calls::proofs::PublicLaws::public_calls))]
 
 mod answers;
 mod fields;

@@ -12,4 +12,4 @@ starts zero a h = absurd (omega arith)
 starts (suc n) a h = refl
 
 pub returns : goal.returns
-returns c = (refl, refl, starts c.args.lent c.args.a (omega (arith, c.if-lent-eq0.false)))
+returns c = let x = c.args in (refl, refl, starts x.lent x.a (omega (arith, c.if-lent-eq0.false)))

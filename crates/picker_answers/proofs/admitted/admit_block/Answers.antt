@@ -11,13 +11,17 @@ use Rattle.picker_answers.proofs.admitted.admit_block.Goals as goal
 -- src/admitted.rt:88:17
 pub returns-then-s-i : goal.returns-then-s-i
 unfolding refuse_bad_block
-returns-then-s-i c = let t = (stood_at _ _ _ _ _ c.admit.result c.admit.ensures _ c.in-At.is).stands in
-    refused_by_rule (λ d. refuse_bad_block d c.args.i c.args.j none) (block_rule c.args.i c.args.j) _ _ _ _ _ _ c.admit.result c.admit.ensures _ c.in-At.is _
-    (piece_past _ _ _ _ t c.args.i _ c.if-s-i.true)
+returns-then-s-i c = let k = c.admit in
+    let at = c.in-At.is in
+    let a = c.args in
+    let t = (stood_at _ _ _ _ _ k.result k.ensures _ at).stands in
+    refused_by_rule (λ d. refuse_bad_block d a.i a.j none) (block_rule a.i a.j) _ _ _ _ _ _ k.result k.ensures _ at _
+    (piece_past _ _ _ _ t a.i _ c.if-s-i.true)
 
 -- src/admitted.rt:90:29
 pub blocks_in_piece-requires : goal.blocks_in_piece-requires
-blocks_in_piece-requires c = let t = stood_at _ _ _ _ _ c.admit.result c.admit.ensures _ c.in-At.is in
+blocks_in_piece-requires c = let k = c.admit in
+    let t = stood_at _ _ _ _ _ k.result k.ensures _ c.in-At.is in
     record {
       words_span = t.stands.bounds.spans.in_words;
       shape_of = shaped _ _ _ _ _ _ _ t;
@@ -26,19 +30,31 @@ blocks_in_piece-requires c = let t = stood_at _ _ _ _ _ c.admit.result c.admit.e
 
 -- src/admitted.rt:91:17
 pub returns-then-u64_to_usize-j : goal.returns-then-u64_to_usize-j
-returns-then-u64_to_usize-j c = let t = (stood_at _ _ _ _ _ c.admit.result c.admit.ensures _ c.in-At.is).stands in
-    refused_by_rule (λ d. refuse_bad_block d c.args.i c.args.j none) (block_rule c.args.i c.args.j) _ _ _ _ _ _ c.admit.result c.admit.ensures _ c.in-At.is _
-    (block_past _ _ _ _ t c.args.i c.args.j _ c.if-s-i.false c.blocks_in_piece.ensures
+returns-then-u64_to_usize-j c = let k = c.admit in
+    let at = c.in-At.is in
+    let a = c.args in
+    let t = (stood_at _ _ _ _ _ k.result k.ensures _ at).stands in
+    refused_by_rule (λ d. refuse_bad_block d a.i a.j none) (block_rule a.i a.j) _ _ _ _ _ _ k.result k.ensures _ at _
+    (block_past _ _ _ _ t a.i a.j _ c.if-s-i.false c.blocks_in_piece.ensures
     (omega (arith, c.u64_to_usize.ensures, c.if-u64_to_usize-j.true)))
 
 -- src/admitted.rt:71:1
 pub returns-in-Refused : goal.returns-in-Refused
-returns-in-Refused c = refused_for_memory (λ d. refuse_bad_block d c.args.i c.args.j none) (block_rule c.args.i c.args.j) _ _ _ _ _ _ c.admit.result c.admit.ensures _
+returns-in-Refused c = let k = c.admit in
+    let a = c.args in
+    refused_for_memory (λ d. refuse_bad_block d a.i a.j none) (block_rule a.i a.j) _ _ _ _ _ _ k.result k.ensures _
     c.in-Refused.is
 
 -- src/admitted.rt:71:1
 pub returns-else-u64_to_usize-j : goal.returns-else-u64_to_usize-j
-returns-else-u64_to_usize-j c = let t = (stood_at _ _ _ _ _ c.admit.result c.admit.ensures _ c.in-At.is).stands in
-    admitted_by_rule (λ d. refuse_bad_block d c.args.i c.args.j none) (block_rule c.args.i c.args.j) _ _ _ _ _ _ c.admit.result c.admit.ensures _ c.in-At.is
-    (block_there _ _ _ _ t c.args.i c.args.j _ c.if-s-i.false c.blocks_in_piece.ensures (omega (arith, c.u64_to_usize.ensures, c.if-u64_to_usize-j.false)))
-    (block_fits _ _ _ _ t c.args.i c.args.j _ c.if-s-i.false c.blocks_in_piece.ensures (omega (arith, c.u64_to_usize.ensures, c.if-u64_to_usize-j.false))) _ c.live_records.ensures
+returns-else-u64_to_usize-j c = let k = c.admit in
+    let at = c.in-At.is in
+    let a = c.args in
+    let t = (stood_at _ _ _ _ _ k.result k.ensures _ at).stands in
+    let u = c.u64_to_usize in
+    let n = c.blocks_in_piece in
+    let l = c.if-u64_to_usize-j.false in
+    let h = c.if-s-i.false in
+    admitted_by_rule (λ d. refuse_bad_block d a.i a.j none) (block_rule a.i a.j) _ _ _ _ _ _ k.result k.ensures _ at
+    (block_there _ _ _ _ t a.i a.j _ h n.ensures (omega (arith, u.ensures, l)))
+    (block_fits _ _ _ _ t a.i a.j _ h n.ensures (omega (arith, u.ensures, l))) _ c.live_records.ensures

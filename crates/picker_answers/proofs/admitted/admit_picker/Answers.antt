@@ -9,11 +9,13 @@ use Rattle.picker_answers.proofs.admitted.admit_picker.Goals as goal
 -- src/admitted.rt:21:1
 pub returns-in-Refused : goal.returns-in-Refused
 unfolding of_memory
-returns-in-Refused c = refused_for_memory (λ d. none) (λ d. refl) _ _ _ _ _ _ c.admit.result c.admit.ensures _
+returns-in-Refused c = let k = c.admit in
+    refused_for_memory (λ d. none) (λ d. refl) _ _ _ _ _ _ k.result k.ensures _
     c.in-Refused.is
 
 -- src/admitted.rt:21:1
 pub returns-in-At : goal.returns-in-At
 unfolding of_memory
-returns-in-At c = admitted_by_rule (λ d. none) (λ d. refl) _ _ _ _ _ _ c.admit.result c.admit.ensures _
+returns-in-At c = let k = c.admit in
+    admitted_by_rule (λ d. none) (λ d. refl) _ _ _ _ _ _ k.result k.ensures _
     c.in-At.is refl tt _ c.live_records.ensures

@@ -9,17 +9,25 @@ use Rattle.picker_answers.proofs.admitted.admit_piece.Goals as goal
 
 -- src/admitted.rt:55:17
 pub returns-then-s-i : goal.returns-then-s-i
-returns-then-s-i c = let t = (stood_at _ _ _ _ _ c.admit.result c.admit.ensures _ c.in-At.is).stands in
-    refused_by_rule (λ d. refuse_bad_piece d c.args.i none) (piece_rule c.args.i) _ _ _ _ _ _ c.admit.result c.admit.ensures _ c.in-At.is _
-    (piece_past _ _ _ _ t c.args.i none c.if-s-i.true)
+returns-then-s-i c = let k = c.admit in
+    let at = c.in-At.is in
+    let a = c.args in
+    let t = (stood_at _ _ _ _ _ k.result k.ensures _ at).stands in
+    refused_by_rule (λ d. refuse_bad_piece d a.i none) (piece_rule a.i) _ _ _ _ _ _ k.result k.ensures _ at _
+    (piece_past _ _ _ _ t a.i none c.if-s-i.true)
 
 -- src/admitted.rt:39:1
 pub returns-in-Refused : goal.returns-in-Refused
-returns-in-Refused c = refused_for_memory (λ d. refuse_bad_piece d c.args.i none) (piece_rule c.args.i) _ _ _ _ _ _ c.admit.result c.admit.ensures _
+returns-in-Refused c = let k = c.admit in
+    let a = c.args in
+    refused_for_memory (λ d. refuse_bad_piece d a.i none) (piece_rule a.i) _ _ _ _ _ _ k.result k.ensures _
     c.in-Refused.is
 
 -- src/admitted.rt:39:1
 pub returns-else-s-i : goal.returns-else-s-i
-returns-else-s-i c = let t = (stood_at _ _ _ _ _ c.admit.result c.admit.ensures _ c.in-At.is).stands in
-    admitted_by_rule (λ d. refuse_bad_piece d c.args.i none) (piece_rule c.args.i) _ _ _ _ _ _ c.admit.result c.admit.ensures _ c.in-At.is
-    (piece_there _ _ _ _ t c.args.i none c.if-s-i.false) c.if-s-i.false _ c.live_records.ensures
+returns-else-s-i c = let k = c.admit in
+    let at = c.in-At.is in
+    let a = c.args in
+    let t = (stood_at _ _ _ _ _ k.result k.ensures _ at).stands in
+    admitted_by_rule (λ d. refuse_bad_piece d a.i none) (piece_rule a.i) _ _ _ _ _ _ k.result k.ensures _ at
+    (piece_there _ _ _ _ t a.i none c.if-s-i.false) c.if-s-i.false _ c.live_records.ensures

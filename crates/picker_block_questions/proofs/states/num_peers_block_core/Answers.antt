@@ -12,7 +12,9 @@ use Rattle.picker_answers.proofs.AdmittedLaws.{granted, question_refused, questi
 use Rattle.picker_block_questions.proofs.states.num_peers_block_core.Goals as goal
 
 pub num_peers_block-requires : goal.num_peers_block-requires
-num_peers_block-requires c = let g = granted _ _ _ _ _ _ _ c.admit_block.result c.admit_block.ensures _ _ c.in-To.is in
+num_peers_block-requires c = let v = c.admit_block in
+    let at = c.in-To.is in
+    let g = granted _ _ _ _ _ _ _ v.result v.ensures _ _ at in
     let t = g.stood in
     record {
       asked = asked _ _ _ _ _ _ _ t;
@@ -21,15 +23,28 @@ num_peers_block-requires c = let g = granted _ _ _ _ _ _ _ c.admit_block.result 
 
 pub returns-in-Refused : goal.returns-in-Refused
 unfolding question_refusal
-returns-in-Refused c = let fit : SFits w32 c.args.block.block_index = search rules in
-    let j_is = c.i32_to_usize-j.ensures ∙ ap number_of (to_z-of_z w32 c.args.block.block_index fit) in
-    question_refused _ _ _ _ _ _ _ c.admit_block.result c.admit_block.ensures (of_block num_peers_block c.number-i.result c.i32_to_usize-j.result) _
-    (λ n. of_block num_peers_block (c.number-i.ensures n) (j_is n)) (λ d. refl) _ c.in-Refused.is
+returns-in-Refused c = let v = c.admit_block in
+    let i = c.number-i in
+    let i_is = i.ensures in
+    let j = c.i32_to_usize-j in
+    let a = c.args in
+    let z = a.block.block_index in
+    let fit : SFits w32 z = search rules in
+    let j_is = j.ensures ∙ ap number_of (to_z-of_z w32 z fit) in
+    question_refused _ _ _ _ _ _ _ v.result v.ensures (of_block num_peers_block i.result j.result) _
+    (λ n. of_block num_peers_block (i_is n) (j_is n)) (λ d. refl) _ c.in-Refused.is
 
 pub returns-in-To : goal.returns-in-To
 unfolding reply question_refusal
-returns-in-To c = let fit : SFits w32 c.args.block.block_index = search rules in
-    let j_is = c.i32_to_usize-j.ensures ∙ ap number_of (to_z-of_z w32 c.args.block.block_index fit) in
-    question_replied _ _ _ _ _ _ _ c.admit_block.result c.admit_block.ensures (of_block num_peers_block c.number-i.result c.i32_to_usize-j.result) _
-    (λ n. of_block num_peers_block (c.number-i.ensures n) (j_is n)) (λ d. refl) _ _ c.in-To.is _
+returns-in-To c = let v = c.admit_block in
+    let at = c.in-To.is in
+    let i = c.number-i in
+    let i_is = i.ensures in
+    let j = c.i32_to_usize-j in
+    let a = c.args in
+    let z = a.block.block_index in
+    let fit : SFits w32 z = search rules in
+    let j_is = j.ensures ∙ ap number_of (to_z-of_z w32 z fit) in
+    question_replied _ _ _ _ _ _ _ v.result v.ensures (of_block num_peers_block i.result j.result) _
+    (λ n. of_block num_peers_block (i_is n) (j_is n)) (λ d. refl) _ _ at _
     (ap one c.u16_to_u64.ensures ∙ c.num_peers_block.ensures)

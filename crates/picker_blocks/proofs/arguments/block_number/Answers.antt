@@ -8,5 +8,6 @@ use Rattle.types.specs.Piece.{number_of}
 use Rattle.picker_blocks.proofs.arguments.block_number.Goals as goal
 
 pub returns : goal.returns
-returns c = let fit : SFits w32 c.args.block.block_index = search rules in
-    c.i32_to_usize.ensures ∙ ap number_of (to_z-of_z w32 c.args.block.block_index fit)
+returns c = let z = c.args.block.block_index in
+    let fit : SFits w32 z = search rules in
+    c.i32_to_usize.ensures ∙ ap number_of (to_z-of_z w32 z fit)

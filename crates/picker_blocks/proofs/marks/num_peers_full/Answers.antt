@@ -9,9 +9,11 @@ use borrow.Author.Rules.{rules}
 use Rattle.picker_blocks.proofs.marks.num_peers_full.Goals as goal
 
 pub returns-in_default : goal.returns-in_default
-returns-in_default c = let d = picker_in c.args.live c.args.rows.now c.args.words.now c.args.cells.now in
-    full_missing d c.args.i c.args.j (subst (BlockTold (block_in (partial_of d c.args.i) c.args.j)) c.in_default.is c.block_of.ensures)
+returns-in_default c = let a = c.args in
+    let d = picker_in a.live a.rows.now a.words.now a.cells.now in
+    full_missing d a.i a.j (subst (BlockTold (block_in (partial_of d a.i) a.j)) c.in_default.is c.block_of.ensures)
 
 pub returns : goal.returns
-returns c = let d = picker_in c.args.live c.args.rows.now c.args.words.now c.args.cells.now in
-    full_there d c.args.i c.args.j _ (subst (BlockTold (block_in (partial_of d c.args.i) c.args.j)) c.in-Block.is c.block_of.ensures)
+returns c = let a = c.args in
+    let d = picker_in a.live a.rows.now a.words.now a.cells.now in
+    full_there d a.i a.j _ (subst (BlockTold (block_in (partial_of d a.i) a.j)) c.in-Block.is c.block_of.ensures)

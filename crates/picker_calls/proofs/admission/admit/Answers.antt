@@ -7,23 +7,26 @@ use Rattle.picker_calls.proofs.admission.admit.Goals as goal
 
 -- src/admission.rt:31:40
 pub shape_of-requires-in-Good : goal.shape_of-requires-in-Good
-shape_of-requires-in-Good c = record {
-  in_bounds = good_long _ _ _ _ _ c.check_memory.result c.check_memory.ensures c.in-Good.is;
-  words_value = good_geometry _ _ _ _ _ c.check_memory.result c.check_memory.ensures
+shape_of-requires-in-Good c = let k = c.check_memory in record {
+  in_bounds = good_long _ _ _ _ _ k.result k.ensures c.in-Good.is;
+  words_value = good_geometry _ _ _ _ _ k.result k.ensures
       c.in-Good.is;
 }
 
 -- src/admission.rt:18:1
 pub returns-in-Short : goal.returns-in-Short
 unfolding refusal_of
-returns-in-Short c = refused_verdict _ _ _ _ _ c.check_memory.result c.check_memory.ensures _ (ap refusal_of c.in-Short.is)
+returns-in-Short c = let k = c.check_memory in
+    refused_verdict _ _ _ _ _ k.result k.ensures _ (ap refusal_of c.in-Short.is)
 
 -- src/admission.rt:18:1
 pub returns-in-IllFormed : goal.returns-in-IllFormed
 unfolding refusal_of
-returns-in-IllFormed c = refused_verdict _ _ _ _ _ c.check_memory.result c.check_memory.ensures _ (ap refusal_of c.in-IllFormed.is)
+returns-in-IllFormed c = let k = c.check_memory in
+    refused_verdict _ _ _ _ _ k.result k.ensures _ (ap refusal_of c.in-IllFormed.is)
 
 -- src/admission.rt:18:1
 pub returns-in-Good : goal.returns-in-Good
-returns-in-Good c = good_stood _ _ _ _ _ c.check_memory.result c.check_memory.ensures c.in-Good.is c.shape_of.result c.shape_of.ensures
+returns-in-Good c = let k = c.check_memory in
+    good_stood _ _ _ _ _ k.result k.ensures c.in-Good.is c.shape_of.result c.shape_of.ensures
     c.requires.0

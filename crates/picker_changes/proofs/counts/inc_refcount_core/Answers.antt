@@ -12,12 +12,15 @@ use borrow.Author.Rules.{rules}
 use Rattle.picker_changes.proofs.counts.inc_refcount_core.Goals as goal
 
 pub judge_inc_refcount-requires : goal.judge_inc_refcount-requires
-judge_inc_refcount-requires c = stood_beside _ _ _ _ _ _ (stood_at _ _ _ _ _ c.admit.result c.admit.ensures _ c.in-At.is)
+judge_inc_refcount-requires c = let m = c.admit in
+    stood_beside _ _ _ _ _ _ (stood_at _ _ _ _ _ m.result m.ensures _ c.in-At.is)
 
 pub inc_refcount-used-requires : goal.inc_refcount-used-requires
-inc_refcount-used-requires c = let t = stood_at _ _ _ _ _ c.admit.result c.admit.ensures _ c.in-At.is in
+inc_refcount-used-requires c = let m = c.admit in
+    let j = c.judge_inc_refcount in
+    let t = stood_at _ _ _ _ _ m.result m.ensures _ c.in-At.is in
     let l = listless (do_inc_refcount _ _) refl in
-    let p = passed _ _ _ _ _ _ t _ l c.judge_inc_refcount.result (c.judge_inc_refcount.ensures.is _ t.stands) c.in-Passed.is in
+    let p = passed _ _ _ _ _ _ t _ l j.result (j.ensures.is _ t.stands) c.in-Passed.is in
     let all = inc_passed _ _ _ _ t.stands _ _ p in
     record {
       stands_beside = stood_beside _ _ _ _ _ _ t;
@@ -26,21 +29,31 @@ inc_refcount-used-requires c = let t = stood_at _ _ _ _ _ c.admit.result c.admit
     }
 
 pub returns-in-Refused : goal.returns-in-Refused
-returns-in-Refused c = let l = listless (do_inc_refcount _ _) refl in
-    barred _ _ _ _ _ c.admit.result c.admit.ensures _ c.in-Refused.is _ l _ _ _ c.refused.ensures
+returns-in-Refused c = let m = c.admit in
+    let l = listless (do_inc_refcount _ _) refl in
+    barred _ _ _ _ _ m.result m.ensures _ c.in-Refused.is _ l _ _ _ c.refused.ensures
 
 pub returns-in-Refused-judge_inc_refcount : goal.returns-in-Refused-judge_inc_refcount
-returns-in-Refused-judge_inc_refcount c = let t = stood_at _ _ _ _ _ c.admit.result c.admit.ensures _ c.in-At.is in
-    of_argument (λ (i : ℕ). do_inc_refcount i c.args.draws.now) _ _ c.number-i.ensures _ _ _ _ _ _ _ _ _
-    (denied _ _ _ _ _ _ t _ (listless (do_inc_refcount _ _) refl) c.judge_inc_refcount.result (c.judge_inc_refcount.ensures.is _ t.stands) _
+returns-in-Refused-judge_inc_refcount c = let a = c.args in
+    let m = c.admit in
+    let j = c.judge_inc_refcount in
+    let t = stood_at _ _ _ _ _ m.result m.ensures _ c.in-At.is in
+    of_argument (λ (i : ℕ). do_inc_refcount i a.draws.now) _ _ c.number-i.ensures _ _ _ _ _ _ _ _ _
+    (denied _ _ _ _ _ _ t _ (listless (do_inc_refcount _ _) refl) j.result (j.ensures.is _ t.stands) _
     c.in-Refused-judge_inc_refcount.is _ _ _ c.refused-in-Refused-judge_inc_refcount.ensures)
 
 pub returns-in-Passed : goal.returns-in-Passed
 unfolding act edit_records
-returns-in-Passed c = let t = stood_at _ _ _ _ _ c.admit.result c.admit.ensures _ c.in-At.is in
+returns-in-Passed c = let a = c.args in
+    let m = c.admit in
+    let n = c.number-i in
+    let j = c.judge_inc_refcount in
+    let r = c.live_records-live in
+    let x = c.inc_refcount-used in
+    let t = stood_at _ _ _ _ _ m.result m.ensures _ c.in-At.is in
     let l = listless (do_inc_refcount _ _) refl in
-    let p = passed _ _ _ _ _ _ t _ l c.judge_inc_refcount.result (c.judge_inc_refcount.ensures.is _ t.stands) c.in-Passed.is in
-    let d = c.inc_refcount-used.ensures.done _ t.stands in
-    of_argument (λ (i : ℕ). do_inc_refcount i c.args.draws.now) _ _ c.number-i.ensures _ _ _ _ _ _ _ _ _
-    (acted_quietly _ _ _ _ _ _ t _ l p c.live_records-live.result c.live_records-live.ensures _ keep_insert _ _ (inc_refcount c.args.draws.now c.number-i.result) refl
-    c.inc_refcount-used.result d.draws d.changed)
+    let p = passed _ _ _ _ _ _ t _ l j.result (j.ensures.is _ t.stands) c.in-Passed.is in
+    let d = x.ensures.done _ t.stands in
+    of_argument (λ (i : ℕ). do_inc_refcount i a.draws.now) _ _ n.ensures _ _ _ _ _ _ _ _ _
+    (acted_quietly _ _ _ _ _ _ t _ l p r.result r.ensures _ keep_insert _ _ (inc_refcount a.draws.now n.result) refl
+    x.result d.draws d.changed)

@@ -9,29 +9,38 @@ use Rattle.picker_flags.proofs.flags.piece_passed_core.Goals as goal
 
 pub piece_passed-edit-requires : goal.piece_passed-edit-requires
 unfolding refusal
-piece_passed-edit-requires c = let t = stood_at _ _ _ _ _ c.admit.result c.admit.ensures _ c.in-At.is in
-    let p = passed _ _ _ _ _ _ t (do_piece_passed c.number-i.result) (listless (do_piece_passed _) refl) c.judge_piece.result
-    (c.judge_piece.ensures.is _ _ _ t.stands) c.in-Passed.is in
+piece_passed-edit-requires c = let m = c.admit in
+    let j = c.judge_piece in
+    let t = stood_at _ _ _ _ _ m.result m.ensures _ c.in-At.is in
+    let p = passed _ _ _ _ _ _ t (do_piece_passed c.number-i.result) (listless (do_piece_passed _) refl) j.result
+    (j.ensures.is _ _ _ t.stands) c.in-Passed.is in
     record {
       rows_stand = rows_stand _ _ _ _ _ _ t _ c.live_records-live.ensures;
       i_lt_pieces = flag_passed _ _ _ _ _ _ t _ p;
     }
 
 pub returns-in-Refused : goal.returns-in-Refused
-returns-in-Refused c = let l = listless (do_piece_passed _) refl in
-    barred _ _ _ _ _ c.admit.result c.admit.ensures _ c.in-Refused.is _ l _ _ _ c.refused.ensures
+returns-in-Refused c = let m = c.admit in
+    let l = listless (do_piece_passed _) refl in
+    barred _ _ _ _ _ m.result m.ensures _ c.in-Refused.is _ l _ _ _ c.refused.ensures
 
 pub returns-in-Refused-judge_piece : goal.returns-in-Refused-judge_piece
 unfolding refusal
-returns-in-Refused-judge_piece c = let t = stood_at _ _ _ _ _ c.admit.result c.admit.ensures _ c.in-At.is in
+returns-in-Refused-judge_piece c = let m = c.admit in
+    let j = c.judge_piece in
+    let t = stood_at _ _ _ _ _ m.result m.ensures _ c.in-At.is in
     of_argument do_piece_passed _ _ c.number-i.ensures _ _ _ _ _ _ _ _ _
-    (denied _ _ _ _ _ _ t _ (listless (do_piece_passed _) refl) c.judge_piece.result (c.judge_piece.ensures.is _ _ _ t.stands) _
+    (denied _ _ _ _ _ _ t _ (listless (do_piece_passed _) refl) j.result (j.ensures.is _ _ _ t.stands) _
     c.in-Refused-judge_piece.is _ _ _ c.refused-in-Refused-judge_piece.ensures)
 
 pub returns-in-Passed : goal.returns-in-Passed
 unfolding refusal
-returns-in-Passed c = let t = stood_at _ _ _ _ _ c.admit.result c.admit.ensures _ c.in-At.is in
-    let p = passed _ _ _ _ _ _ t (do_piece_passed c.number-i.result) (listless (do_piece_passed _) refl) c.judge_piece.result (c.judge_piece.ensures.is _ _ _ t.stands)
+returns-in-Passed c = let m = c.admit in
+    let n = c.number-i in
+    let j = c.judge_piece in
+    let r = c.live_records-live in
+    let t = stood_at _ _ _ _ _ m.result m.ensures _ c.in-At.is in
+    let p = passed _ _ _ _ _ _ t (do_piece_passed n.result) (listless (do_piece_passed _) refl) j.result (j.ensures.is _ _ _ t.stands)
     c.in-Passed.is in
-    of_argument do_piece_passed _ _ c.number-i.ensures _ _ _ _ _ _ _ _ _
-    (passed_done _ _ _ _ _ _ t c.live_records-live.result c.live_records-live.ensures _ _ _ c.piece_passed-edit.ensures.room c.number-i.result p c.piece_passed-edit.ensures.change)
+    of_argument do_piece_passed _ _ n.ensures _ _ _ _ _ _ _ _ _
+    (passed_done _ _ _ _ _ _ t r.result r.ensures _ _ _ c.piece_passed-edit.ensures.room n.result p c.piece_passed-edit.ensures.change)

@@ -9,8 +9,10 @@ use borrow.Author.Rules.{rules}
 use Rattle.picker_flags.proofs.priorities.set_piece_priority_core.Goals as goal
 
 pub set_piece_priority-r-requires : goal.set_piece_priority-r-requires
-set_piece_priority-r-requires c = let t = stood_at _ _ _ _ _ c.admit.result c.admit.ensures _ c.in-At.is in
-    let p = passed _ _ _ _ _ _ t _ (listless (do_set_piece_priority _ _ _) refl) c.judge_set_piece_priority.result (c.judge_set_piece_priority.ensures.is _ _ _ t.stands)
+set_piece_priority-r-requires c = let m = c.admit in
+    let j = c.judge_set_piece_priority in
+    let t = stood_at _ _ _ _ _ m.result m.ensures _ c.in-At.is in
+    let p = passed _ _ _ _ _ _ t _ (listless (do_set_piece_priority _ _ _) refl) j.result (j.ensures.is _ _ _ t.stands)
     c.in-Passed.is in
     let all = priority_passed _ _ _ _ _ _ t _ _ _ p in
     record {
@@ -20,19 +22,29 @@ set_piece_priority-r-requires c = let t = stood_at _ _ _ _ _ c.admit.result c.ad
     }
 
 pub returns-in-Refused : goal.returns-in-Refused
-returns-in-Refused c = let l = listless (do_set_piece_priority _ _ _) refl in
-    barred _ _ _ _ _ c.admit.result c.admit.ensures _ c.in-Refused.is _ l _ _ _ c.refused.ensures
+returns-in-Refused c = let m = c.admit in
+    let l = listless (do_set_piece_priority _ _ _) refl in
+    barred _ _ _ _ _ m.result m.ensures _ c.in-Refused.is _ l _ _ _ c.refused.ensures
 
 pub returns-in-Refused-judge_set_piece_priority : goal.returns-in-Refused-judge_set_piece_priority
-returns-in-Refused-judge_set_piece_priority c = let t = stood_at _ _ _ _ _ c.admit.result c.admit.ensures _ c.in-At.is in
-    of_argument (λ (i : ℕ). do_set_piece_priority i c.args.new.priority.0 c.args.draws.now) _ _ c.number-i.ensures
+returns-in-Refused-judge_set_piece_priority c = let a = c.args in
+    let m = c.admit in
+    let j = c.judge_set_piece_priority in
+    let t = stood_at _ _ _ _ _ m.result m.ensures _ c.in-At.is in
+    of_argument (λ (i : ℕ). do_set_piece_priority i a.new.priority.0 a.draws.now) _ _ c.number-i.ensures
     _ _ _ _ _ _ _ _ _
-    (denied _ _ _ _ _ _ t _ (listless (do_set_piece_priority _ _ _) refl) c.judge_set_piece_priority.result (c.judge_set_piece_priority.ensures.is _ _ _ t.stands) _
+    (denied _ _ _ _ _ _ t _ (listless (do_set_piece_priority _ _ _) refl) j.result (j.ensures.is _ _ _ t.stands) _
     c.in-Refused-judge_set_piece_priority.is _ _ _ c.refused-in-Refused-judge_set_piece_priority.ensures)
 
 pub returns-in-Passed : goal.returns-in-Passed
-returns-in-Passed c = let t = stood_at _ _ _ _ _ c.admit.result c.admit.ensures _ c.in-At.is in
-    let p = passed _ _ _ _ _ _ t _ (listless (do_set_piece_priority _ _ _) refl) c.judge_set_piece_priority.result (c.judge_set_piece_priority.ensures.is _ _ _ t.stands)
+returns-in-Passed c = let a = c.args in
+    let m = c.admit in
+    let n = c.number-i in
+    let j = c.judge_set_piece_priority in
+    let r = c.live_records-live in
+    let x = c.set_piece_priority-r in
+    let t = stood_at _ _ _ _ _ m.result m.ensures _ c.in-At.is in
+    let p = passed _ _ _ _ _ _ t _ (listless (do_set_piece_priority _ _ _) refl) j.result (j.ensures.is _ _ _ t.stands)
     c.in-Passed.is in
-    of_argument (λ (i : ℕ). do_set_piece_priority i c.args.new.priority.0 c.args.draws.now) _ _ c.number-i.ensures _ _ _ _ _ _ _ _ _
-    (priority_done _ _ _ _ _ _ t c.live_records-live.result c.live_records-live.ensures _ _ _ _ _ p c.set_piece_priority-r.result c.set_piece_priority-r.ensures)
+    of_argument (λ (i : ℕ). do_set_piece_priority i a.new.priority.0 a.draws.now) _ _ n.ensures _ _ _ _ _ _ _ _ _
+    (priority_done _ _ _ _ _ _ t r.result r.ensures _ _ _ _ _ p x.result x.ensures)

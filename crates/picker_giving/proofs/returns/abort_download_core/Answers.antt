@@ -17,36 +17,50 @@ use borrow.Author.Rules.{rules}
 use Rattle.picker_giving.proofs.returns.abort_download_core.Goals as goal
 
 pub judge_block-requires : goal.judge_block-requires
-judge_block-requires c = stood_shape _ _ _ _ _ c.admit.result c.admit.ensures _ c.in-At.is
+judge_block-requires c = let m = c.admit in
+    stood_shape _ _ _ _ _ m.result m.ensures _ c.in-At.is
 
 pub abort_download-g-requires : goal.abort_download-g-requires
-abort_download-g-requires c = let t = stood_rows _ _ _ _ _ c.admit.result c.admit.ensures _ c.in-At.is _ c.live_records-live.ensures in
+abort_download-g-requires c = let m = c.admit in
+    let b = c.judge_block in
+    let t = stood_rows _ _ _ _ _ m.result m.ensures _ c.in-At.is _ c.live_records-live.ensures in
     record {
-        rows_stand = t;
-        i_lt_pieces = front_place _ _ _ _ t.stands _ _ _ c.judge_block.result c.judge_block.ensures c.in-Passed.is;
+      rows_stand = t;
+      i_lt_pieces = front_place _ _ _ _ t.stands _ _ _ b.result b.ensures c.in-Passed.is;
     }
 
 pub returns-in-Refused : goal.returns-in-Refused
-returns-in-Refused c = barred _ _ _ _ _ c.admit.result c.admit.ensures _ c.in-Refused.is _ (listless (do_abort_download _ _ _ _) refl) _ _ _ c.refused.ensures
+returns-in-Refused c = let m = c.admit in
+    barred _ _ _ _ _ m.result m.ensures _ c.in-Refused.is _ (listless (do_abort_download _ _ _ _) refl) _ _ _ c.refused.ensures
 
 pub returns-in-Refused-judge_block : goal.returns-in-Refused-judge_block
 unfolding refusal
-returns-in-Refused-judge_block c = let t = stood_rows _ _ _ _ _ c.admit.result c.admit.ensures _ c.in-At.is _ refl in
-    let peer = named_peer c.args.named.has_peer c.args.named.peer in
-    block_denied _ _ _ _ _ c.admit.result c.admit.ensures _ c.in-At.is _ refl (λ i j. do_abort_download i j peer c.args.draws.now)
-    (λ i j. listless (do_abort_download i j peer c.args.draws.now) refl) _ _ _ _ c.number-i.ensures c.block_number-j.ensures c.judge_block.result
-    (front_alone _ _ _ _ t.stands _ _ _ c.judge_block.result c.judge_block.ensures) _ c.in-Refused-judge_block.is _ _ _ c.refused-in-Refused-judge_block.ensures
+returns-in-Refused-judge_block c = let a = c.args in
+    let m = c.admit in
+    let b = c.judge_block in
+    let t = stood_rows _ _ _ _ _ m.result m.ensures _ c.in-At.is _ refl in
+    let peer = named_peer a.named.has_peer a.named.peer in
+    block_denied _ _ _ _ _ m.result m.ensures _ c.in-At.is _ refl (λ i j. do_abort_download i j peer a.draws.now)
+    (λ i j. listless (do_abort_download i j peer a.draws.now) refl) _ _ _ _ c.number-i.ensures c.block_number-j.ensures b.result
+    (front_alone _ _ _ _ t.stands _ _ _ b.result b.ensures) _ c.in-Refused-judge_block.is _ _ _ c.refused-in-Refused-judge_block.ensures
 
 pub returns-in-Passed : goal.returns-in-Passed
 unfolding refusal act
-returns-in-Passed c = let t = stood_rows _ _ _ _ _ c.admit.result c.admit.ensures _ c.in-At.is _ c.live_records-live.ensures in
-    let d = picker_in c.live_records-live.result c.args.rows.now c.args.words.now c.args.cells.now in
-    let peer = named_peer c.args.named.has_peer c.args.named.peer in
-    block_done _ _ _ _ _ c.admit.result c.admit.ensures _ c.in-At.is c.live_records-live.result c.live_records-live.ensures
-    (λ c.number-i j. do_abort_download c.number-i c.block_number-j peer c.args.draws.now)
-    (λ c.number-i j. listless (do_abort_download c.number-i c.block_number-j peer c.args.draws.now) refl) _ _ _ _ c.number-i.ensures c.block_number-j.ensures c.judge_block.result
-    (front_alone _ _ _ _ t.stands _ _ _ c.judge_block.result c.judge_block.ensures) c.in-Passed.is c.abort_download-g.result.edit c.abort_download-g.ensures.room _ _
-    (abort_download c.args.draws.now c.number-i.result c.block_number-j.result peer)
-    (ap (λ (p : Option ℕ). doing (abort_download c.args.draws.now c.number-i.result c.block_number-j.result p (drawing 0 d)))
-    (lent_named c.args.named.has_peer c.args.named.peer (peer_wide c.args.named _ c.well-formed.1.1.1.1.1.0)))
-    c.abort_download-g.result.used c.abort_download-g.ensures.change
+returns-in-Passed c = let a = c.args in
+    let m = c.admit in
+    let i = c.number-i in
+    let j = c.block_number-j in
+    let b = c.judge_block in
+    let n = c.live_records-live in
+    let x = c.abort_download-g in
+    let t = stood_rows _ _ _ _ _ m.result m.ensures _ c.in-At.is _ n.ensures in
+    let d = picker_in n.result a.rows.now a.words.now a.cells.now in
+    let peer = named_peer a.named.has_peer a.named.peer in
+    block_done _ _ _ _ _ m.result m.ensures _ c.in-At.is n.result n.ensures
+    (λ i j. do_abort_download i j peer a.draws.now)
+    (λ i j. listless (do_abort_download i j peer a.draws.now) refl) _ _ _ _ i.ensures j.ensures b.result
+    (front_alone _ _ _ _ t.stands _ _ _ b.result b.ensures) c.in-Passed.is x.result.edit x.ensures.room _ _
+    (abort_download a.draws.now i.result j.result peer)
+    (ap (λ (p : Option ℕ). doing (abort_download a.draws.now i.result j.result p (drawing 0 d)))
+    (lent_named a.named.has_peer a.named.peer (peer_wide a.named _ c.well_formed.1.1.1.1.1.0)))
+    x.result.used x.ensures.change

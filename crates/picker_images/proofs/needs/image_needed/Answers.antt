@@ -9,8 +9,9 @@ use borrow.Author.Rules.{rules}
 use Rattle.picker_images.proofs.needs.image_needed.Goals as goal
 
 pub returns : goal.returns
-returns c = let fits_t : SFits w64 c.args.total_size = search rules in
-    let fits_z : SFits w32 c.args.piece_size = search rules in
+returns c = let a = c.args in
+    let fits_t : SFits w64 a.total_size = search rules in
+    let fits_z : SFits w32 a.piece_size = search rules in
     c.image_needed.ensures
-    ∙ ap₂ bytes_for (c.i64_to_u64.ensures ∙ ap number_of (to_z-of_z w64 c.args.total_size fits_t))
-    (c.usize_to_u64.ensures ∙ c.i32_to_usize.ensures ∙ ap number_of (to_z-of_z w32 c.args.piece_size fits_z))
+    ∙ ap₂ bytes_for (c.i64_to_u64.ensures ∙ ap number_of (to_z-of_z w64 a.total_size fits_t))
+    (c.usize_to_u64.ensures ∙ c.i32_to_usize.ensures ∙ ap number_of (to_z-of_z w32 a.piece_size fits_z))

@@ -10,10 +10,12 @@ use borrow.Author.Rules.{rules}
 use Rattle.picker_images.proofs.needs.memory_needed.Goals as goal
 
 pub returns : goal.returns
-returns c = let fits_t : SFits w64 c.args.total_size = search rules in
-    let fits_z : SFits w32 c.args.piece_size = search rules in
-    subst (λ (t : ℕ). Lengths (memory_of t (number_of c.args.piece_size)) c.memory_needed.result.words c.memory_needed.result.cells c.memory_needed.result.partials)
-    (c.i64_to_u64.ensures ∙ ap number_of (to_z-of_z w64 c.args.total_size fits_t))
-    (subst (λ (z : ℕ). Lengths (memory_of c.i64_to_u64.result z) c.memory_needed.result.words c.memory_needed.result.cells c.memory_needed.result.partials)
-    (c.usize_to_u64.ensures ∙ c.i32_to_usize.ensures ∙ ap number_of (to_z-of_z w32 c.args.piece_size fits_z))
+returns c = let a = c.args in
+    let m = c.memory_needed.result in
+    let fits_t : SFits w64 a.total_size = search rules in
+    let fits_z : SFits w32 a.piece_size = search rules in
+    subst (λ (t : ℕ). Lengths (memory_of t (number_of a.piece_size)) m.words m.cells m.partials)
+    (c.i64_to_u64.ensures ∙ ap number_of (to_z-of_z w64 a.total_size fits_t))
+    (subst (λ (z : ℕ). Lengths (memory_of c.i64_to_u64.result z) m.words m.cells m.partials)
+    (c.usize_to_u64.ensures ∙ c.i32_to_usize.ensures ∙ ap number_of (to_z-of_z w32 a.piece_size fits_z))
     c.memory_needed.ensures)

@@ -8,9 +8,12 @@ use Rattle.picker_lists.proofs.admitted.admit_list.Goals as goal
 
 pub returns-in-Refused : goal.returns-in-Refused
 unfolding of_memory
-returns-in-Refused c = list_refused _ _ (λ d. none) (λ d. refl) _ _ _ _ _ _ c.admit_room.result c.admit_room.ensures _ c.in-Refused.is
+returns-in-Refused c = let k = c.admit_room in
+    list_refused _ _ (λ d. none) (λ d. refl) _ _ _ _ _ _ k.result k.ensures _ c.in-Refused.is
 
 pub returns-in-At : goal.returns-in-At
 unfolding of_memory
-returns-in-At c = list_admitted _ _ (λ d. none) (λ d. refl) _ _ _ _ _ _ c.admit_room.result c.admit_room.ensures _ c.in-At.is refl
-    (roomy _ _ _ _ _ _ _ c.admit_room.result c.admit_room.ensures _ c.in-At.is).enough _ c.live_records.ensures
+returns-in-At c = let k = c.admit_room in
+    let at = c.in-At.is in
+    list_admitted _ _ (λ d. none) (λ d. refl) _ _ _ _ _ _ k.result k.ensures _ at refl
+    (roomy _ _ _ _ _ _ _ k.result k.ensures _ at).enough _ c.live_records.ensures

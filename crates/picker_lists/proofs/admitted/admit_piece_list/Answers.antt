@@ -7,18 +7,26 @@ use borrow.Author.Rules.{rules}
 use Rattle.picker_lists.proofs.admitted.admit_piece_list.Goals as goal
 
 pub returns-then-s-i : goal.returns-then-s-i
-returns-then-s-i c = let t = (roomy _ _ _ _ _ _ _ c.admit_room.result c.admit_room.ensures _ c.in-At.is).stood.stands in
-    list_past _ _ (λ d. refuse_bad_piece d c.args.i none) (piece_rule c.args.i) _ _ _ _ _ _
-    c.admit_room.result c.admit_room.ensures _ c.in-At.is _
-    (piece_past _ _ _ _ t c.args.i none c.if-s-i.true)
+returns-then-s-i c = let k = c.admit_room in
+    let at = c.in-At.is in
+    let a = c.args in
+    let t = (roomy _ _ _ _ _ _ _ k.result k.ensures _ at).stood.stands in
+    list_past _ _ (λ d. refuse_bad_piece d a.i none) (piece_rule a.i) _ _ _ _ _ _
+    k.result k.ensures _ at _
+    (piece_past _ _ _ _ t a.i none c.if-s-i.true)
 
 pub returns-in-Refused : goal.returns-in-Refused
-returns-in-Refused c = list_refused _ _ (λ d. refuse_bad_piece d c.args.i none) (piece_rule c.args.i) _ _ _ _ _ _
-    c.admit_room.result c.admit_room.ensures _ c.in-Refused.is
+returns-in-Refused c = let k = c.admit_room in
+    let a = c.args in
+    list_refused _ _ (λ d. refuse_bad_piece d a.i none) (piece_rule a.i) _ _ _ _ _ _
+    k.result k.ensures _ c.in-Refused.is
 
 pub returns-else-s-i : goal.returns-else-s-i
-returns-else-s-i c = let g = roomy _ _ _ _ _ _ _ c.admit_room.result c.admit_room.ensures _ c.in-At.is in
-    list_admitted _ _ (λ d. refuse_bad_piece d c.args.i none) (piece_rule c.args.i) _ _ _ _ _ _
-    c.admit_room.result c.admit_room.ensures _ c.in-At.is
-    (piece_there _ _ _ _ g.stood.stands c.args.i none c.if-s-i.false) (c.if-s-i.false, g.enough) _
+returns-else-s-i c = let k = c.admit_room in
+    let at = c.in-At.is in
+    let a = c.args in
+    let g = roomy _ _ _ _ _ _ _ k.result k.ensures _ at in
+    list_admitted _ _ (λ d. refuse_bad_piece d a.i none) (piece_rule a.i) _ _ _ _ _ _
+    k.result k.ensures _ at
+    (piece_there _ _ _ _ g.stood.stands a.i none c.if-s-i.false) (c.if-s-i.false, g.enough) _
     c.live_records.ensures

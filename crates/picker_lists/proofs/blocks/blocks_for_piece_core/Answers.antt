@@ -11,7 +11,9 @@ use borrow.Author.Rules.{rules}
 use Rattle.picker_lists.proofs.blocks.blocks_for_piece_core.Goals as goal
 
 pub blocks_for_piece-requires : goal.blocks_for_piece-requires
-blocks_for_piece-requires c = let g = granted _ _ _ _ _ _ _ c.admit_piece_list.result c.admit_piece_list.ensures _ _ c.in-To.is in
+blocks_for_piece-requires c = let v = c.admit_piece_list in
+    let at = c.in-To.is in
+    let g = granted _ _ _ _ _ _ _ v.result v.ensures _ _ at in
     record {
       asked = asked _ _ _ _ _ _ _ g.stood;
       i_lt_pieces = g.fits.0;
@@ -20,12 +22,19 @@ blocks_for_piece-requires c = let g = granted _ _ _ _ _ _ _ c.admit_piece_list.r
 
 pub returns-in-Refused : goal.returns-in-Refused
 unfolding question_refusal room_rule
-returns-in-Refused c = let room = length c.args.out.now / 4 in
-    list_refused _ _ _ _ _ _ _ c.admit_piece_list.result c.admit_piece_list.ensures (list_of_piece blocks_for_piece c.number-i.result room) _
-    (λ n. list_of_piece blocks_for_piece (c.number-i.ensures n) room) (λ d. refl) _ _ _ _ c.in-Refused.is
+returns-in-Refused c = let v = c.admit_piece_list in
+    let i = c.number-i in
+    let room = length c.args.out.now / 4 in
+    list_refused _ _ _ _ _ _ _ v.result v.ensures (list_of_piece blocks_for_piece i.result room) _
+    (λ n. list_of_piece blocks_for_piece (i.ensures n) room) (λ d. refl) _ _ _ _ c.in-Refused.is
 
 pub returns-in-To : goal.returns-in-To
 unfolding reply question_refusal room_rule
-returns-in-To c = let room = length c.args.out.now / 4 in
-    rw c.of_records.ensures (blocks_replied _ _ _ _ _ _ _ c.admit_piece_list.result c.admit_piece_list.ensures (list_of_piece blocks_for_piece c.number-i.result room) _
-    (λ n. list_of_piece blocks_for_piece (c.number-i.ensures n) room) (λ d. refl) _ _ _ c.in-To.is _ _ c.blocks_for_piece.ensures.result_after c.blocks_for_piece.ensures.written)
+returns-in-To c = let v = c.admit_piece_list in
+    let at = c.in-To.is in
+    let i = c.number-i in
+    let a = c.args in
+    let room = length a.out.now / 4 in
+    let x = c.blocks_for_piece in
+    rw c.of_records.ensures (blocks_replied _ _ _ _ _ _ _ v.result v.ensures (list_of_piece blocks_for_piece i.result room) _
+    (λ n. list_of_piece blocks_for_piece (i.ensures n) room) (λ d. refl) _ _ _ at _ _ x.ensures.result_after x.ensures.written)

@@ -11,7 +11,9 @@ use borrow.Author.Rules.{rules}
 use Rattle.picker_lists.proofs.columns.get_availability_vec_core.Goals as goal
 
 pub get_availability_vec-requires : goal.get_availability_vec-requires
-get_availability_vec-requires c = let g = granted _ _ _ _ _ _ _ c.admit_list.result c.admit_list.ensures _ _ c.in-To.is in
+get_availability_vec-requires c = let v = c.admit_list in
+    let at = c.in-To.is in
+    let g = granted _ _ _ _ _ _ _ v.result v.ensures _ _ at in
     record {
       stands_beside = beside _ _ _ _ _ _ _ g.stood;
       pieces_in_bounds = g.fits;
@@ -19,10 +21,14 @@ get_availability_vec-requires c = let g = granted _ _ _ _ _ _ _ c.admit_list.res
 
 pub returns-in-Refused : goal.returns-in-Refused
 unfolding question_refusal records_needed room_rule
-returns-in-Refused c = list_refused _ _ _ _ _ _ _ c.admit_list.result c.admit_list.ensures _ _ refl (λ d. refl) _ _ _ _ c.in-Refused.is
+returns-in-Refused c = let v = c.admit_list in
+    list_refused _ _ _ _ _ _ _ v.result v.ensures _ _ refl (λ d. refl) _ _ _ _ c.in-Refused.is
 
 pub returns-in-To : goal.returns-in-To
 unfolding reply question_refusal records_needed room_rule tell_numbers
-returns-in-To c = let t = (granted _ _ _ _ _ _ _ c.admit_list.result c.admit_list.ensures _ _ c.in-To.is).stood in
-    list_replied _ _ _ _ _ _ _ c.admit_list.result c.admit_list.ensures _ _ refl (λ d. refl) _ _ _ _ _ c.in-To.is _ _
-    (c.get_availability_vec.ensures.is _ t.stands.bounds) (column_written _ _ _ _ _ _ c.get_availability_vec.ensures)
+returns-in-To c = let v = c.admit_list in
+    let at = c.in-To.is in
+    let t = (granted _ _ _ _ _ _ _ v.result v.ensures _ _ at).stood in
+    let x = c.get_availability_vec in
+    list_replied _ _ _ _ _ _ _ v.result v.ensures _ _ refl (λ d. refl) _ _ _ _ _ at _ _
+    (x.ensures.is _ t.stands.bounds) (column_written _ _ _ _ _ _ x.ensures)

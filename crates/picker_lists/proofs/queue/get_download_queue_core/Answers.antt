@@ -10,7 +10,9 @@ use borrow.Author.Rules.{rules}
 use Rattle.picker_lists.proofs.queue.get_download_queue_core.Goals as goal
 
 pub get_download_queue-requires : goal.get_download_queue-requires
-get_download_queue-requires c = let g = granted _ _ _ _ _ _ _ c.admit_list.result c.admit_list.ensures _ _ c.in-To.is in
+get_download_queue-requires c = let v = c.admit_list in
+    let at = c.in-To.is in
+    let g = granted _ _ _ _ _ _ _ v.result v.ensures _ _ at in
     let t = g.stood in
     record {
       asked_counts = record { asked = asked _ _ _ _ _ _ _ t; held = t.counted; wide = t.long_counts };
@@ -19,8 +21,12 @@ get_download_queue-requires c = let g = granted _ _ _ _ _ _ _ c.admit_list.resul
 
 pub returns-in-Refused : goal.returns-in-Refused
 unfolding question_refusal records_needed room_rule
-returns-in-Refused c = list_refused _ _ _ _ _ _ _ c.admit_list.result c.admit_list.ensures _ _ refl (λ d. refl) _ _ _ _ c.in-Refused.is
+returns-in-Refused c = let v = c.admit_list in
+    list_refused _ _ _ _ _ _ _ v.result v.ensures _ _ refl (λ d. refl) _ _ _ _ c.in-Refused.is
 
 pub returns-in-To : goal.returns-in-To
 unfolding reply question_refusal records_needed room_rule tell_infos
-returns-in-To c = list_replied _ _ _ _ _ _ _ c.admit_list.result c.admit_list.ensures _ _ refl (λ d. refl) _ _ _ _ _ c.in-To.is _ _ c.get_download_queue.ensures.out_after c.get_download_queue.ensures.written
+returns-in-To c = let v = c.admit_list in
+    let at = c.in-To.is in
+    let x = c.get_download_queue in
+    list_replied _ _ _ _ _ _ _ v.result v.ensures _ _ refl (λ d. refl) _ _ _ _ _ at _ _ x.ensures.out_after x.ensures.written

@@ -12,18 +12,23 @@ pub returns-then-short_room-2 : goal.returns-then-short_room-2
 returns-then-short_room-2 c = room_short _ _ _ _ _ _ _ (sym c.short_room-in-Good.ensures ∙ c.if-short_room-2.true)
 
 pub shape_of-requires-in-Good : goal.shape_of-requires-in-Good
-shape_of-requires-in-Good c = record {
-  in_bounds = good_long _ _ _ _ _ c.check_memory.result c.check_memory.ensures c.in-Good.is;
-  words_value = good_geometry _ _ _ _ _ c.check_memory.result c.check_memory.ensures c.in-Good.is;
-}
+shape_of-requires-in-Good c = let k = c.check_memory in
+    let e = c.in-Good.is in
+    record {
+      in_bounds = good_long _ _ _ _ _ k.result k.ensures e;
+      words_value = good_geometry _ _ _ _ _ k.result k.ensures e;
+    }
 
 pub returns-in-Short : goal.returns-in-Short
-returns-in-Short c = verdict_short _ _ _ _ _ _ _ c.check_memory.result c.check_memory.ensures c.in-Short.is
+returns-in-Short c = let k = c.check_memory in
+    verdict_short _ _ _ _ _ _ _ k.result k.ensures c.in-Short.is
 
 pub returns-else-short_room : goal.returns-else-short_room
-returns-else-short_room c = verdict_ill _ _ _ _ _ _ _ c.check_memory.result c.check_memory.ensures c.in-IllFormed.is
+returns-else-short_room c = let k = c.check_memory in
+    verdict_ill _ _ _ _ _ _ _ k.result k.ensures c.in-IllFormed.is
     (sym c.short_room.ensures ∙ c.if-short_room.false)
 
 pub returns-else-short_room-2 : goal.returns-else-short_room-2
-returns-else-short_room-2 c = verdict_good _ _ _ _ _ _ _ c.check_memory.result c.check_memory.ensures c.in-Good.is
+returns-else-short_room-2 c = let k = c.check_memory in
+    verdict_good _ _ _ _ _ _ _ k.result k.ensures c.in-Good.is
     (sym c.short_room-in-Good.ensures ∙ c.if-short_room-2.false) c.shape_of.result c.shape_of.ensures c.requires.0

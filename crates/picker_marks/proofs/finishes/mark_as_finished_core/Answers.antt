@@ -18,38 +18,53 @@ use borrow.Author.Rules.{rules}
 use Rattle.picker_marks.proofs.finishes.mark_as_finished_core.Goals as goal
 
 pub judge_finished-requires : goal.judge_finished-requires
-judge_finished-requires c = let t = stood_rows _ _ _ _ _ c.admit.result c.admit.ensures _ c.in-At.is _ c.live_records-live.ensures in
+judge_finished-requires c = let m = c.admit in
+    let t = stood_rows _ _ _ _ _ m.result m.ensures _ c.in-At.is _ c.live_records-live.ensures in
     record { stands = t.stands; many = t.many; wide = t.long_rows }
 
 pub mark_as_finished-m-requires : goal.mark_as_finished-m-requires
-mark_as_finished-m-requires c = let t = stood_rows _ _ _ _ _ c.admit.result c.admit.ensures _ c.in-At.is _ c.live_records-live.ensures in
+mark_as_finished-m-requires c = let m = c.admit in
+    let b = c.judge_finished in
+    let t = stood_rows _ _ _ _ _ m.result m.ensures _ c.in-At.is _ c.live_records-live.ensures in
     let p = finished_accepted _ _ _ _ _ t.stands.bounds _ _ _ none
-    (sym (c.judge_finished.ensures.is none 0) ∙ ap judged c.in-Passed.is) in
+    (sym (b.ensures.is none 0) ∙ ap judged c.in-Passed.is) in
     record {
-        rows_stand = t;
-        i_lt_pieces = p.0.place;
-        i_value = p.1;
-        min_draws_in_bounds = p.0.draw;
+      rows_stand = t;
+      i_lt_pieces = p.0.place;
+      i_value = p.1;
+      min_draws_in_bounds = p.0.draw;
     }
 
 pub returns-in-Refused : goal.returns-in-Refused
-returns-in-Refused c = barred _ _ _ _ _ c.admit.result c.admit.ensures _ c.in-Refused.is _ (listless (do_mark_as_finished _ _ _ _) refl) _ _ _ c.refused.ensures
+returns-in-Refused c = let m = c.admit in
+    barred _ _ _ _ _ m.result m.ensures _ c.in-Refused.is _ (listless (do_mark_as_finished _ _ _ _) refl) _ _ _ c.refused.ensures
 
 pub returns-in-Refused-judge_finished : goal.returns-in-Refused-judge_finished
-returns-in-Refused-judge_finished c = let peer = named_peer c.args.named.has_peer c.args.named.peer in
-    block_denied _ _ _ _ _ c.admit.result c.admit.ensures _ c.in-At.is c.live_records-live.result c.live_records-live.ensures
-    (λ i j. do_mark_as_finished i j peer c.args.draws.now) (λ i j. listless (do_mark_as_finished i j peer c.args.draws.now) refl) _ _ _ _
-    c.number-i.ensures c.block_number-j.ensures c.judge_finished.result (c.judge_finished.ensures.is peer 0) _ c.in-Refused-judge_finished.is _ _ _
+returns-in-Refused-judge_finished c = let a = c.args in
+    let m = c.admit in
+    let n = c.live_records-live in
+    let b = c.judge_finished in
+    let peer = named_peer a.named.has_peer a.named.peer in
+    block_denied _ _ _ _ _ m.result m.ensures _ c.in-At.is n.result n.ensures
+    (λ i j. do_mark_as_finished i j peer a.draws.now) (λ i j. listless (do_mark_as_finished i j peer a.draws.now) refl) _ _ _ _
+    c.number-i.ensures c.block_number-j.ensures b.result (b.ensures.is peer 0) _ c.in-Refused-judge_finished.is _ _ _
     c.refused-in-Refused-judge_finished.ensures
 
 pub returns-in-Passed : goal.returns-in-Passed
 unfolding act
-returns-in-Passed c = let d = picker_in c.live_records-live.result c.args.rows.now c.args.words.now c.args.cells.now in
-    let peer = named_peer c.args.named.has_peer c.args.named.peer in
-    block_done _ _ _ _ _ c.admit.result c.admit.ensures _ c.in-At.is c.live_records-live.result c.live_records-live.ensures
-    (λ c.number-i j. do_mark_as_finished c.number-i c.block_number-j peer c.args.draws.now) (λ c.number-i j. listless (do_mark_as_finished c.number-i c.block_number-j peer c.args.draws.now) refl) _ _ _ _
-    c.number-i.ensures c.block_number-j.ensures c.judge_finished.result (c.judge_finished.ensures.is peer 0) c.in-Passed.is c.mark_as_finished-m.result.edit c.mark_as_finished-m.ensures.room _ _
-    (mark_as_finished c.args.draws.now c.number-i.result c.block_number-j.result peer)
-    (ap (λ (p : Option ℕ). doing (mark_as_finished c.args.draws.now c.number-i.result c.block_number-j.result p (drawing 0 d)))
-    (lent_named c.args.named.has_peer c.args.named.peer (peer_wide c.args.named _ c.well-formed.1.1.1.1.1.0))) c.mark_as_finished-m.result.used
-    c.mark_as_finished-m.ensures.change
+returns-in-Passed c = let a = c.args in
+    let m = c.admit in
+    let i = c.number-i in
+    let j = c.block_number-j in
+    let n = c.live_records-live in
+    let b = c.judge_finished in
+    let x = c.mark_as_finished-m in
+    let d = picker_in n.result a.rows.now a.words.now a.cells.now in
+    let peer = named_peer a.named.has_peer a.named.peer in
+    block_done _ _ _ _ _ m.result m.ensures _ c.in-At.is n.result n.ensures
+    (λ i j. do_mark_as_finished i j peer a.draws.now) (λ i j. listless (do_mark_as_finished i j peer a.draws.now) refl) _ _ _ _
+    i.ensures j.ensures b.result (b.ensures.is peer 0) c.in-Passed.is x.result.edit x.ensures.room _ _
+    (mark_as_finished a.draws.now i.result j.result peer)
+    (ap (λ (p : Option ℕ). doing (mark_as_finished a.draws.now i.result j.result p (drawing 0 d)))
+    (lent_named a.named.has_peer a.named.peer (peer_wide a.named _ c.well_formed.1.1.1.1.1.0))) x.result.used
+    x.ensures.change

@@ -8,7 +8,9 @@ use Rattle.picker_answers.proofs.AdmittedLaws.{granted, question_refused, questi
 use Rattle.picker_partial_questions.proofs.info.piece_info_core.Goals as goal
 
 pub piece_info-requires : goal.piece_info-requires
-piece_info-requires c = let g = granted _ _ _ _ _ _ _ c.admit_piece.result c.admit_piece.ensures _ _ c.in-To.is in
+piece_info-requires c = let v = c.admit_piece in
+    let at = c.in-To.is in
+    let g = granted _ _ _ _ _ _ _ v.result v.ensures _ _ at in
     let t = g.stood in
     record {
       asked_counts = record { asked = asked _ _ _ _ _ _ _ t; held = t.counted; wide = t.long_counts };
@@ -17,11 +19,18 @@ piece_info-requires c = let g = granted _ _ _ _ _ _ _ c.admit_piece.result c.adm
 
 pub returns-in-Refused : goal.returns-in-Refused
 unfolding question_refusal
-returns-in-Refused c = question_refused _ _ _ _ _ _ _ c.admit_piece.result c.admit_piece.ensures (of_piece piece_info c.number-i.result) _
-    (λ n. of_piece piece_info (c.number-i.ensures n)) (λ d. refl) _ c.in-Refused.is
+returns-in-Refused c = let v = c.admit_piece in
+    let i = c.number-i in
+    let i_is = i.ensures in
+    question_refused _ _ _ _ _ _ _ v.result v.ensures (of_piece piece_info i.result) _
+    (λ n. of_piece piece_info (i_is n)) (λ d. refl) _ c.in-Refused.is
 
 pub returns-in-To : goal.returns-in-To
 unfolding reply question_refusal
-returns-in-To c = question_replied _ _ _ _ _ _ _ c.admit_piece.result c.admit_piece.ensures (of_piece piece_info c.number-i.result) _
-    (λ n. of_piece piece_info (c.number-i.ensures n)) (λ d. refl) _ _ c.in-To.is _
+returns-in-To c = let v = c.admit_piece in
+    let at = c.in-To.is in
+    let i = c.number-i in
+    let i_is = i.ensures in
+    question_replied _ _ _ _ _ _ _ v.result v.ensures (of_piece piece_info i.result) _
+    (λ n. of_piece piece_info (i_is n)) (λ d. refl) _ _ at _
     c.piece_info.ensures

@@ -8,7 +8,9 @@ use Rattle.picker_answers.proofs.AdmittedLaws.{granted, question_refused, questi
 use Rattle.picker_piece_questions.proofs.lengths.payload_blocks_in_piece_core.Goals as goal
 
 pub payload_blocks_in_piece-requires : goal.payload_blocks_in_piece-requires
-payload_blocks_in_piece-requires c = let g = granted _ _ _ _ _ _ _ c.admit_piece.result c.admit_piece.ensures _ _ c.in-To.is in
+payload_blocks_in_piece-requires c = let v = c.admit_piece in
+    let at = c.in-To.is in
+    let g = granted _ _ _ _ _ _ _ v.result v.ensures _ _ at in
     let t = g.stood in
     record {
       words_span = t.stands.bounds.spans.in_words;
@@ -18,13 +20,20 @@ payload_blocks_in_piece-requires c = let g = granted _ _ _ _ _ _ _ c.admit_piece
 
 pub returns-in-Refused : goal.returns-in-Refused
 unfolding question_refusal
-returns-in-Refused c = question_refused _ _ _ _ _ _ _ c.admit_piece.result c.admit_piece.ensures (of_piece ask_payload_blocks_in_piece c.number-i.result) _
-    (λ n. of_piece ask_payload_blocks_in_piece (c.number-i.ensures n)) (λ d. refl) _ c.in-Refused.is
+returns-in-Refused c = let v = c.admit_piece in
+    let i = c.number-i in
+    let i_is = i.ensures in
+    question_refused _ _ _ _ _ _ _ v.result v.ensures (of_piece ask_payload_blocks_in_piece i.result) _
+    (λ n. of_piece ask_payload_blocks_in_piece (i_is n)) (λ d. refl) _ c.in-Refused.is
 
 pub returns-in-To : goal.returns-in-To
 unfolding reply question_refusal
-returns-in-To c = let g = granted _ _ _ _ _ _ _ c.admit_piece.result c.admit_piece.ensures _ _ c.in-To.is in
+returns-in-To c = let v = c.admit_piece in
+    let at = c.in-To.is in
+    let g = granted _ _ _ _ _ _ _ v.result v.ensures _ _ at in
     let t = g.stood in
-    question_replied _ _ _ _ _ _ _ c.admit_piece.result c.admit_piece.ensures (of_piece ask_payload_blocks_in_piece c.number-i.result) _
-    (λ n. of_piece ask_payload_blocks_in_piece (c.number-i.ensures n)) (λ d. refl) _ _ c.in-To.is _
+    let i = c.number-i in
+    let i_is = i.ensures in
+    question_replied _ _ _ _ _ _ _ v.result v.ensures (of_piece ask_payload_blocks_in_piece i.result) _
+    (λ n. of_piece ask_payload_blocks_in_piece (i_is n)) (λ d. refl) _ _ at _
     (c.payload_blocks_in_piece.ensures.is _ _ t.stands.bounds)

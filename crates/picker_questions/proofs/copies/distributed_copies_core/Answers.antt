@@ -8,19 +8,24 @@ use Rattle.picker_answers.proofs.AdmittedLaws.{granted, question_refused, questi
 use Rattle.picker_questions.proofs.copies.distributed_copies_core.Goals as goal
 
 pub distributed_copies-requires : goal.distributed_copies-requires
-distributed_copies-requires c = let g = granted _ _ _ _ _ _ _ c.admit_picker.result c.admit_picker.ensures _ _ c.in-To.is in
+distributed_copies-requires c = let v = c.admit_picker in
+    let at = c.in-To.is in
+    let g = granted _ _ _ _ _ _ _ v.result v.ensures _ _ at in
     let t = g.stood in
     beside _ _ _ _ _ _ _ t
 
 pub returns-in-Refused : goal.returns-in-Refused
 unfolding question_refusal
-returns-in-Refused c = question_refused _ _ _ _ _ _ _ c.admit_picker.result c.admit_picker.ensures (of_picker distributed_copies) _
+returns-in-Refused c = let v = c.admit_picker in
+    question_refused _ _ _ _ _ _ _ v.result v.ensures (of_picker distributed_copies) _
     refl (λ d. refl) _ c.in-Refused.is
 
 pub returns-in-To : goal.returns-in-To
 unfolding reply question_refusal
-returns-in-To c = let g = granted _ _ _ _ _ _ _ c.admit_picker.result c.admit_picker.ensures _ _ c.in-To.is in
+returns-in-To c = let v = c.admit_picker in
+    let at = c.in-To.is in
+    let g = granted _ _ _ _ _ _ _ v.result v.ensures _ _ at in
     let t = g.stood in
-    question_replied _ _ _ _ _ _ _ c.admit_picker.result c.admit_picker.ensures (of_picker distributed_copies) _
-    refl (λ d. refl) _ _ c.in-To.is _
+    question_replied _ _ _ _ _ _ _ v.result v.ensures (of_picker distributed_copies) _
+    refl (λ d. refl) _ _ at _
     (c.distributed_copies.ensures.is _ t.stands.bounds)

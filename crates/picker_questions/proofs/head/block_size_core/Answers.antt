@@ -8,17 +8,22 @@ use Rattle.picker_answers.proofs.AdmittedLaws.{granted, question_refused, questi
 use Rattle.picker_questions.proofs.head.block_size_core.Goals as goal
 
 pub block_size-requires : goal.block_size-requires
-block_size-requires c = let g = granted _ _ _ _ _ _ _ c.admit_picker.result c.admit_picker.ensures _ _ c.in-To.is in
+block_size-requires c = let v = c.admit_picker in
+    let at = c.in-To.is in
+    let g = granted _ _ _ _ _ _ _ v.result v.ensures _ _ at in
     let t = g.stood in
     t.stands.bounds.spans.in_words
 
 pub returns-in-Refused : goal.returns-in-Refused
 unfolding question_refusal
-returns-in-Refused c = question_refused _ _ _ _ _ _ _ c.admit_picker.result c.admit_picker.ensures (of_picker block_size) _
+returns-in-Refused c = let v = c.admit_picker in
+    question_refused _ _ _ _ _ _ _ v.result v.ensures (of_picker block_size) _
     refl (λ d. refl) _ c.in-Refused.is
 
 pub returns-in-To : goal.returns-in-To
 unfolding reply question_refusal
-returns-in-To c = question_replied _ _ _ _ _ _ _ c.admit_picker.result c.admit_picker.ensures (of_picker block_size) _
-    refl (λ d. refl) _ _ c.in-To.is _
+returns-in-To c = let v = c.admit_picker in
+    let at = c.in-To.is in
+    question_replied _ _ _ _ _ _ _ v.result v.ensures (of_picker block_size) _
+    refl (λ d. refl) _ _ at _
     (c.block_size.ensures.is _ _)

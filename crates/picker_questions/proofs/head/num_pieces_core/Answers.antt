@@ -9,13 +9,16 @@ use Rattle.picker_questions.proofs.head.num_pieces_core.Goals as goal
 
 pub returns-in-Refused : goal.returns-in-Refused
 unfolding question_refusal
-returns-in-Refused c = question_refused _ _ _ _ _ _ _ c.admit_picker.result c.admit_picker.ensures (of_picker num_pieces) _
+returns-in-Refused c = let v = c.admit_picker in
+    question_refused _ _ _ _ _ _ _ v.result v.ensures (of_picker num_pieces) _
     refl (λ d. refl) _ c.in-Refused.is
 
 pub returns-in-To : goal.returns-in-To
 unfolding reply question_refusal
-returns-in-To c = let g = granted _ _ _ _ _ _ _ c.admit_picker.result c.admit_picker.ensures _ _ c.in-To.is in
+returns-in-To c = let v = c.admit_picker in
+    let at = c.in-To.is in
+    let g = granted _ _ _ _ _ _ _ v.result v.ensures _ _ at in
     let t = g.stood in
-    question_replied _ _ _ _ _ _ _ c.admit_picker.result c.admit_picker.ensures (of_picker num_pieces) _
-    refl (λ d. refl) _ _ c.in-To.is _
+    question_replied _ _ _ _ _ _ _ v.result v.ensures (of_picker num_pieces) _
+    refl (λ d. refl) _ _ at _
     (ap one c.usize_to_u64.ensures ∙ c.num_pieces.ensures.is _ _ _ t.stands.bounds)

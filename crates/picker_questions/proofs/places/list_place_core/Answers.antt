@@ -12,7 +12,9 @@ use Rattle.picker_answers.proofs.AdmittedLaws.{granted, question_refused, questi
 use Rattle.picker_questions.proofs.places.list_place_core.Goals as goal
 
 pub list_place-requires : goal.list_place-requires
-list_place-requires c = let g = granted _ _ _ _ _ _ _ c.admit_place.result c.admit_place.ensures _ _ c.in-To.is in
+list_place-requires c = let v = c.admit_place in
+    let at = c.in-To.is in
+    let g = granted _ _ _ _ _ _ _ v.result v.ensures _ _ at in
     let t = g.stood in
     record {
       words_span = t.stands.bounds.spans.in_words;
@@ -21,17 +23,26 @@ list_place-requires c = let g = granted _ _ _ _ _ _ _ c.admit_place.result c.adm
 
 pub returns-in-Refused : goal.returns-in-Refused
 unfolding question_refusal
-returns-in-Refused c = let fit : SFits w32 c.args.place = search rules in
-    let k_is = c.i32_to_usize-k.ensures ∙ ap number_of (to_z-of_z w32 c.args.place fit) in
-    question_refused _ _ _ _ _ _ _ c.admit_place.result c.admit_place.ensures (ask_list_place c.i32_to_usize-k.result) _
+returns-in-Refused c = let v = c.admit_place in
+    let k = c.i32_to_usize-k in
+    let a = c.args in
+    let z = a.place in
+    let fit : SFits w32 z = search rules in
+    let k_is = k.ensures ∙ ap number_of (to_z-of_z w32 z fit) in
+    question_refused _ _ _ _ _ _ _ v.result v.ensures (ask_list_place k.result) _
     (λ n. ask_list_place (k_is n)) (λ d. refl) _ c.in-Refused.is
 
 pub returns-in-To : goal.returns-in-To
 unfolding reply question_refusal
-returns-in-To c = let g = granted _ _ _ _ _ _ _ c.admit_place.result c.admit_place.ensures _ _ c.in-To.is in
+returns-in-To c = let v = c.admit_place in
+    let at = c.in-To.is in
+    let g = granted _ _ _ _ _ _ _ v.result v.ensures _ _ at in
     let t = g.stood in
-    let fit : SFits w32 c.args.place = search rules in
-    let k_is = c.i32_to_usize-k.ensures ∙ ap number_of (to_z-of_z w32 c.args.place fit) in
-    question_replied _ _ _ _ _ _ _ c.admit_place.result c.admit_place.ensures (ask_list_place c.i32_to_usize-k.result) _
-    (λ n. ask_list_place (k_is n)) (λ d. refl) _ _ c.in-To.is _
+    let k = c.i32_to_usize-k in
+    let a = c.args in
+    let z = a.place in
+    let fit : SFits w32 z = search rules in
+    let k_is = k.ensures ∙ ap number_of (to_z-of_z w32 z fit) in
+    question_replied _ _ _ _ _ _ _ v.result v.ensures (ask_list_place k.result) _
+    (λ n. ask_list_place (k_is n)) (λ d. refl) _ _ at _
     (c.list_place.ensures.is _ _ t.stands.bounds)

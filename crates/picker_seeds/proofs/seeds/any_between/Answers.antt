@@ -11,7 +11,8 @@ pub loop-i-init : goal.loop-i-init
 loop-i-init c = (refl, finding_start _ _ _)
 
 pub loop-i-preserved : goal.loop-i-preserved
-loop-i-preserved c = (c.loop-i.invariant.0, finding_next _ _ _ _ _ c.loop-i.invariant.1 (omega arith) _ refl _ refl)
+loop-i-preserved c = let o = c.loop-i in
+    (o.invariant.0, finding_next _ _ _ _ _ o.invariant.1 (omega arith) _ refl _ refl)
 
 pub returns : goal.returns
 returns c = finding_end _ _ _ _ _ c.loop-i.invariant.1 (omega arith)

@@ -10,23 +10,32 @@ use borrow.Author.Rules.{rules}
 use Rattle.picker_seeds.proofs.seeds.inc_refcount_all_core.Goals as goal
 
 pub judge_inc_refcount_all-requires : goal.judge_inc_refcount_all-requires
-judge_inc_refcount_all-requires c = stood_beside _ _ _ _ _ _ (stood_at _ _ _ _ _ c.admit.result c.admit.ensures _ c.in-At.is)
+judge_inc_refcount_all-requires c = let m = c.admit in
+    stood_beside _ _ _ _ _ _ (stood_at _ _ _ _ _ m.result m.ensures _ c.in-At.is)
 
 pub inc_refcount_all-requires : goal.inc_refcount_all-requires
-inc_refcount_all-requires c = stood_beside _ _ _ _ _ _ (stood_at _ _ _ _ _ c.admit.result c.admit.ensures _ c.in-At.is)
+inc_refcount_all-requires c = let m = c.admit in
+    stood_beside _ _ _ _ _ _ (stood_at _ _ _ _ _ m.result m.ensures _ c.in-At.is)
 
 pub returns-in-Refused : goal.returns-in-Refused
-returns-in-Refused c = let l = listless do_inc_refcount_all refl in
-    barred _ _ _ _ _ c.admit.result c.admit.ensures _ c.in-Refused.is _ l _ _ _ c.refused.ensures
+returns-in-Refused c = let m = c.admit in
+    let l = listless do_inc_refcount_all refl in
+    barred _ _ _ _ _ m.result m.ensures _ c.in-Refused.is _ l _ _ _ c.refused.ensures
 
 pub returns-in-Refused-judge_inc_refcount_all : goal.returns-in-Refused-judge_inc_refcount_all
-returns-in-Refused-judge_inc_refcount_all c = let t = stood_at _ _ _ _ _ c.admit.result c.admit.ensures _ c.in-At.is in
-    denied _ _ _ _ _ _ t _ (listless do_inc_refcount_all refl) c.judge_inc_refcount_all.result (c.judge_inc_refcount_all.ensures.is _ t.stands) _
+returns-in-Refused-judge_inc_refcount_all c = let m = c.admit in
+    let j = c.judge_inc_refcount_all in
+    let t = stood_at _ _ _ _ _ m.result m.ensures _ c.in-At.is in
+    denied _ _ _ _ _ _ t _ (listless do_inc_refcount_all refl) j.result (j.ensures.is _ t.stands) _
     c.in-Refused-judge_inc_refcount_all.is _ _ _ c.refused-in-Refused-judge_inc_refcount_all.ensures
 
 pub returns-in-Passed : goal.returns-in-Passed
 unfolding act edit_records
-returns-in-Passed c = let t = stood_at _ _ _ _ _ c.admit.result c.admit.ensures _ c.in-At.is in
+returns-in-Passed c = let m = c.admit in
+    let j = c.judge_inc_refcount_all in
+    let r = c.live_records-live in
+    let x = c.inc_refcount_all in
+    let t = stood_at _ _ _ _ _ m.result m.ensures _ c.in-At.is in
     let l = listless do_inc_refcount_all refl in
-    let p = passed _ _ _ _ _ _ t _ l c.judge_inc_refcount_all.result (c.judge_inc_refcount_all.ensures.is _ t.stands) c.in-Passed.is in
-    acted_undrawn _ _ _ _ _ _ t _ l p c.live_records-live.result c.live_records-live.ensures _ keep_insert _ _ inc_refcount_all refl (c.inc_refcount_all.ensures.made _ t.stands)
+    let p = passed _ _ _ _ _ _ t _ l j.result (j.ensures.is _ t.stands) c.in-Passed.is in
+    acted_undrawn _ _ _ _ _ _ t _ l p r.result r.ensures _ keep_insert _ _ inc_refcount_all refl (x.ensures.made _ t.stands)

@@ -9,13 +9,15 @@ pub returns-then-seeds-gt0 : goal.returns-then-seeds-gt0
 returns-then-seeds-gt0 c = record { is = λ records t. sym (dec_all_seed _ _ _ c.seeds.ensures records (omega (arith, c.if-seeds-gt0.true))) }
 
 pub returns-then-any_between : goal.returns-then-any_between
-returns-then-any_between c = record {
-  is = λ records t. sym (dec_all_yes _ _ _ _ c.piece_column.ensures c.seeds.result c.seeds.ensures c.requires records t
-      (omega (arith, c.if-seeds-gt0.false)) (sym c.any_between.ensures ∙ c.if-any_between.true));
-}
+returns-then-any_between c = let n = c.seeds in
+    record {
+      is = λ records t. sym (dec_all_yes _ _ _ _ c.piece_column.ensures n.result n.ensures c.requires records t
+          (omega (arith, c.if-seeds-gt0.false)) (sym c.any_between.ensures ∙ c.if-any_between.true));
+    }
 
 pub returns : goal.returns
-returns c = record {
-  is = λ records t. sym (dec_all_no _ _ _ _ c.piece_column.ensures c.seeds.result c.seeds.ensures c.requires records t
-      (omega (arith, c.if-seeds-gt0.false)) (sym c.any_between.ensures ∙ c.if-any_between.false));
-}
+returns c = let n = c.seeds in
+    record {
+      is = λ records t. sym (dec_all_no _ _ _ _ c.piece_column.ensures n.result n.ensures c.requires records t
+          (omega (arith, c.if-seeds-gt0.false)) (sym c.any_between.ensures ∙ c.if-any_between.false));
+    }

@@ -10,13 +10,15 @@ pub overflow_sub-left : goal.overflow_sub-left
 overflow_sub-left c = omega (arith, seeds_few _ _ _ c.requires, c.seeds-left.ensures.is c.requires.records c.args.cells.now)
 
 pub returns-then-any_between : goal.returns-then-any_between
-returns-then-any_between c = record {
-  is = λ records t. sym (inc_all_yes _ _ _ _ c.piece_column.ensures c.seeds-left.result c.seeds-left.ensures c.requires records t _
-      c.u64_to_u16.ensures (sym c.any_between.ensures ∙ c.if-any_between.true));
-}
+returns-then-any_between c = let n = c.seeds-left in
+    record {
+      is = λ records t. sym (inc_all_yes _ _ _ _ c.piece_column.ensures n.result n.ensures c.requires records t _
+          c.u64_to_u16.ensures (sym c.any_between.ensures ∙ c.if-any_between.true));
+    }
 
 pub returns : goal.returns
-returns c = record {
-  is = λ records t. sym (inc_all_no _ _ _ _ c.piece_column.ensures c.seeds-left.result c.seeds-left.ensures c.requires records t _
-      c.u64_to_u16.ensures (sym c.any_between.ensures ∙ c.if-any_between.false));
-}
+returns c = let n = c.seeds-left in
+    record {
+      is = λ records t. sym (inc_all_no _ _ _ _ c.piece_column.ensures n.result n.ensures c.requires records t _
+          c.u64_to_u16.ensures (sym c.any_between.ensures ∙ c.if-any_between.false));
+    }

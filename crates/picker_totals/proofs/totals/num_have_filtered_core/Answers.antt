@@ -8,17 +8,22 @@ use Rattle.picker_answers.proofs.AdmittedLaws.{granted, question_refused, questi
 use Rattle.picker_totals.proofs.totals.num_have_filtered_core.Goals as goal
 
 pub num_have_filtered-requires : goal.num_have_filtered-requires
-num_have_filtered-requires c = let g = granted _ _ _ _ _ _ _ c.admit_picker.result c.admit_picker.ensures _ _ c.in-To.is in
+num_have_filtered-requires c = let v = c.admit_picker in
+    let at = c.in-To.is in
+    let g = granted _ _ _ _ _ _ _ v.result v.ensures _ _ at in
     let t = g.stood in
     asked _ _ _ _ _ _ _ t
 
 pub returns-in-Refused : goal.returns-in-Refused
 unfolding question_refusal
-returns-in-Refused c = question_refused _ _ _ _ _ _ _ c.admit_picker.result c.admit_picker.ensures (of_picker ask_num_have_filtered) _
+returns-in-Refused c = let v = c.admit_picker in
+    question_refused _ _ _ _ _ _ _ v.result v.ensures (of_picker ask_num_have_filtered) _
     refl (λ d. refl) _ c.in-Refused.is
 
 pub returns-in-To : goal.returns-in-To
 unfolding reply question_refusal
-returns-in-To c = question_replied _ _ _ _ _ _ _ c.admit_picker.result c.admit_picker.ensures (of_picker ask_num_have_filtered) _
-    refl (λ d. refl) _ _ c.in-To.is _
+returns-in-To c = let v = c.admit_picker in
+    let at = c.in-To.is in
+    question_replied _ _ _ _ _ _ _ v.result v.ensures (of_picker ask_num_have_filtered) _
+    refl (λ d. refl) _ _ at _
     c.num_have_filtered.ensures

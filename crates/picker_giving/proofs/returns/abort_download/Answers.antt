@@ -1,0 +1,9 @@
+-- `abort_download` meets its contract. Assumes nothing.
+-- Written by tools/public_answers.py, and not by hand.
+use Rattle.picker_calls.proofs.PublicLaws.{rows_are}
+use Rattle.picker_giving.proofs.returns.abort_download.Goals as goal
+
+pub returns : goal.returns
+returns c =
+    let t = rows_are _ _ _ _ _ c.live_records-live.ensures c.unpack-lent.ensures in
+    rw c.apply.ensures (c.abort_download_core-r.ensures.done _ t.0 t.1).1

@@ -1,0 +1,9 @@
+-- `mark_as_canceled` meets its contract. Assumes nothing.
+-- Written by tools/public_answers.py, and not by hand.
+use Rattle.picker_calls.proofs.PublicLaws.{rows_are}
+use Rattle.picker_giving.proofs.returns.mark_as_canceled.Goals as goal
+
+pub returns : goal.returns
+returns c =
+    let t = rows_are _ _ _ _ _ c.live_records-live.ensures c.unpack-lent.ensures in
+    rw c.apply.ensures (c.mark_as_canceled_core-r.ensures.done _ t.0 t.1).1

@@ -1,0 +1,9 @@
+-- `mark_as_downloading` meets its contract. Assumes nothing.
+-- Written by tools/public_answers.py, and not by hand.
+use Rattle.picker_calls.proofs.PublicLaws.{rows_are}
+use Rattle.picker_requests.proofs.requests.mark_as_downloading.Goals as goal
+
+pub returns : goal.returns
+returns c =
+    let t = rows_are _ _ _ _ _ c.live_records-live.ensures c.unpack-lent.ensures in
+    rw c.apply.ensures (c.mark_as_downloading_core-r.ensures.done _ t.0 t.1).1
