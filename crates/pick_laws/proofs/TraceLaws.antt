@@ -261,7 +261,7 @@ module _ (i : ℕ) (u : PickState) (inside : i < 4096) (some : 1 ≤ blocks_in_p
     run_step_grows u x w h.0,
     ⊎_elim
         (λ l. inl (let r = rises_weight (trace w) (trace (span_step take_all x w)) (run_step_grows w x w (grows_self u w h.0)).rises in omega arith))
-        (λ c. elim (ℕ_discrete i x) [
+        (λ (c : (is_ignored i w ≡ false) × (member i (x ∷ ys) ≡ true)). elim (ℕ_discrete i x) [
           | yes e ↦ inl (rw e at (coming_here w h.0 c.0))
           | no n ↦ inr (run_step_other i x w n c.0, rw (ne_eqb i x n) at c.1)
         ]) h.1,

@@ -6,7 +6,7 @@ use native.Mathlib.Omega.{arith}
 use Rattle.memory_halving.specs.Halving.{Halves}
 use Rattle.memory_halving.proofs.HalvesLaws.{halves_start, halves_past, halves_up, halves_down, halves_end}
 use Rattle.memory_lower_bound.proofs.few.Goals as goal
-use Rattle.memory_lower_bound.proofs.few.Goals.{then-next-live}
+use Rattle.memory_lower_bound.proofs.few.Goals.{then-next-live+then-u32_to_usize-i, then-next-live+else-u32_to_usize-i, else-next-live}
 
 pub loop-width-init : goal.loop-width-init
 loop-width-init c = (omega arith, halves_start _ _ _ _ (omega (arith, c.requires.live_bound.0)))
@@ -15,17 +15,19 @@ pub overflow_add-next : goal.overflow_add-next
 overflow_add-next c = omega (arith, c.loop-width.invariant.0, c.loop-width.invariant.1.within, c.requires.live_bound.0)
 
 pub loop-width-preserved : goal.loop-width-preserved
-loop-width-preserved c = (
-  omega (arith, c.loop-width.invariant.0),
-  ⊎_elim
-      (λ w. rw w.4 (halves_up c.args.live c.args.rows.now c.args.i c.loop-width.low (c.loop-width.low + c.loop-width.width) _ c.loop-width.invariant.1 c.requires.rows_value (omega arith) w.0.taken
-      (omega (arith, w.2.ensures, w.3.taken)) _ (omega arith)))
-      (⊎_elim
-      (λ w. rw w.4 (halves_down c.args.live c.args.rows.now c.args.i c.loop-width.low (c.loop-width.low + c.loop-width.width) _ c.loop-width.invariant.1 c.requires.rows_value (omega arith) w.0.taken
-      (omega (arith, w.2.ensures, w.3.left)) _ (omega arith)))
-      (λ w. rw w.1 (halves_past c.args.live c.args.rows.now c.args.i c.loop-width.low (c.loop-width.low + c.loop-width.width) _ c.loop-width.invariant.1 w.0.left _ (omega arith))))
-      c.if-next-live.branch,
+loop-width-preserved c = let l = c.loop-width in (
+  omega (arith, l.invariant.0),
+  elim c.if-next-live.branch [
+    | then-next-live+then-u32_to_usize-i w ↦
+        rw w.low-is (halves_up c.args.live c.args.rows.now c.args.i l.low (l.low + l.width) _ l.invariant.1 c.requires.rows_value (omega arith)
+        w.if-next-live.true (omega (arith, w.u32_to_usize.ensures, w.if-u32_to_usize-i.true)) _ (omega arith))
+    | then-next-live+else-u32_to_usize-i w ↦
+        rw w.low-is (halves_down c.args.live c.args.rows.now c.args.i l.low (l.low + l.width) _ l.invariant.1 c.requires.rows_value (omega arith)
+        w.if-next-live.true (omega (arith, w.u32_to_usize.ensures, w.if-u32_to_usize-i.false)) _ (omega arith))
+    | else-next-live w ↦ rw w.low-is (halves_past c.args.live c.args.rows.now c.args.i l.low (l.low + l.width) _ l.invariant.1 w.if-next-live.false _ (omega arith))
+  ],
 )
 
 pub returns : goal.returns
-returns c = halves_end _ _ _ c.loop-width.low (c.loop-width.low + c.loop-width.width) c.loop-width.invariant.1 (omega (arith, c.loop-width-test.false))
+returns c = let l = c.loop-width in
+    halves_end _ _ _ l.low (l.low + l.width) l.invariant.1 (omega (arith, c.loop-width-test.false))

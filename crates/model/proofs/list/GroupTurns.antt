@@ -105,7 +105,7 @@ module _ (b : ℕ → ℕ) where
   -- its rank comes in at that place
   pub keys_entered : (p x : ℕ) (l : List ℕ) → map b (entered p x l) ≡ entered p (b x) (map b l)
   unfolding entered
-  keys_entered p x l = rw (map_append, map-take, map-drop)
+  keys_entered p x l = rw (map_append, map-take b p l, map-drop b p l)
 
   -- x's rank comes in at p
   pub keys_placed : (p x : ℕ) (l : List ℕ) → map b (placed b p x l) ≡ entered p (b x) (map b l)

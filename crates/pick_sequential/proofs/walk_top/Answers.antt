@@ -58,7 +58,7 @@ returns-then-priority-ne7 c = let d = picker_in c.args.live c.args.rows.now c.ar
     let h : c.loop-k.k < len xs = omega arith in
     let e = picks_words c.requires.picks (λ x. nth 0 (list_of x.listing) c.loop-k.k) c.list_place-i.result c.list_place-i.ensures in
     let f = picks_say c.requires.picks (λ x. (piece_at x c.list_place-i.result).priority) c.priority.result c.priority.ensures in
-    as_top r (beside_end c.loop-k.invariant (top_stop d xs c.loop-k.k c.list_place-i.result h e (ne_eqb (piece_at d c.list_place-i.result).priority 7 (λ z. c.if-priority-ne7.true (f ∙ c.loop-k-test.true)))))
+    as_top r (beside_end c.loop-k.invariant (top_stop d xs c.loop-k.k c.list_place-i.result h e (ne_eqb (piece_at d c.list_place-i.result).priority 7 (λ z. c.if-priority-ne7.true (f ∙ z)))))
 
 pub visit_listed-cur-requires : goal.visit_listed-cur-requires
 visit_listed-cur-requires c = let d = picker_in c.args.live c.args.rows.now c.args.words.now c.args.cells.now in

@@ -6,7 +6,7 @@ use borrow.Author.Rules.{rules}
 use Rattle.change_seeds.proofs.lowering.lower_all.Given as goal
 
 abbrev pub invariant-loop-i : goal.invariant-loop-i
-invariant-loop-i l = (l.i ≤ l.n) × Passed (λ l.n. l.n - 1) l.i l.initial.cells l.cells
+invariant-loop-i l = (l.i ≤ l.n) × Passed (λ n. n - 1) l.i l.initial.cells l.cells
 
 abbrev pub decreases-loop-i : goal.decreases-loop-i
 decreases-loop-i l = l.n - l.i

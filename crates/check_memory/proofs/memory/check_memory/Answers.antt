@@ -26,7 +26,7 @@ pub returns-then-not-fits : goal.returns-then-not-fits
 returns-then-not-fits c = too_short _ _ _ _ _ c.requires.1 c.if-words-lt16.false (geometry_read _ _ _ _
     c.head_word.ensures
     c.head_word-2.ensures c.valid_geometry.ensures _
-    (not-false _ c.if-not-valid_geometry.false-raw)) (sym c.fits2.ensures ∙ c.if-not-fits.true-raw)
+    (not-false _ c.if-not-valid_geometry.false-raw)) (sym c.fits.ensures ∙ c.if-not-fits.true-raw)
 
 pub head_ok-requires : goal.head_ok-requires
 head_ok-requires c = record {
@@ -43,7 +43,7 @@ returns-then-not-head_ok c = bad_head _ _ _ _ _ c.requires.1 c.if-words-lt16.fal
     c.head_word-2.ensures
     c.valid_geometry.ensures _ (not-false _
     c.if-not-valid_geometry.false-raw)) (sym
-    c.fits2.ensures ∙ c.if-not-fits.false-raw) (head_says _ _ c.head_ok.ensures _
+    c.fits.ensures ∙ c.if-not-fits.false-raw) (head_says _ _ c.head_ok.ensures _
     (not-true _ c.if-not-head_ok.true-raw))
 
 pub rows_ok-requires : goal.rows_ok-requires
@@ -54,7 +54,7 @@ rows_ok-requires c = record {
       c.head_word-2.ensures
       c.valid_geometry.ensures _ (not-false _
       c.if-not-valid_geometry.false-raw)) (sym
-      c.fits2.ensures ∙ c.if-not-fits.false-raw) (head_says _ _
+      c.fits.ensures ∙ c.if-not-fits.false-raw) (head_says _ _
       c.head_ok.ensures _ (not-false _ c.if-not-head_ok.false-raw)) _
       c.live_records-live.ensures;
   rows_len = c.requires;
@@ -62,7 +62,7 @@ rows_ok-requires c = record {
 
 pub returns-then-not-rows_ok : goal.returns-then-not-rows_ok
 returns-then-not-rows_ok c = bad_rows _ _ _ _ _ c.rows_ok.ensures.long
-    c.if-words-lt16.false (geometry_read _ _ _ _ c.head_word.ensures c.head_word-2.ensures c.valid_geometry.ensures _ (not-false _ c.if-not-valid_geometry.false-raw)) (sym c.fits2.ensures ∙ c.if-not-fits.false-raw) (head_says _ _
+    c.if-words-lt16.false (geometry_read _ _ _ _ c.head_word.ensures c.head_word-2.ensures c.valid_geometry.ensures _ (not-false _ c.if-not-valid_geometry.false-raw)) (sym c.fits.ensures ∙ c.if-not-fits.false-raw) (head_says _ _
     c.head_ok.ensures _ (not-false _
     c.if-not-head_ok.false-raw)) _
     c.live_records-live.ensures _ (not-true _ c.if-not-rows_ok.true-raw)
@@ -70,7 +70,7 @@ returns-then-not-rows_ok c = bad_rows _ _ _ _ _ c.rows_ok.ensures.long
 
 pub returns : goal.returns
 returns c = good_rows_lem _ _ _ _ _ c.rows_ok.ensures.long
-    c.if-words-lt16.false (geometry_read _ _ _ _ c.head_word.ensures c.head_word-2.ensures c.valid_geometry.ensures _ (not-false _ c.if-not-valid_geometry.false-raw)) (sym c.fits2.ensures ∙ c.if-not-fits.false-raw) (head_says _ _
+    c.if-words-lt16.false (geometry_read _ _ _ _ c.head_word.ensures c.head_word-2.ensures c.valid_geometry.ensures _ (not-false _ c.if-not-valid_geometry.false-raw)) (sym c.fits.ensures ∙ c.if-not-fits.false-raw) (head_says _ _
     c.head_ok.ensures _ (not-false _
     c.if-not-head_ok.false-raw)) _
     c.shape_of-s.ensures _

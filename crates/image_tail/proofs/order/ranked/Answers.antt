@@ -12,7 +12,8 @@ pub loop-i-init : goal.loop-i-init
 loop-i-init c = counting_start _ _
 
 pub loop-i-preserved : goal.loop-i-preserved
-loop-i-preserved c = elim c.if-ranks-i-gt0.branch [ then-ranks-i-gt0 w ↦ count_one _ _ c.loop-i.many c.loop-i.i c.loop-i.invariant (omega arith) w.if-ranks-i-gt0.true _ w.1 | else-ranks-i-gt0 w ↦ count_none _ _ c.loop-i.many c.loop-i.i c.loop-i.invariant (omega arith) w.if-ranks-i-gt0.false _ w.1 ]
+loop-i-preserved c = let p = c.loop-i in
+    elim c.if-ranks-i-gt0.branch [ then-ranks-i-gt0 w ↦ count_one _ _ p.many p.i p.invariant (omega arith) w.if-ranks-i-gt0.true _ w.many-is | else-ranks-i-gt0 w ↦ count_none _ _ p.many p.i p.invariant (omega arith) w.if-ranks-i-gt0.false _ w.many-is ]
 
 pub returns : goal.returns
 returns c = c.u16_to_usize.ensures ∙ count_end _ _ _ c.loop-i.i c.loop-i.invariant (omega arith)

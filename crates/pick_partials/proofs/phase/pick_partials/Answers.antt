@@ -35,10 +35,10 @@ walk_ordered-requires c = record {
 }
 
 pub shape_of-out : goal.shape_of-out
-shape_of-out c = c.walk_ordered.auto.1.1.1.1.1.1.1.1.0
+shape_of-out c = c.walk_ordered.auto.out
 
 pub shape_of-aside : goal.shape_of-aside
-shape_of-aside c = c.walk_ordered.auto.1.1.1.1.1.1.1.1.1.0
+shape_of-aside c = c.walk_ordered.auto.aside
 
 pub shape_of-loops : goal.shape_of-loops
 shape_of-loops c = c.count_steps.auto.loops

@@ -12,10 +12,10 @@ walk_rarest-requires c = record {
 }
 
 pub shape_of-out-then-by_rarity : goal.shape_of-out-then-by_rarity
-shape_of-out-then-by_rarity c = c.walk_rarest.auto.1.1.1.1.1.1.1.1.0
+shape_of-out-then-by_rarity c = c.walk_rarest.auto.out
 
 pub shape_of-aside-then-by_rarity : goal.shape_of-aside-then-by_rarity
-shape_of-aside-then-by_rarity c = c.walk_rarest.auto.1.1.1.1.1.1.1.1.1.0
+shape_of-aside-then-by_rarity c = c.walk_rarest.auto.aside
 
 pub returns-then-by_rarity : goal.returns-then-by_rarity
 returns-then-by_rarity c = ordered_some c.args.q c.args.bytes.now _ c.by_rarity.ensures _ c.if-by_rarity.true
@@ -29,10 +29,10 @@ walk_partials-requires c = record {
 }
 
 pub shape_of-out : goal.shape_of-out
-shape_of-out c = c.walk_partials.auto.1.1.1.1.1.1.1.0
+shape_of-out c = c.walk_partials.auto.out
 
 pub shape_of-aside : goal.shape_of-aside
-shape_of-aside c = c.walk_partials.auto.1.1.1.1.1.1.1.1.0
+shape_of-aside c = c.walk_partials.auto.aside
 
 pub returns : goal.returns
 returns c = ordered_none c.args.q c.args.bytes.now _ c.by_rarity.ensures _ c.if-by_rarity.false

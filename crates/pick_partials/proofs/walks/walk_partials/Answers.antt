@@ -15,10 +15,10 @@ walk_places-u-requires c = record {
 }
 
 pub shape_of-out-then-u-eq0 : goal.shape_of-out-then-u-eq0
-shape_of-out-then-u-eq0 c = c.walk_places-u.auto.1.1.1.1.1.1.1.0
+shape_of-out-then-u-eq0 c = c.walk_places-u.auto.out
 
 pub shape_of-aside-then-u-eq0 : goal.shape_of-aside-then-u-eq0
-shape_of-aside-then-u-eq0 c = c.walk_places-u.auto.1.1.1.1.1.1.1.1.0
+shape_of-aside-then-u-eq0 c = c.walk_places-u.auto.aside
 
 pub returns-then-u-eq0 : goal.returns-then-u-eq0
 returns-then-u-eq0 c = walked_spent (request_of c.args.q c.args.bytes.now) (take c.args.many c.args.places.now) c.walk_places-u.ensures c.if-u-eq0.true
@@ -28,10 +28,10 @@ append_blocks-requires c = append_room {t = c.walk_places-u.result} (above_none 
     (alone_room c.walk_places-u.ensures c.requires.partial_room)
 
 pub shape_of-out : goal.shape_of-out
-shape_of-out c = c.append_blocks.auto.out ∙ c.walk_places-u.auto.1.1.1.1.1.1.1.0
+shape_of-out c = c.append_blocks.auto.out ∙ c.walk_places-u.auto.out
 
 pub shape_of-aside : goal.shape_of-aside
-shape_of-aside c = c.walk_places-u.auto.1.1.1.1.1.1.1.1.0
+shape_of-aside c = c.walk_places-u.auto.aside
 
 pub returns : goal.returns
 returns c = walked_more (request_of c.args.q c.args.bytes.now) (take c.args.many c.args.places.now) c.walk_places-u.ensures (picks_sound c.requires.picks) c.if-u-eq0.false
