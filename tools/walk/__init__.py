@@ -1,1 +1,0 @@
-"""What `tools/walks.py` writes the walks of public calls with."""
