@@ -1,8 +1,8 @@
 """An interpreter of the subset of antt in which the definitions are written: the functions of the text become Python functions.
 
-The language is total and pure, so the order of evaluation is free. Arguments are computed before a call; `cond`, `_&&_`, `_||_`, `elim` and
+The language is total and pure, so the order of evaluation is free. Arguments are computed before a call; `cond`, `◌&&◌`, `◌||◌`, `elim` and
 clauses compute only the arm that is taken. A function value takes one argument at a time. A call in tail position is a loop, and so
-is one under `_∷_`, `_++_`, `_+_` or `suc`, with what stands before it kept in `acc`. A list that a function takes apart is passed on
+is one under `◌∷◌`, `◌++◌`, `◌+◌` or `suc`, with what stands before it kept in `acc`. A list that a function takes apart is passed on
 with the place where its rest begins, so that the rest is copied only where it is used as a whole."""
 import ctypes
 import os
@@ -13,6 +13,7 @@ import threading
 from compare.antt_library import NATIVES, Constructor
 from compare.antt_load import Function, Loader, ready, walk
 from compare.antt_parse import AnttError
+from compare.spelling import plain
 
 TOP = os.path.dirname(os.path.dirname(os.path.abspath(__file__)))
 SPECS = os.path.join(TOP, "crates", "model", "specs")
@@ -84,9 +85,9 @@ def put_before(e):
         return "list", ("append", e[2][0]), e[2][1]
     if e[0] == "con" and e[1].native == "suc":
         return "num", ("+=", ("num", 1)), e[2][0]
-    if e[0] == "nat" and e[1].name == "_++_":
+    if e[0] == "nat" and e[1].name == "◌++◌":
         return "list", ("+=", e[2][0]), e[2][1]
-    if e[0] == "nat" and e[1].name == "_+_":
+    if e[0] == "nat" and e[1].name == "◌+◌":
         return "num", ("+=", e[2][0]), e[2][1]
     return None
 
@@ -399,8 +400,8 @@ class Program:
             self.globals[function.py] = self.globals[function.py]()
 
     def find(self, name, kind):
-        """The one entity of this name that some loaded module defines."""
-        found = [m[name] for m in self.loader.modules.values() if isinstance(m.get(name), kind)]
+        """The one entity of this name, in any spelling, that some loaded module defines."""
+        found = [what for m in self.loader.modules.values() for own, what in m.items() if isinstance(what, kind) and plain(own) == plain(name)]
         if len(found) != 1:
             raise AnttError(f"{name}: {len(found)} definitions of this name where one is needed")
         return found[0]

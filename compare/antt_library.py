@@ -1,5 +1,5 @@
 """The library under the definitions, given natively: numbers are Python's, truth values True and False, lists any Python sequence that
-is never changed. Each entry has the meaning of the library's own text: subtraction stops at 0, n / 0 is 0, n % 0 is n, `getD` past the
+is never changed. Each entry has the meaning of the library's own text: subtraction stops at 0, n / 0 is 0, n % 0 is n, `get_or` past the
 end is the default, `set` past the end changes nothing, `slice f t` is `drop f (take t l)`. A name that is imported and not here is an
 error."""
 from typing import NamedTuple
@@ -14,7 +14,7 @@ class Native(NamedTuple):
 
 
 class Lazy(NamedTuple):
-    """Evaluates what it needs: `cond` one arm, `_&&_` and `_||_` the second argument only where the first does not decide."""
+    """Evaluates what it needs: `cond` one arm, `◌&&◌` and `◌||◌` the second argument only where the first does not decide."""
 
     name: str
     arity: int
@@ -35,15 +35,15 @@ def pair(first, second):
 
 NAT = {
     "ℕ": TYPE,
-    "_≤_": TYPE,
-    "_<_": TYPE,
+    "◌≤◌": TYPE,
+    "◌<◌": TYPE,
     **pair(Constructor("zero", 0, "zero"), Constructor("suc", 1, "suc")),
-    "_+_": Native("_+_", 2, "({} + {})"),
-    "_-_": Native("_-_", 2, "n_sub({}, {})"),
-    "_*_": Native("_*_", 2, "({} * {})"),
-    "_/_": Native("_/_", 2, "n_div({}, {})"),
-    "_%_": Native("_%_", 2, "n_mod({}, {})"),
-    "_^_": Native("_^_", 2, "({} ** {})"),
+    "◌+◌": Native("◌+◌", 2, "({} + {})"),
+    "◌-◌": Native("◌-◌", 2, "n_sub({}, {})"),
+    "◌*◌": Native("◌*◌", 2, "({} * {})"),
+    "◌/◌": Native("◌/◌", 2, "n_div({}, {})"),
+    "◌%◌": Native("◌%◌", 2, "n_mod({}, {})"),
+    "◌^◌": Native("◌^◌", 2, "({} ** {})"),
     "min": Native("min", 2, "min({}, {})"),
     "max": Native("max", 2, "max({}, {})"),
 }
@@ -52,47 +52,46 @@ BOOL = {
     "Bool": TYPE,
     **pair(Constructor("true", 0, "true"), Constructor("false", 0, "false")),
     "cond": Lazy("cond", 3),
-    "_&&_": Lazy("and", 2),
-    "_||_": Lazy("or", 2),
+    "◌&&◌": Lazy("and", 2),
+    "◌||◌": Lazy("or", 2),
     "not": Native("not", 1, "(not {})"),
 }
 
 LIST = {
     "List": TYPE,
-    **pair(Constructor("[]", 0, "nil"), Constructor("_∷_", 2, "cons")),
-    "_++_": Native("_++_", 2, "[*{}, *{}]"),
+    **pair(Constructor("[]", 0, "nil"), Constructor("◌∷◌", 2, "cons")),
+    "◌++◌": Native("◌++◌", 2, "[*{}, *{}]"),
 }
 
 LIST_N = {
     "length": Native("length", 1, "len({})"),
-    "getD": Native("getD", 3, "n_get({}, {}, {})"),
+    "get_or": Native("get_or", 3, "n_get({}, {}, {})"),
     "set": Native("set", 3, "n_set({}, {}, {})"),
     "take": Native("take", 2, "n_take({}, {})"),
     "drop": Native("drop", 2, "n_drop({}, {})"),
     "replicate": Native("replicate", 2, "n_replicate({}, {})"),
-    "getElem?": Native("getElem?", 2, "n_elem({}, {})"),
 }
 
+DEC = {
+    "eqb": Native("eqb", 2, "({} == {})"),
+    "ltb": Native("ltb", 2, "({} < {})"),
+    "leb": Native("leb", 2, "({} <= {})"),
+}
+
+BITS = {"bit_and": Native("bit_and", 2, "({} & {})"), "bit_or": Native("bit_or", 2, "({} | {})")}
+
 LIBRARY = {
-    "Prim.Native.Nat": NAT,
-    "mathlib.Core.Bool": BOOL,
-    "mathlib.Core.List": LIST,
-    "mathlib.Core.Option": {"Option": TYPE, **pair(Constructor("none", 0), Constructor("some", 1))},
-    "mathlib.Core.Path": {"_≡_": TYPE},
-    "lib.ListN": LIST_N,
-    "lib.Seq": {"slice": Native("slice", 3, "n_slice({}, {}, {})")},
-    "lib.Dec": {
-        "eqb": Native("eqb", 2, "({} == {})"),
-        "ltb": Native("ltb", 2, "({} < {})"),
-        "leb": Native("leb", 2, "({} <= {})"),
-    },
-    "lib.Bits": {"bitAnd": Native("bitAnd", 2, "({} & {})"), "bitOr": Native("bitOr", 2, "({} | {})")},
+    "Rattle.std.specs.Prelude": {**NAT, **BOOL, **LIST, **LIST_N, **DEC, **BITS, "◌≡◌": TYPE},
+    "Rattle.std.specs.Int.Bits": BITS,
+    "Rattle.std.proofs.Math.Option": {"Option": TYPE, **pair(Constructor("none", 0), Constructor("some", 1))},
+    "Rattle.std.proofs.Math.ListN": {**LIST_N, "get_elem?": Native("get_elem?", 2, "n_elem({}, {})")},
+    "Rattle.std.proofs.Math.Seq": {"slice": Native("slice", 3, "n_slice({}, {}, {})")},
 }
 
 SIDES = {"infixl": ["+ - 65", "* / % 70", "++ 65", "&& 35", "|| 30"], "infixr": ["^ 75", "∷ 67"]}
 FIXITY = {name: (int(row.split()[-1]), side) for side, rows in SIDES.items() for row in rows for name in row.split()[:-1]}
 
-OPTION = LIBRARY["mathlib.Core.Option"]
+OPTION = LIBRARY["Rattle.std.proofs.Math.Option"]
 NONE, SOME = ("none",), OPTION["some"].name
 OPTION["none"].value = NONE
 

@@ -12,7 +12,7 @@ import re
 from compare.antt_library import FIXITY, LIBRARY, TYPE, Constructor, Lazy, Native
 from compare.antt_parse import AnttError, Param, read_module
 
-CRATE = re.compile(r"Rattle·(\w+?)(?:·specs)?\.specs\.(.+)")
+CRATE = re.compile(r"Rattle\.(\w+)\.specs\.(.+)")
 fresh = itertools.count()
 
 
@@ -70,7 +70,7 @@ class Loader:
             for name in sorted(names):
                 if name.endswith(".antt") and name != "Lib.antt":
                     parts = ([] if inner == "." else inner.split(os.sep)) + [name[: -len(".antt")]]
-                    self.names("Rattle·model·specs.specs." + ".".join(parts))
+                    self.names("Rattle.model.specs." + ".".join(parts))
 
     def names(self, path):
         """What a module offers: name -> what it is."""
@@ -85,7 +85,7 @@ class Loader:
         return self.module(self.file_of(crate, rest))
 
     def declared(self, crate, parts):
-        variants = parts[-1] == "the-variants"
+        variants = parts[-1] == "TheVariants"
         *folders, name = parts[:-1] if variants else parts
         path = os.path.join(self.top, "crates", crate, "src", *folders) + ".rt"
         if (path, name) not in self.enums:

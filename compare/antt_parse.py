@@ -2,7 +2,7 @@
 else is an AnttError that names file and line.
 
 An expression is a tuple whose first element says what it is: ("name", n), ("num", k), ("app", f, args), ("proj", e, field),
-("lam", names, e), ("let", name, e, e), ("record", [(field, e)]), ("elim", e, [(pattern, e)]). A `do` block is its `_>>=_`.
+("lam", names, e), ("let", name, e, e), ("record", [(field, e)]), ("elim", e, [(pattern, e)]). A `do` block is its `◌>>=◌`.
 A pattern is an expression until names are resolved. Types are not read, except for how many arguments a constructor takes."""
 import re
 from typing import NamedTuple
@@ -231,7 +231,7 @@ class Reader:
 # ---- expressions
 STOP = {"in", "|", "]", "[", "↦", "←", "=", ":", "where"}
 LAST = {"λ", "let", "do", "elim"}
-SPACED = re.compile(r"_(.+)_")
+SPACED = re.compile(r"◌(.+)◌")
 
 
 class Parser:
@@ -277,7 +277,7 @@ class Parser:
             level, side = found
             name = self.next().text
             right = self.expr(level if side == "infixr" else level + 1)
-            left = ("app", ("name", f"_{name}_"), [left, right])
+            left = ("app", ("name", f"◌{name}◌"), [left, right])
 
     def ends(self, t):
         return t is None or t.kind in ")};," or t.kind == "name" and (t.text in STOP or self.operator(t) is not None)
@@ -417,7 +417,7 @@ class Parser:
         if name is None:
             self.fail("a statement that binds nothing")
         rest = self.statements(column)
-        return ("let", name, value, rest) if is_let else ("app", ("name", "_>>=_"), [value, ("lam", [name], rest)])
+        return ("let", name, value, rest) if is_let else ("app", ("name", "◌>>=◌"), [value, ("lam", [name], rest)])
 
 
 def fixities(text):

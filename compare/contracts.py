@@ -1,5 +1,5 @@
-"""`python3 -m compare.contracts`: every call under the crate `picker`, and every export, requires nothing and ensures something. Status 1 and
-a line for each that does not."""
+"""`python3 -m compare.contracts`: every call under the crate `picker`, and every export, requires nothing and ensures something, and each
+call is exported. Status 1 and a line for each that does not."""
 import pathlib
 import re
 import sys
@@ -17,7 +17,8 @@ def functions(crate):
 def public_calls():
     """The calls that `picker` passes on, as crate and name; what it passes on besides are types, which start with a capital."""
     face = (CRATES / "picker" / "src" / "lib.rt").read_text(encoding="utf-8")
-    return re.findall(r"^pub use (\w+)::([a-z]\w*);$", face, re.M)
+    passed_on = re.findall(r"^pub use (\w+)::(?:(\w+)|\{([^}]*)\});$", face, re.M)
+    return [(crate, name) for crate, one, more in passed_on for name in re.findall(r"\w+", one or more) if name[0].islower()]
 
 
 def exports():
@@ -41,6 +42,8 @@ def main():
     wrong = [f"{name} {why}" for name, why in told if why]
     if not calls or not passed_on:
         wrong.append("there are no calls, or no exports")
+    apart = {f"pp_{name}" for _, name in calls} ^ {name for _, name in passed_on}
+    wrong += [f"{name} is exported and no public call, or the other way round" for name in sorted(apart)]
     for line in wrong:
         print(f"contracts: {line}", file=sys.stderr)
     if not wrong:

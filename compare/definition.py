@@ -1,7 +1,7 @@
 """`python3 -m compare.definition CALLS SEED`: the text of crates/model/specs itself, run by compare/antt.py, against the oracle.
 
 The lists of calls are those of compare/lists.py. Compared for each call: the answer with its refusal, the draws used, the image after it;
-after each change the picker must also be `well_formed`. The first mismatch ends it with status 1, with the list up to that call as
+after each change the picker must also be well-formed. The first mismatch ends it with status 1, with the list up to that call as
 a script. `--script FILE` takes scripts instead, `--edges` the lists of compare/edges.py, `--recorded` the recorded calls and their
 recorded outcomes, for which no oracle is needed, `--programs` the pick program's inputs of compare/programs.py. `--specs FOLDER` takes the
 definitions from another folder.
@@ -24,16 +24,17 @@ from compare.lists import lists
 from compare.programs import PICKS
 from compare.record import CALLS, OUTCOMES
 from compare.run import Figures, Mismatch, ask_oracle, report
+from compare.spelling import called, plain
 from reference import questions
 from reference.calls import STEPS
 from reference.geometry import HEAD_WORDS
 from reference.script import OPTIONS, PEER, SHAPES, WITH_DRAWS, Malformed, call_of, calls_of
 
-# ---- the definition's names that values are built with or read by
+# ---- the definition's names that values are built with or read by, in any spelling
 STEP, IMAGE, WELL_FORMED, NEW, READ, TAKE = "step", "image", "well_formed", "new_picker", "read_picker", "take_image"
 PROGRAM = "program"  # the pick program, from its bytes on
 REFUSAL_NUMBER, REFUSAL_VALUES = "refusal_number", "refusal_values"
-REFUSALS = "Rattle·types·specs.specs.Refusal"  # the module of these two
+REFUSALS = "Rattle.types.specs.Refusal"  # the module of these two
 ACTION, QUESTION = "Action", "Question"  # the types of what a call does, and of what it asks
 MEMORY = ("words", "cells", "partials")  # fields of the lent memory, as the script has them
 CALL = ("lent", "action")  # fields of a call, and of a step
@@ -134,14 +135,17 @@ class Definition:
         return value_of(constructor, *out)
 
     def action(self, call):
-        """The call's constructor has its name, with - for _; a question's may end in ?."""
-        name, values = call.name.replace("_", "-"), script_values(call)
-        if name in self.actions:
+        """The call's constructor has its name, where a function has that too with `do` before it; a question's may end in ? or have `ask`
+        before it."""
+        values = script_values(call)
+        name = called(self.actions, call.name, "do_" + call.name)
+        if name is not None:
             return self.arguments(self.actions[name], values)
-        found = self.asked.get(name) or self.asked.get(name + "?")
-        if found is None:
+        name = called(self.asked, call.name, call.name + "?", "ask_" + call.name)
+        if name is None:
             raise AnttError(f"no constructor of {ACTION} or {QUESTION} for {call.name}")
-        return value_of(self.wrapper, self.arguments(found[0], values, found[1]))
+        asked, kind = self.asked[name]
+        return value_of(self.wrapper, self.arguments(asked, values, kind))
 
     # ---- answers in the script's words
     def refused(self, refusal):
@@ -152,7 +156,7 @@ class Definition:
     def replied(self, call, reply):
         kind = reply[0].name
         if kind != "numbers":
-            return {"nothing": "nothing", "stale_list": "stale"}[kind]
+            return {"nothing": "nothing", "stalelist": "stale"}[plain(kind)]
         every, peer = PEERS.get(call.name, (1, None))
         out = ["answer"]
         for k, n in enumerate(reply[1]):
@@ -210,7 +214,7 @@ class Definition:
 
     def take(self, call):
         kind, what = self.program.call(TAKE, self.picker, self.memory(call), call.room)
-        return self.refused(what) if kind.name == "not_taken" else f"bytes {bytes(what).hex()}"
+        return self.refused(what) if plain(kind.name) == "nottaken" else f"bytes {bytes(what).hex()}"
 
     def step(self, call):
         """The answer line. The picker and its image are kept."""

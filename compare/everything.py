@@ -12,7 +12,7 @@ from compare.run import TOP
 
 SPECS = os.path.join(TOP, "crates", "model", "specs")
 FILE = os.path.join(TOP, "crates", "model", "proofs", "cases", "Everything.antt")
-MODULES = "Rattle·model·specs.specs"
+MODULES = "Rattle.model.specs"
 WIDTH = 140
 HEAD = """\
 -- All definitions of the model opened at once, for cases that the checker computes: a case says `unfolding everything` and `refl`.

@@ -1,7 +1,5 @@
-"""`python3 -m compare.picked [MANY] [SEED]`: the proved pick program, linked, on every input of compare/pick_programs.py and on picks of
-random pickers, some with a damaged byte; the reference's program says what is due."""
-import os
-import platform
+"""`python3 -m compare.picked [MANY] [SEED]`: the proved pick program, as `rt ci` linked it, on every input of compare/pick_programs.py and on
+picks of random pickers, some with a damaged byte; the reference's program says what is due."""
 import random
 import subprocess
 import sys
@@ -14,15 +12,8 @@ from compare.states import BLOCK, a_picker
 from reference.image import PICK, image, record
 from reference.pick import lines
 
-BINARY = Path(TOP, "target", "bin", "pick")
+BINARY = Path(TOP, "crates", "pick", "out", "pick")
 MANY, SEED = 300, 11
-
-
-def command():
-    """The program runs under the loader of its own C library."""
-    kit = Path(os.environ.get("RATTLE_HOME", "/opt/rattle"))
-    lib = kit / "on" / platform.machine() / "toolchain" / "lib"
-    return [str(lib / "ld-linux-x86-64.so.2"), "--library-path", str(lib), str(BINARY)]
 
 
 def a_small_picker(rng):
@@ -65,7 +56,7 @@ def inputs(many, seed):
 def main(many=MANY, seed=SEED):
     tried, picks = 0, 0
     for name, data, due in inputs(many, seed):
-        out = subprocess.run(command(), input=data, capture_output=True, cwd="/")
+        out = subprocess.run([str(BINARY)], input=data, capture_output=True, cwd="/")
         if (out.returncode, out.stdout.decode(), out.stderr) != (0, due, b""):
             print(f"picked: {name}: {out.stdout.decode()!r} where {due!r} is due", file=sys.stderr)
             return 1

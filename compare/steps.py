@@ -13,7 +13,7 @@ import sys
 
 from compare.record import CALLS, OUTCOMES
 from compare.run import TOP
-from compare.terms import LIBRARY, OPENING, REPLAY, Terms, theorem, used_draws
+from compare.terms import LIBRARY, Terms, theorem, used_draws
 from reference.script import SHAPES, WITH_DRAWS, calls_of
 
 # ---- sizes
@@ -156,13 +156,11 @@ def left_out(steps, picked):
 
 
 # ---- files
-def module(runs, own, what):
-    """The text of a proof file; `own` says whether it is one of the first crate, which has the words of a replay."""
+def module(runs, what):
+    """The text of a proof file."""
     t = Terms()
     theorems = "\n".join(theorem(t, run) for run in runs)
-    words = {m: f"Rattle·{FIRST}·{m.split('.')[0]}.{m}" if own else f"Rattle·{FIRST}.{m}" for m in (REPLAY, OPENING)}
-    used = {words.get(m, m): names for m, names in t.used.items()}
-    uses = "".join(f"use {m}.{{{', '.join(sorted(names))}}}\n" for m, names in sorted(used.items()))
+    uses = "".join(f"use {m}.{{{', '.join(sorted(names))}}}\n" for m, names in sorted(t.used.items()))
     return f"-- {what}, computed. Written by compare/steps.py: not to be edited.\n{LIBRARY}{uses}\n{theorems}"
 
 
@@ -197,10 +195,10 @@ def once(text, pattern):
 # name, what it says, a pattern of its line, the part of the line to change, and what to put there
 EDITS = (
     ("another_answer", "a call is recorded to answer false", r"said true", r"said true", "said false"),
-    ("another_block", "a pick is recorded to give another block first", r"picked \(\(piece_block", r"piece_block \d+", "piece_block 9"),
-    ("fewer_draws", "a pick is recorded to use no draws", r"\) [1-9]\d*\)\) image-", r"\) \d+\)\) image-", ") 0)) image-"),
+    ("another_block", "a pick is recorded to give another block first", r"picked \(\(\w+ \d", r"(picked \(\(\w+) \d+", r"\1 9"),
+    ("fewer_draws", "a pick is recorded to use no draws", r"\) [1-9]\d*\)\) image_", r"\) \d+\)\) image_", ") 0)) image_"),
     ("another_image", "a piece in an image is recorded with another count", r"^    2 ∷ 0 ∷", r"2 ∷ 0", "2 ∷ 9"),
-    ("another_place", "an image is recorded to be at fault elsewhere", r"outcome \(not_done \(IllFormedImage", r"IllFormedImage ", "IllFormedImage 9"),
+    ("another_place", "an image is recorded to be at fault elsewhere", r"outcome \(\w+ \(IllFormedImage", r"IllFormedImage ", "IllFormedImage 9"),
 )
 
 
@@ -219,12 +217,12 @@ def edit_files(text):
 def files(picked):
     """Every file by its path: two runs in a crate of their own, which is small for its must-fail edits, and the others."""
     first = of_first(picked)
-    few = module(first, True, "Recorded calls, a few")
+    few = module(first, "Recorded calls, a few")
     out = {f"{FIRST}/proofs/Lib.antt": "pub mod Replaying\npub mod Steps\n", f"{FIRST}/proofs/Steps.antt": few, f"{REST}/proofs/Lib.antt": ""}
     for k, runs in enumerate(parts([run for run in picked if run not in first]), 1):
         out[f"{REST}/proofs/Lib.antt"] += f"pub mod Steps{k}\n"
         what = f"Recorded calls {runs[0][0].number} to {runs[-1][-1].number}, those that are replayed"
-        out[f"{REST}/proofs/Steps{k}.antt"] = module(runs, False, what)
+        out[f"{REST}/proofs/Steps{k}.antt"] = module(runs, what)
     return {os.path.join(TOP, "crates", path): text for path, text in (out | edit_files(few)).items()}
 
 

@@ -1,35 +1,31 @@
 """Recorded calls and their outcomes as terms of the definition, for compare/steps.py. Every name of the definition stands at the head;
-those of calls and questions are the script's with `-` for `_`."""
+those of calls and questions are the script's. A name is written as the definition's text spells it."""
+from compare.spelling import spelled
 from reference.calls import ENOUGH
 from reference.image import body_length
 from reference.questions import LISTS, LISTS_OF_PIECE, OF_BLOCK, OF_PIECE, OF_PLACE, WHOLE
 from reference.script import WITH_DRAWS
 
 # ---- names of the definition, by the module that they are imported from
-LIBRARY = """use mathlib.Core.Path.{_≡_, refl}
-use mathlib.Core.Bool.{true, false}
-use Prim.Native.Nat.{ℕ}
-use mathlib.Core.List.{List, [], _∷_}
-use mathlib.Core.Option.{none, some}
+LIBRARY = """use Rattle.std.specs.Prelude.{◌≡◌, refl, true, false, ℕ, List, [], ◌∷◌}
+use Rattle.std.proofs.Math.Option.{none, some}
 """
-ACTIONS = "Rattle·model.specs.Calls"
-QUESTIONS = "Rattle·model.specs.ask.Questions"
-BLOCKS = "Rattle·model.specs.pick.Blocks"
-REFUSALS = "Rattle·types.specs.declared.refusal.Refusal.the-variants"
+ACTIONS = "Rattle.model.specs.Calls"
+QUESTIONS = "Rattle.model.specs.ask.Questions"
+BLOCKS = "Rattle.model.specs.pick.Blocks"
+REFUSALS = "Rattle.types.specs.declared.refusal.Refusal.TheVariants"
 QUESTION, DONE, SAID, REPLIED, PICKED, REFUSED = "question", "done", "said", "replied", "picked", "refused"
 OF = {"of_picker": WHOLE, "list_of_picker": LISTS, "of_piece": OF_PIECE, "list_of_piece": LISTS_OF_PIECE, "of_block": OF_BLOCK}
 NUMBERS, NOTHING, STALE = "numbers", "nothing", "stale_list"
 PIECE_BLOCK = "piece_block"
-# questions whose name is that of a field, too
-MARKED = {"cursor", "reverse_cursor", "locked", "hashing", "dirty"}
 # of crates/replayed/specs/Replay.antt
-REPLAY = "specs.Replay"
+REPLAY = "Rattle.replayed.specs.Replay"
 NEW, READ, TAKE, CALL = "new_line", "read_line", "image_line", "call_line"
 STANDS, NOT_DONE, BYTES_TAKEN, ANSWERED = "stands", "not_done", "bytes_taken", "answered"
 OUTCOMES_OF, OUTCOME, WORDS, ASKING = "outcomes", "outcome", "words", "asking"
 PLENTY, LENDING = "plenty", "lending"
 # of crates/replayed/proofs/Replaying.antt
-OPENING, REPLAYING = "proofs.Replaying", "replaying"
+OPENING, REPLAYING = "Rattle.replayed.proofs.Replaying", "replaying"
 
 # places lent where the script lends enough, and the length of a buffer; `plenty` is three such
 MANY = 1000000
@@ -59,6 +55,7 @@ class Terms:
         self.used = {}
 
     def take(self, module, name):
+        name = spelled(module, name)
         self.used.setdefault(module, set()).add(name)
         return name
 
@@ -84,10 +81,6 @@ class Terms:
         return "none" if value is None else f"(some {value})"
 
 
-def kebab(name):
-    return name.replace("_", "-") + ("?" if name in MARKED else "")
-
-
 def lent(value):
     return MANY if value == ENOUGH else value
 
@@ -106,10 +99,10 @@ def words(t, step):
 def question(t, step):
     name, args = step.call.name, step.call.args
     if name in OF_PLACE:
-        return t.call(t.take(QUESTIONS, kebab(name)), *args)
+        return t.call(t.take(QUESTIONS, name), *args)
     of = next(of for of, table in OF.items() if name in table)
     room = [lent(step.call.room)] if name in LISTS or name in LISTS_OF_PIECE else []
-    return t.call(t.take(QUESTIONS, of), t.take(QUESTIONS, kebab(name)), *args, *room)
+    return t.call(t.take(QUESTIONS, of), t.take(QUESTIONS, name), *args, *room)
 
 
 def action(t, step):
@@ -119,10 +112,10 @@ def action(t, step):
     if name == "pick_pieces":
         options, wanted, run, peers, peer, bits, data, suggestions = args
         ask = t.call(t.take(REPLAY, ASKING), options, wanted, run, peers, t.option(peer), bits, t.numbers(data), t.numbers(suggestions))
-        return t.call(t.take(ACTIONS, kebab(name)), ask, step.call.free, words(t, step))
+        return t.call(t.take(ACTIONS, name), ask, step.call.free, words(t, step))
     peer_at = 2 if name in WITH_PEER else None
     terms = [t.option(a) if k == peer_at else a for k, a in enumerate(args)]
-    return t.call(t.take(ACTIONS, kebab(name)), *terms, *([words(t, step)] if name in WITH_DRAWS else []))
+    return t.call(t.take(ACTIONS, name), *terms, *([words(t, step)] if name in WITH_DRAWS else []))
 
 
 def memory(t, step):
@@ -204,7 +197,7 @@ def images(t, run):
     made, names, last = [], [], None
     for step in run:
         if last is None or step.image != last:
-            names.append(f"image-{step.number}" if step.image else "[]")
+            names.append(f"image_{step.number}" if step.image else "[]")
             if step.image:
                 made.append(f"abbrev {names[-1]} : List ℕ\n{names[-1]} =\n{t.records(bytes.fromhex(step.image))}\n")
         else:
@@ -219,6 +212,6 @@ def theorem(t, run):
     lines = "\n    ∷ ".join([line(t, step, name) for step, name in zip(run, names)] + ["[]"])
     ends = "\n    ∷ ".join([f"{t.take(REPLAY, OUTCOME)} {given(t, step)} {name}" for step, name in zip(run, names)] + ["[]"])
     statement = f"    {t.take(REPLAY, OUTCOMES_OF)} none\n    ({lines})\n    ≡ {ends}\n"
-    proof = f"unfolding {t.take(OPENING, REPLAYING)}\ncalls-{first} = refl\n"
+    proof = f"unfolding {t.take(OPENING, REPLAYING)}\ncalls_{first} = refl\n"
     calls = f"calls {first} to {last}" if first < last else f"call {first}"
-    return "\n".join(made + [f"-- {calls}\ncalls-{first} :\n{statement}{proof}"])
+    return "\n".join(made + [f"-- {calls}\ncalls_{first} :\n{statement}{proof}"])

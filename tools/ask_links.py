@@ -1,7 +1,9 @@
 """The exports of the questions, written from the questions themselves: an export takes the geometry in numbers, asks what its question
-asks and answers what that answers. An enum becomes a kind and a number, which a definition reads back; its proof hands that on."""
+asks and answers what that answers. An enum becomes a kind and a number, which a definition reads back."""
 
 import re
+
+from compare.spelling import spelled
 
 # link crate: its modules, each of a source file of a crate and the questions there
 LINKS = {
@@ -50,37 +52,27 @@ SHAPE = """    let s = Shape {
 """
 
 FUNCTION = """
-#[no_mangle]
+#[unsafe(no_mangle)]
 {signature}
 {clauses}{{
 {shape}    {call}
 }}
 """
 
-PROOF = """-- `aq_{name}` asks what `{name}` asks, and hands its answer on as a kind and a number. Assumes nothing.
--- Written by tools/asks.py, and not by hand.
-use borrow.Author.Needs.{{needs}}
-use Rattle·{link}·proofs.proofs.{module}.aq_{name}.Statement.{{statement}}
-use Rattle·{link}·proofs.proofs.{module}.aq_{name}.Tie as tie
+def shaped(link):
+    """The definition of the shape that a geometry in numbers has."""
+    return spelled(f'Rattle.{link}.specs.Lending', 'shaped')
 
-{below}-requires : tie.Need-{below}-requires
-{below}-requires c κs = search needs
 
-{told}-requires : tie.Need-{told}-requires
-{told}-requires c κs = search needs
-
-returns : tie.Need-returns
-returns c = rw (c .{told} .ensures) (c .before .{below} .ensures)
-
-pub aq-{below}-spec : {{M : Type 1}} → statement M
-aq-{below}-spec = tie.close (tie.spec {below}-requires {told}-requires returns)
-"""
+def told_back(link, enum):
+    """The definition that reads a kind and a number back as a value of the enum."""
+    return spelled(f'Rattle.{link}.specs.Answers', ENUMS[enum][1])
 
 
 class Export:
     """One question of a source, as a caller in C asks it."""
 
-    def __init__(self, text, crate, name):
+    def __init__(self, text, link, crate, name):
         pattern = r'(?ms)^pub fn {}\((.*?)\)(?: -> (\w+))?\n(.*?)^\{{\n'.format(name)
         parameters, self.answer, self.clauses = re.search(pattern, text).groups()
         self.name, self.enum = name, self.answer if self.answer in ENUMS else None
@@ -89,23 +81,18 @@ class Export:
         self.shape = 's: Shape' in self.parameters
         if self.shape:
             self.parameters[self.parameters.index('s: Shape')] = 'g: Geometry'
-            self.clauses = re.sub(r'(?<![^ (])s(?= \.)', 'g', self.clauses)
-            self.clauses = re.sub(r'(?<![^ (])s(?=[ )])(?! \.)', '(shaped g)', self.clauses)
+            self.clauses = re.sub(r'(?<![^ (])s(?=\.\w)', 'g', self.clauses)
+            self.clauses = re.sub(r'(?<![^ (])s(?=[ )])', f'({shaped(link)} g)', self.clauses)
         if self.enum:
-            told, back = ENUMS[self.enum]
+            told = ENUMS[self.enum][0]
             self.answer, self.call = 'Told', f'{told}({self.call})'
-            self.clauses = re.sub(r'(?<=[ (])r(?=[ )\n])', f'({back} r)', self.clauses)
+            self.clauses = re.sub(r'(?<=[ (])result(?=[ )\n])', f'({told_back(link, self.enum)} result)', self.clauses)
         elif not self.answer:
             self.call += ';'
 
     def signature(self):
-        """As the formatter lays it out."""
         arrow = f' -> {self.answer}' if self.answer else ''
-        start = f'pub extern "C" fn aq_{self.name}('
-        line = f'{start}{", ".join(self.parameters)}){arrow}'
-        if len(line) <= 100:
-            return line
-        return start + '\n' + ''.join(f'    {p},\n' for p in self.parameters) + f'){arrow}'
+        return f'pub extern "C" fn aq_{self.name}({", ".join(self.parameters)}){arrow}'
 
     def text(self):
         return FUNCTION.format(signature=self.signature(), clauses=self.clauses, shape=SHAPE if self.shape else '', call=self.call)
@@ -116,15 +103,15 @@ def uses(text, link, crate, exports):
     types = {f'use {w};' for e in exports if e.shape for w in ('link_lists::Geometry', 'memory_layout::Shape')}
     types |= {f'use crate::answers::{w};' for e in exports if e.enum for w in ('Told', ENUMS[e.enum][0])}
     types |= {f'use {crate}::{e.answer};' for e in exports if e.answer and e.answer[0].isupper() and not e.enum}
-    words = set(re.findall(r'[^\s(){}⌜⌝]+', ''.join(e.clauses for e in exports)))
+    words = set(re.findall(r'[^\s(){}.,;]+', ''.join(e.clauses for e in exports)))
     ghosts = []
     for module, names in re.findall(r'(?m)^ghost use (.+)\.\{(.*)\};$', text):
-        cited = [n for n in names.split(', ') if n in words or n.startswith('_') and n.strip('_') in words]
+        cited = [n for n in names.split(', ') if n in words or n.startswith('◌') and n.strip('◌') in words]
         if cited:
-            ghosts.append((module.replace(f'Rattle·{crate}·specs.specs', f'Rattle·{crate}.specs'), cited))
-    told = [ENUMS[e][1] for e in ENUMS if e in {x.enum for x in exports}]
-    ghosts += [(f'Rattle·{link}·specs.specs.Lending', ['shaped'])] if 'shaped' in words else []
-    ghosts += [(f'Rattle·{link}·specs.specs.Answers', told)] if told else []
+            ghosts.append((module, cited))
+    told = [told_back(link, e) for e in ENUMS if e in {x.enum for x in exports}]
+    ghosts += [(f'Rattle.{link}.specs.Lending', [shaped(link)])] if any(e.shape and shaped(link) in e.clauses for e in exports) else []
+    ghosts += [(f'Rattle.{link}.specs.Answers', told)] if told else []
     return '\n'.join(sorted(types) + [f'ghost use {m}.{{{", ".join(ns)}}};' for m, ns in ghosts]) + '\n'
 
 
@@ -134,14 +121,8 @@ def files(root):
     for link, modules in LINKS.items():
         for module, (crate, source, names) in modules.items():
             text = (root / f'crates/{crate}/src/{source}.rt').read_text()
-            exports = [Export(text, crate, name) for name in names.split()]
-            made[root / f'crates/{link}/src/{module}.rt'] = SOURCE.format(
+            exports = [Export(text, link, crate, name) for name in names.split()]
+            made[f'crates/{link}/src/{module}.rt'] = SOURCE.format(
                 below=crate, uses=uses(text, link, crate, exports), functions=''.join(e.text() for e in exports).lstrip('\n')
             )
-            for e in exports:
-                if e.enum and 'out: &mut [u64]' not in e.parameters:
-                    below, told = e.name.replace('_', '-'), ENUMS[e.enum][0]
-                    made[root / f'crates/{link}/proofs/{module}/aq_{e.name}/Proof.antt'] = PROOF.format(
-                        link=link, module=module, name=e.name, below=below, told=told
-                    )
     return made

@@ -1,5 +1,6 @@
 #!/usr/bin/env python3
-"""Writes the exports: a function for C of each public call, its contract, which is the public call's, and its proof.
+"""Writes the exports: a function for C of each public call, with its contract, which is the public call's. Proofs are not its own, nor what
+a source says to the prover alone (public/layout, `kept`).
 
     tools/exports.py            writes them
     tools/exports.py --check    says which differ from what would be written, and fails where one does
@@ -9,9 +10,10 @@ The prover checks what is written here: nothing of this tool is trusted."""
 import pathlib
 import sys
 
-from export.files import files
-
 ROOT = pathlib.Path(__file__).resolve().parent.parent
+sys.path.insert(0, str(ROOT))
+
+from export.files import files
 
 
 def main(args):

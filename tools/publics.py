@@ -1,7 +1,7 @@
 #!/usr/bin/env python3
-"""Writes the public questions that answer a value: sources, definitions of their answers and proofs, which differ in names alone. What a
-question asks of its caller and what its answer is are read from the question below (`ask_..`). Of those that fill a lent list it writes
-what is alike.
+"""Writes the public questions that answer a value: sources, and definitions of their answers, which differ in names alone. What a question
+asks of its caller and what its answer is are read from the question below (`ask_..`). Of those that fill a lent list it writes what is
+alike. Proofs are not its own, nor what a source says to the prover alone (public/layout, `kept`).
 
     tools/publics.py            writes them
     tools/publics.py --check    says which differ from what would be written, and fails where one does
@@ -11,12 +11,13 @@ The prover checks what is written here: nothing of this tool is trusted."""
 import pathlib
 import sys
 
-from public.layout import formatted
+ROOT = pathlib.Path(__file__).resolve().parent.parent
+sys.path.insert(0, str(ROOT))
+
+from public.layout import as_they_stand
 from public.lists import list_files
 from public.questions import crate_files
 from public.table import CRATES
-
-ROOT = pathlib.Path(__file__).resolve().parent.parent
 
 
 def files():
@@ -24,7 +25,7 @@ def files():
     made = list_files()
     for crate in CRATES:
         made |= crate_files(ROOT, crate)
-    return {ROOT / name: text for name, text in formatted(made).items()}
+    return as_they_stand(ROOT, made)
 
 
 def main(args):

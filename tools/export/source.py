@@ -4,25 +4,20 @@ import re
 from collections import namedtuple
 
 Call = namedtuple('Call', 'name remark params answer contract uses crate')
-FUNCTION = re.compile(r'((?://[^\n]*\n)*)pub fn (\w+)\((.*?)\) -> (\w+)\n    ensures \{ λ r\. ⌜ (.*?) ⌝ \}\n\{', re.S)
+FUNCTION = re.compile(
+    r'((?://[^\n]*\n)*)(?:#\[.*?\]\n)*pub fn (\w+)\(([^)]*)\) -> (\w+)\n    ensures(?: \w+)? \{ ((?:(?!\n\{).)*?) \}\n\{', re.S)
 USE = re.compile(r'^ghost use (\S+?)\.\{([^}]*)\};', re.M)
 
 
-def abroad(module, crate):
-    """A module of a crate's own definitions as another crate names it."""
-    return module.replace(f'Rattle·{crate}·specs.specs', f'Rattle·{crate}.specs')
-
-
-def ghost_uses(text, crate):
+def ghost_uses(text):
     """The module that each name of the contracts comes from; one under another name with that."""
-    return {name.split(' as ')[-1].strip(): (abroad(module, crate), name.strip())
-            for module, names in USE.findall(text) for name in names.split(',')}
+    return {name.split(' as ')[-1].strip(): (module, name.strip()) for module, names in USE.findall(text) for name in names.split(',')}
 
 
 def calls(root, crate, module):
     """The public calls with lent records of one source."""
     text = (root / f'crates/{crate}/src/{module}.rt').read_text()
-    uses = ghost_uses(text, crate)
+    uses = ghost_uses(text)
     out = []
     for remark, name, params, answer, contract in FUNCTION.findall(text):
         pairs = [tuple(p.strip().split(': ', 1)) for p in params.split(',') if p.strip()]
@@ -33,14 +28,9 @@ def calls(root, crate, module):
 
 def token(name):
     """A pattern for a name that stands by itself."""
-    return rf'(?<![\w\-.«·]){re.escape(name)}(?![\w\-»·′])'
-
-
-def escaped(name):
-    """A parameter's name in a clause."""
-    return f'«{name}»' if '_' in name else name
+    return rf"(?<![\w\-.«·]){re.escape(name)}(?![\w\-»·'])"
 
 
 def words_of(text):
     """The names that stand in a clause."""
-    return set(re.findall(r"[^\s()\[\]{},.;]+", text))
+    return set(re.findall(r'[^\s()\[\]{},.;]+', text))

@@ -45,58 +45,48 @@ CRATES = {
     }),
 }
 
-# How an answer is written: the function, the struct with its record of types, the definition that it equals, what the struct says, and the
-# law that both agree; the record of types of the public answer
-Answer = namedtuple('Answer', 'function struct value home coded reads back public')
+# How an answer is written: the function, the struct, the module of the definition that it equals and its name, and what the struct says
+Answer = namedtuple('Answer', 'function struct home coded reads')
 
 
-def reply(name, enum, crate, value):
+def reply(name):
     """An answer of one number at most."""
-    camel = ''.join(w.capitalize() for w in name.split('_'))
-    low = camel[0].lower() + camel[1:]
-    return Answer('of_' + name, 'Answered', 'answered', 'Replies', 'of' + camel, low + 'In', name.replace('_', '-') + '-back', (crate, value))
+    return Answer('of_' + name, 'Answered', 'Replies', 'of_' + name, name + '_in')
 
 
-def several(name, struct, value, home, crate, public):
+def several(name, struct, home):
     """An answer of several numbers."""
-    return Answer('of_' + name, struct, value, home, 'of' + name.capitalize(), name + 'In', name + '-back', (crate, public))
+    return Answer('of_' + name, struct, home, 'of_' + name, name + '_in')
 
 
 ANSWERS = {
-    'NumberAnswer': reply('number', 'NumberAnswer', 'picker_answers', 'number'),
-    'FlagAnswer': reply('flag', 'FlagAnswer', 'picker_answers', 'flag'),
-    'PlaceAnswer': reply('place', 'PlaceAnswer', 'picker_questions', 'place'),
-    'PartialFlagAnswer': reply('partial_flag', 'PartialFlagAnswer', 'picker_partial_questions', 'partial_flag'),
-    'BlockNumberAnswer': reply('block_number', 'BlockNumberAnswer', 'picker_block_questions', 'block_number'),
-    'PeerAnswer': reply('peer', 'PeerAnswer', 'picker_block_questions', 'peer'),
-    'ListAnswer': reply('list', 'ListAnswer', 'picker_lists', 'list'),
-    'Making': reply('making', 'Making', 'picker_images', 'making'),
-    'ImageTaken': reply('image', 'ImageTaken', 'picker_images', 'image_taken'),
-    'Outcome': several('outcome', 'Changed', 'changed', 'Changes', 'picker_calls', 'outcome'),
-    'CopiesAnswer': several('copies', 'Copied', 'copied', 'Records', 'picker_questions', 'copies'),
-    'CountAnswer': several('count', 'Counted', 'counted', 'Records', 'picker_totals', 'count'),
-    'SizesAnswer': several('sizes', 'Sized', 'sized', 'Records', 'picker_totals', 'sizes'),
-    'StatsAnswer': several('stats', 'Stats', 'stats', 'Records', 'picker_piece_questions', 'stats'),
-    'InfoAnswer': several('info', 'Info', 'info', 'Records', 'picker_partial_questions', 'info'),
-    'PickOutcome': several('pick', 'PickAnswered', 'picked', 'Picks', 'picker_pick', 'pick_outcome'),
+    'NumberAnswer': reply('number'),
+    'FlagAnswer': reply('flag'),
+    'PlaceAnswer': reply('place'),
+    'PartialFlagAnswer': reply('partial_flag'),
+    'BlockNumberAnswer': reply('block_number'),
+    'PeerAnswer': reply('peer'),
+    'ListAnswer': reply('list'),
+    'Making': reply('making'),
+    'ImageTaken': reply('image'),
+    'Outcome': several('outcome', 'Changed', 'Changes'),
+    'CopiesAnswer': several('copies', 'Copied', 'Records'),
+    'CountAnswer': several('count', 'Counted', 'Records'),
+    'SizesAnswer': several('sizes', 'Sized', 'Records'),
+    'StatsAnswer': several('stats', 'Stats', 'Records'),
+    'InfoAnswer': several('info', 'Info', 'Records'),
+    'PickOutcome': several('pick', 'PickAnswered', 'Picks'),
 }
 
-# How an argument is made of numbers: its type in C, the function, the definition that it equals, and the records of types of what is given
-# and of what is made; `declared` is the module of the type that is made
-Argument = namedtuple('Argument', 'type function conv given made declared')
-SIGNED = 'signed w32'
+# How an argument is made of numbers: its type in C, the function, and the definition that it equals
+Argument = namedtuple('Argument', 'type function conv')
 
 ARGUMENTS = {
-    'PieceIndex': Argument('i32', 'piece', 'pieceOf', SIGNED, ('picker_calls', 'piece'), 'types.specs.declared.piece.PieceIndex'),
-    'i32': Argument('i32', 'place', '', SIGNED, None, None),
-    'PieceBlock': Argument('BlockPlace', 'block_of', 'blockOf', 'block', ('picker_answers', 'block'),
-                           'types.specs.declared.piece.PieceBlock'),
-    'BlockPeer': Argument('NamedBlock', 'named', 'named_block', 'named', ('picker_blocks', 'block_peer'),
-                          'picker_blocks.specs.declared.arguments.BlockPeer'),
-    'BlockRequest': Argument('RequestedBlock', 'requested', 'requested_block', 'requested', ('picker_blocks', 'block_request'),
-                             'picker_blocks.specs.declared.arguments.BlockRequest'),
-    'PiecePriority': Argument('PriorityOf', 'priority_of', 'priority_of', 'priority', ('picker_flags', 'piece_priority'),
-                              'picker_flags.specs.declared.priorities.PiecePriority'),
-    'PickInput': Argument('PickAsked', 'asked', 'pick_asked', 'asked', ('picker_pick', 'input'),
-                          'pick_judge.specs.declared.arguments.PickInput'),
+    'PieceIndex': Argument('i32', 'piece', 'piece_of'),
+    'i32': Argument('i32', 'place', ''),
+    'PieceBlock': Argument('BlockPlace', 'block_of', 'block_of'),
+    'BlockPeer': Argument('NamedBlock', 'named', 'named_block'),
+    'BlockRequest': Argument('RequestedBlock', 'requested', 'requested_block'),
+    'PiecePriority': Argument('PriorityOf', 'priority_of', 'priority_of'),
+    'PickInput': Argument('PickAsked', 'asked', 'pick_asked'),
 }

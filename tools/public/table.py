@@ -6,28 +6,22 @@ from collections import namedtuple
 Crate = namedtuple('Crate', 'name comment modules')
 Module = namedtuple('Module', 'name comment crate source questions')
 
-# a kind of question: the parameter that names what is asked of; the statements that make numbers of it; the calls in them, each with the
-# number that it gives, how many steps of the refused arm's proof lead back to it and, for a number with a sign, to the parameters and
-# which one it is; the function that admits the question; what this takes beside the memory; the definition's question, of its name and
-# the numbers
-Kind = namedtuple('Kind', 'parameter type lets calls admit arguments question')
-Number = namedtuple('Number', 'call name steps signed')
+# a kind of question: the parameter that names what is asked of; the statements that make numbers of it; the function that admits the
+# question; what this takes beside the memory; the definition's constructor, if it has one, and its question, of its name and the numbers
+Kind = namedtuple('Kind', 'parameter type lets admit arguments of question')
 
-PICKER = Kind('', '', [], [], 'admit_picker', [], 'of_picker {q}')
-PIECE = Kind('piece', 'PieceIndex', ['let i = piece.number();'], [Number('number', 'i', 6, None)], 'admit_piece', ['i'],
-             'of_piece {q} ({i})')
-BLOCK = Kind('block', 'PieceBlock', ['let i = block.piece_index.number();', 'let j = i32_to_usize(block.block_index);'],
-             [Number('number', 'i', 8, None), Number('i32-to-usize', 'j', 6, (12, 'block .«block_index»'))], 'admit_block', ['i', 'j'],
-             'of_block {q} ({i}) ({j})')
-ANY_PLACE = Kind('place', 'i32', ['let k = i32_to_usize(place);'], [Number('i32-to-usize', 'k', 6, (10, 'place'))], 'admit_picker', [],
-                 '{q} ({k})')
+PICKER = Kind('', '', [], 'admit_picker', [], 'of_picker', '{of} {q}')
+PIECE = Kind('piece', 'PieceIndex', ['let i = piece.number();'], 'admit_piece', ['i'], 'of_piece', '{of} {q} ({i})')
+BLOCK = Kind('block', 'PieceBlock', ['let i = block.piece_index.number();', 'let j = i32_to_usize(block.block_index);'], 'admit_block',
+             ['i', 'j'], 'of_block', '{of} {q} ({i}) ({j})')
+ANY_PLACE = Kind('place', 'i32', ['let k = i32_to_usize(place);'], 'admit_picker', [], None, '{q} ({k})')
 LIST_PLACE = ANY_PLACE._replace(admit='admit_place', arguments=['k'])
 
 # what a number of the definition is of a parameter
 NUMBERS = {
-    'PIECE': {'i': 'numberOf (piece .0)'},
-    'BLOCK': {'i': 'numberOf (block .«piece_index» .0)', 'j': 'numberOf (block .«block_index»)'},
-    'PLACE': {'k': 'numberOf place'},
+    'PIECE': {'i': '{number_of} piece.0'},
+    'BLOCK': {'i': '{number_of} block.piece_index.0', 'j': '{number_of} block.block_index'},
+    'PLACE': {'k': '{number_of} place'},
 }
 
 # an answer by the definition that makes a reply of it: the name of its enum and definition, the type that is answered, its comment; where
@@ -90,6 +84,3 @@ CRATES = [
               Module('peers', 'The peer of a block.', 'ask_block', 'peers', 'get_downloader block_peer'),
           ]),
 ]
-
-# questions that the definition names otherwise than with a hyphen for each underscore
-NAMED = {'cursor': 'cursor?', 'reverse_cursor': 'reverse_cursor?', 'dirty': 'dirty?', 'locked': 'locked?', 'hashing': 'hashing?'}

@@ -24,8 +24,7 @@ pub extern "C" fn pp_get_downloaders(
     piece: i32,
 ) -> Answered
     ensures { Says of_list list_in (λ o. Listed 2 tell_peers (lending words.now cells.now partials.now)
-        (list_of_piece get_downloaders (number_of (piece_of piece).0) (length out.old / 2)) out.old out.new o)
-        result }
+        (list_of_piece get_downloaders (number_of (piece_of piece).0) (length out.old / 2)) out.old out.new o) result }
 {
     of_list(get_downloaders(words, cells, partials, out, export_arguments::piece(piece)))
 }
@@ -39,9 +38,8 @@ pub extern "C" fn pp_blocks_for_piece(
     out: &mut [u64],
     piece: i32,
 ) -> Answered
-    ensures { Says of_list list_in (λ o. Listed 4 tell_blocks (lending words.now cells.now
-        partials.now) (list_of_piece blocks_for_piece (number_of (piece_of piece).0) (length out.old / 4))
-        out.old out.new o) result }
+    ensures { Says of_list list_in (λ o. Listed 4 tell_blocks (lending words.now cells.now partials.now)
+        (list_of_piece blocks_for_piece (number_of (piece_of piece).0) (length out.old / 4)) out.old out.new o) result }
 {
     of_list(blocks_for_piece(words, cells, partials, out, export_arguments::piece(piece)))
 }

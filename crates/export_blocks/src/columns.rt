@@ -20,8 +20,8 @@ pub extern "C" fn pp_get_availability_vec(
     partials: &[DownloadingPiece],
     out: &mut [u16],
 ) -> Answered
-    ensures { Says of_list list_in (λ o. Listed 1 tell_numbers (lending words.now cells.now
-        partials.now) (list_of_picker get_availability_vec (length out.old)) out.old out.new o) result }
+    ensures { Says of_list list_in (λ o. Listed 1 tell_numbers (lending words.now cells.now partials.now)
+        (list_of_picker get_availability_vec (length out.old)) out.old out.new o) result }
 {
     of_list(get_availability_vec(words, cells, partials, out))
 }
@@ -33,8 +33,8 @@ pub extern "C" fn pp_piece_priorities(
     partials: &[DownloadingPiece],
     out: &mut [u16],
 ) -> Answered
-    ensures { Says of_list list_in (λ o. Listed 1 tell_numbers (lending words.now cells.now
-        partials.now) (list_of_picker piece_priorities (length out.old)) out.old out.new o) result }
+    ensures { Says of_list list_in (λ o. Listed 1 tell_numbers (lending words.now cells.now partials.now)
+        (list_of_picker piece_priorities (length out.old)) out.old out.new o) result }
 {
     of_list(piece_priorities(words, cells, partials, out))
 }

@@ -25,9 +25,8 @@ pub extern "C" fn pp_get_downloader(
     partials: &[DownloadingPiece],
     block: BlockPlace,
 ) -> Answered
-    ensures { Says of_peer peer_in (λ o. peer_answer o ≡ answer_on (lending words.now cells.now
-        partials.now) (question (of_block get_downloader (number_of (block_of block).piece_index.0)
-        (number_of (block_of block).block_index)))) result }
+    ensures { Says of_peer peer_in (λ o. peer_answer o ≡ answer_on (lending words.now cells.now partials.now)
+        (question (of_block get_downloader (number_of (block_of block).piece_index.0) (number_of (block_of block).block_index)))) result }
 {
     of_peer(get_downloader(words, cells, partials, export_arguments::block_of(block)))
 }
@@ -39,9 +38,8 @@ pub extern "C" fn pp_block_peer(
     partials: &[DownloadingPiece],
     block: BlockPlace,
 ) -> Answered
-    ensures { Says of_peer peer_in (λ o. peer_answer o ≡ answer_on (lending words.now cells.now
-        partials.now) (question (of_block block_peer (number_of (block_of block).piece_index.0)
-        (number_of (block_of block).block_index)))) result }
+    ensures { Says of_peer peer_in (λ o. peer_answer o ≡ answer_on (lending words.now cells.now partials.now)
+        (question (of_block block_peer (number_of (block_of block).piece_index.0) (number_of (block_of block).block_index)))) result }
 {
     of_peer(block_peer(words, cells, partials, export_arguments::block_of(block)))
 }

@@ -29,8 +29,7 @@ pub extern "C" fn pp_num_peers_block(
     partials: &[DownloadingPiece],
     block: BlockPlace,
 ) -> Answered
-    ensures { Says of_number number_in (λ o. number_answer o ≡ answer_on
-        (lending words.now cells.now partials.now)
+    ensures { Says of_number number_in (λ o. number_answer o ≡ answer_on (lending words.now cells.now partials.now)
         (question (of_block num_peers_block (number_of (block_of block).piece_index.0) (number_of (block_of block).block_index)))) result }
 {
     of_number(num_peers_block(words, cells, partials, export_arguments::block_of(block)))
@@ -43,9 +42,8 @@ pub extern "C" fn pp_is_requested(
     partials: &[DownloadingPiece],
     block: BlockPlace,
 ) -> Answered
-    ensures { Says of_flag flag_in (λ o. flag_answer o ≡ answer_on (lending words.now cells.now
-        partials.now) (question (of_block is_requested (number_of (block_of block).piece_index.0)
-        (number_of (block_of block).block_index)))) result }
+    ensures { Says of_flag flag_in (λ o. flag_answer o ≡ answer_on (lending words.now cells.now partials.now)
+        (question (of_block is_requested (number_of (block_of block).piece_index.0) (number_of (block_of block).block_index)))) result }
 {
     of_flag(is_requested(words, cells, partials, export_arguments::block_of(block)))
 }
@@ -58,9 +56,8 @@ pub extern "C" fn pp_is_downloaded(
     partials: &[DownloadingPiece],
     block: BlockPlace,
 ) -> Answered
-    ensures { Says of_flag flag_in (λ o. flag_answer o ≡ answer_on (lending words.now cells.now
-        partials.now) (question (of_block is_downloaded (number_of (block_of block).piece_index.0)
-        (number_of (block_of block).block_index)))) result }
+    ensures { Says of_flag flag_in (λ o. flag_answer o ≡ answer_on (lending words.now cells.now partials.now)
+        (question (of_block is_downloaded (number_of (block_of block).piece_index.0) (number_of (block_of block).block_index)))) result }
 {
     of_flag(is_downloaded(words, cells, partials, export_arguments::block_of(block)))
 }
@@ -73,9 +70,8 @@ pub extern "C" fn pp_is_finished_block(
     partials: &[DownloadingPiece],
     block: BlockPlace,
 ) -> Answered
-    ensures { Says of_flag flag_in (λ o. flag_answer o ≡ answer_on (lending words.now cells.now
-        partials.now) (question (of_block is_finished_block (number_of (block_of block).piece_index.0)
-        (number_of (block_of block).block_index)))) result }
+    ensures { Says of_flag flag_in (λ o. flag_answer o ≡ answer_on (lending words.now cells.now partials.now)
+        (question (of_block is_finished_block (number_of (block_of block).piece_index.0) (number_of (block_of block).block_index)))) result }
 {
     of_flag(is_finished_block(words, cells, partials, export_arguments::block_of(block)))
 }
@@ -89,8 +85,8 @@ pub extern "C" fn pp_block_state(
     block: BlockPlace,
 ) -> Answered
     ensures { Says of_block_number block_number_in (λ o. block_number_answer o
-        ≡ answer_on (lending words.now cells.now partials.now)
-        (question (of_block block_state (number_of (block_of block).piece_index.0) (number_of (block_of block).block_index)))) result }
+        ≡ answer_on (lending words.now cells.now partials.now) (question
+        (of_block block_state (number_of (block_of block).piece_index.0) (number_of (block_of block).block_index)))) result }
 {
     of_block_number(block_state(words, cells, partials, export_arguments::block_of(block)))
 }
@@ -103,8 +99,8 @@ pub extern "C" fn pp_block_num_peers(
     block: BlockPlace,
 ) -> Answered
     ensures { Says of_block_number block_number_in (λ o. block_number_answer o
-        ≡ answer_on (lending words.now cells.now partials.now)
-        (question (of_block block_num_peers (number_of (block_of block).piece_index.0) (number_of (block_of block).block_index)))) result }
+        ≡ answer_on (lending words.now cells.now partials.now) (question
+        (of_block block_num_peers (number_of (block_of block).piece_index.0) (number_of (block_of block).block_index)))) result }
 {
     of_block_number(block_num_peers(words, cells, partials, export_arguments::block_of(block)))
 }

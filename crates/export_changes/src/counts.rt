@@ -24,8 +24,7 @@ pub extern "C" fn pp_inc_refcount(
     piece: i32,
 ) -> Changed
     ensures { Says of_outcome outcome_in (λ o. Called (lending words.old cells.old partials.old)
-        (do_inc_refcount (number_of (piece_of piece).0) draws.now)
-        (lending words.new cells.new partials.new) (outcome o)) result }
+        (do_inc_refcount (number_of (piece_of piece).0) draws.now) (lending words.new cells.new partials.new) (outcome o)) result }
 {
     of_outcome(inc_refcount(
         words,
@@ -46,8 +45,7 @@ pub extern "C" fn pp_dec_refcount(
     piece: i32,
 ) -> Changed
     ensures { Says of_outcome outcome_in (λ o. Called (lending words.old cells.old partials.old)
-        (do_dec_refcount (number_of (piece_of piece).0) draws.now)
-        (lending words.new cells.new partials.new) (outcome o)) result }
+        (do_dec_refcount (number_of (piece_of piece).0) draws.now) (lending words.new cells.new partials.new) (outcome o)) result }
 {
     of_outcome(dec_refcount(
         words,

@@ -1,8 +1,8 @@
 // A piece locked or passed.
 // Written by tools/exports.py, and not by hand.
 ghost use Rattle.picker_calls.specs.Calling.{Called};
-ghost use Rattle.picker_calls.specs.Cores.{lending};
 ghost use Rattle.model.specs.Calls.{do_lock_piece, do_piece_passed};
+ghost use Rattle.picker_calls.specs.Cores.{lending};
 ghost use Rattle.types.specs.Piece.{number_of};
 ghost use Rattle.picker_calls.specs.Outcomes.{outcome};
 ghost use Rattle.export_arguments.specs.Arguments.{piece_of};

@@ -1,10 +1,10 @@
 // A priority set.
 // Written by tools/exports.py, and not by hand.
 ghost use Rattle.picker_calls.specs.Calling.{Called};
+ghost use Rattle.model.specs.Calls.{do_set_piece_priority};
 ghost use Rattle.picker_calls.specs.Cores.{lending};
 ghost use Rattle.types.specs.Piece.{number_of};
 ghost use Rattle.picker_calls.specs.Outcomes.{outcome};
-ghost use Rattle.model.specs.Calls.{do_set_piece_priority};
 ghost use Rattle.export_arguments.specs.Arguments.{priority_of};
 ghost use Rattle.export_answers.specs.Changes.{of_outcome};
 ghost use Rattle.export_answers.specs.Back.{outcome_in};

@@ -1,8 +1,8 @@
 // A block marked as writing.
 // Written by tools/exports.py, and not by hand.
 ghost use Rattle.picker_calls.specs.Calling.{Called};
-ghost use Rattle.picker_calls.specs.Cores.{lending};
 ghost use Rattle.model.specs.Calls.{do_mark_as_writing};
+ghost use Rattle.picker_calls.specs.Cores.{lending};
 ghost use Rattle.picker_blocks.specs.Arguments.{on_block};
 ghost use Rattle.picker_calls.specs.Outcomes.{outcome};
 ghost use Rattle.export_arguments.specs.Arguments.{named_block};
@@ -25,8 +25,7 @@ pub extern "C" fn pp_mark_as_writing(
     named: NamedBlock,
 ) -> Changed
     ensures { Says of_outcome outcome_in (λ o. Called (lending words.old cells.old partials.old)
-        (on_block do_mark_as_writing (named_block named) draws.now)
-        (lending words.new cells.new partials.new) (outcome o)) result }
+        (on_block do_mark_as_writing (named_block named) draws.now) (lending words.new cells.new partials.new) (outcome o)) result }
 {
     of_outcome(mark_as_writing(
         words,

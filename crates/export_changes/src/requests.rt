@@ -24,8 +24,7 @@ pub extern "C" fn pp_mark_as_downloading(
     request: RequestedBlock,
 ) -> Changed
     ensures { Says of_outcome outcome_in (λ o. Called (lending words.old cells.old partials.old)
-        (downloading (requested_block request) draws.now) (lending words.new cells.new partials.new)
-        (outcome o)) result }
+        (downloading (requested_block request) draws.now) (lending words.new cells.new partials.new) (outcome o)) result }
 {
     of_outcome(mark_as_downloading(
         words,

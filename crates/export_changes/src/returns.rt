@@ -25,8 +25,7 @@ pub extern "C" fn pp_abort_download(
     named: NamedBlock,
 ) -> Changed
     ensures { Says of_outcome outcome_in (λ o. Called (lending words.old cells.old partials.old)
-        (on_block do_abort_download (named_block named) draws.now)
-        (lending words.new cells.new partials.new) (outcome o)) result }
+        (on_block do_abort_download (named_block named) draws.now) (lending words.new cells.new partials.new) (outcome o)) result }
 {
     of_outcome(abort_download(
         words,
@@ -47,8 +46,7 @@ pub extern "C" fn pp_mark_as_canceled(
     named: NamedBlock,
 ) -> Changed
     ensures { Says of_outcome outcome_in (λ o. Called (lending words.old cells.old partials.old)
-        (on_block do_mark_as_canceled (named_block named) draws.now)
-        (lending words.new cells.new partials.new) (outcome o)) result }
+        (on_block do_mark_as_canceled (named_block named) draws.now) (lending words.new cells.new partials.new) (outcome o)) result }
 {
     of_outcome(mark_as_canceled(
         words,

@@ -19,8 +19,8 @@ pub extern "C" fn pp_inc_refcount_all(
     cells: &mut [u16],
     partials: &mut [DownloadingPiece],
 ) -> Changed
-    ensures { Says of_outcome outcome_in (λ o. Called (lending words.old cells.old partials.old)
-        do_inc_refcount_all (lending words.new cells.new partials.new) (outcome o)) result }
+    ensures { Says of_outcome outcome_in (λ o. Called (lending words.old cells.old partials.old) do_inc_refcount_all
+        (lending words.new cells.new partials.new) (outcome o)) result }
 {
     of_outcome(inc_refcount_all(words, cells, partials))
 }
@@ -32,8 +32,8 @@ pub extern "C" fn pp_dec_refcount_all(
     cells: &mut [u16],
     partials: &mut [DownloadingPiece],
 ) -> Changed
-    ensures { Says of_outcome outcome_in (λ o. Called (lending words.old cells.old partials.old)
-        do_dec_refcount_all (lending words.new cells.new partials.new) (outcome o)) result }
+    ensures { Says of_outcome outcome_in (λ o. Called (lending words.old cells.old partials.old) do_dec_refcount_all
+        (lending words.new cells.new partials.new) (outcome o)) result }
 {
     of_outcome(dec_refcount_all(words, cells, partials))
 }

@@ -20,8 +20,8 @@ pub extern "C" fn pp_new(
     total_size: i64,
     piece_size: i32,
 ) -> Answered
-    ensures { Says of_making making_in (λ o. NewCalled (lending words.old cells.old partials.old)
-        total_size piece_size (lending words.new cells.new partials.new) (why_not o)) result }
+    ensures { Says of_making making_in (λ o. NewCalled (lending words.old cells.old partials.old) total_size piece_size
+        (lending words.new cells.new partials.new) (why_not o)) result }
 {
     of_making(new(words, cells, partials, total_size, piece_size))
 }

@@ -29,8 +29,8 @@ pub extern "C" fn pp_pick_pieces(
     a: PickAsked,
 ) -> PickAnswered
     ensures { Says of_pick pick_in (λ o. PickCalled (lending words.old cells.old partials.now)
-        (request_asked (pick_asked a) bytes.now (each number_of suggestions.now)) draws.now (pick_asked a).end
-        out.old (lending words.new cells.new partials.now) out.new (pick_outcome o)) result }
+        (request_asked (pick_asked a) bytes.now (each number_of suggestions.now)) draws.now (pick_asked a).end out.old
+        (lending words.new cells.new partials.now) out.new (pick_outcome o)) result }
 {
     of_pick(pick_pieces(
         words,

@@ -19,8 +19,8 @@ pub extern "C" fn pp_read_image(
     partials: &mut [DownloadingPiece],
     bytes: &[u8],
 ) -> Answered
-    ensures { Says of_making making_in (λ o. ReadCalled (lending words.old cells.old partials.old)
-        bytes.now (lending words.new cells.new partials.new) (why_not o)) result }
+    ensures { Says of_making making_in (λ o. ReadCalled (lending words.old cells.old partials.old) bytes.now
+        (lending words.new cells.new partials.new) (why_not o)) result }
 {
     of_making(read_image(words, cells, partials, bytes))
 }

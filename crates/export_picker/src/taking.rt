@@ -19,8 +19,8 @@ pub extern "C" fn pp_take_image(
     partials: &[DownloadingPiece],
     bytes: &mut [u8],
 ) -> Answered
-    ensures { Says of_image image_in (λ o. ImageCalled (lending words.now cells.now partials.now)
-        bytes.old bytes.new (image_answer o)) result }
+    ensures { Says of_image image_in (λ o. ImageCalled (lending words.now cells.now partials.now) bytes.old bytes.new (image_answer o))
+        result }
 {
     of_image(take_image(words, cells, partials, bytes))
 }

@@ -27,8 +27,7 @@ pub extern "C" fn pp_pad_bytes_in_piece(
     partials: &[DownloadingPiece],
     piece: i32,
 ) -> Answered
-    ensures { Says of_number number_in (λ o. number_answer o ≡ answer_on
-        (lending words.now cells.now partials.now)
+    ensures { Says of_number number_in (λ o. number_answer o ≡ answer_on (lending words.now cells.now partials.now)
         (question (of_piece pad_bytes_in_piece (number_of (piece_of piece).0)))) result }
 {
     of_number(pad_bytes_in_piece(words, cells, partials, export_arguments::piece(piece)))
@@ -42,8 +41,7 @@ pub extern "C" fn pp_peer_count(
     partials: &[DownloadingPiece],
     piece: i32,
 ) -> Answered
-    ensures { Says of_number number_in (λ o. number_answer o ≡ answer_on
-        (lending words.now cells.now partials.now)
+    ensures { Says of_number number_in (λ o. number_answer o ≡ answer_on (lending words.now cells.now partials.now)
         (question (of_piece peer_count (number_of (piece_of piece).0)))) result }
 {
     of_number(peer_count(words, cells, partials, export_arguments::piece(piece)))
@@ -56,8 +54,7 @@ pub extern "C" fn pp_piece_priority(
     partials: &[DownloadingPiece],
     piece: i32,
 ) -> Answered
-    ensures { Says of_number number_in (λ o. number_answer o ≡ answer_on
-        (lending words.now cells.now partials.now)
+    ensures { Says of_number number_in (λ o. number_answer o ≡ answer_on (lending words.now cells.now partials.now)
         (question (of_piece piece_priority (number_of (piece_of piece).0)))) result }
 {
     of_number(piece_priority(words, cells, partials, export_arguments::piece(piece)))
@@ -71,8 +68,7 @@ pub extern "C" fn pp_download_state(
     partials: &[DownloadingPiece],
     piece: i32,
 ) -> Answered
-    ensures { Says of_number number_in (λ o. number_answer o ≡ answer_on
-        (lending words.now cells.now partials.now)
+    ensures { Says of_number number_in (λ o. number_answer o ≡ answer_on (lending words.now cells.now partials.now)
         (question (of_piece download_state (number_of (piece_of piece).0)))) result }
 {
     of_number(download_state(words, cells, partials, export_arguments::piece(piece)))
@@ -85,8 +81,8 @@ pub extern "C" fn pp_is_piece_flushed(
     partials: &[DownloadingPiece],
     piece: i32,
 ) -> Answered
-    ensures { Says of_flag flag_in (λ o. flag_answer o ≡ answer_on (lending words.now cells.now
-        partials.now) (question (of_piece is_piece_flushed (number_of (piece_of piece).0)))) result }
+    ensures { Says of_flag flag_in (λ o. flag_answer o ≡ answer_on (lending words.now cells.now partials.now)
+        (question (of_piece is_piece_flushed (number_of (piece_of piece).0)))) result }
 {
     of_flag(is_piece_flushed(words, cells, partials, export_arguments::piece(piece)))
 }
@@ -99,8 +95,8 @@ pub extern "C" fn pp_is_downloading(
     partials: &[DownloadingPiece],
     piece: i32,
 ) -> Answered
-    ensures { Says of_flag flag_in (λ o. flag_answer o ≡ answer_on (lending words.now cells.now
-        partials.now) (question (of_piece is_downloading (number_of (piece_of piece).0)))) result }
+    ensures { Says of_flag flag_in (λ o. flag_answer o ≡ answer_on (lending words.now cells.now partials.now)
+        (question (of_piece is_downloading (number_of (piece_of piece).0)))) result }
 {
     of_flag(is_downloading(words, cells, partials, export_arguments::piece(piece)))
 }

@@ -25,8 +25,8 @@ pub extern "C" fn pp_passed_hash_check(
     piece: i32,
 ) -> Answered
     ensures { Says of_partial_flag partial_flag_in (λ o. partial_flag_answer o
-        ≡ answer_on (lending words.now cells.now partials.now)
-        (question (of_piece passed_hash_check (number_of (piece_of piece).0)))) result }
+        ≡ answer_on (lending words.now cells.now partials.now) (question (of_piece passed_hash_check (number_of (piece_of piece).0))))
+        result }
 {
     of_partial_flag(passed_hash_check(words, cells, partials, export_arguments::piece(piece)))
 }
@@ -39,8 +39,7 @@ pub extern "C" fn pp_locked(
     piece: i32,
 ) -> Answered
     ensures { Says of_partial_flag partial_flag_in (λ o. partial_flag_answer o
-        ≡ answer_on (lending words.now cells.now partials.now)
-        (question (of_piece locked? (number_of (piece_of piece).0)))) result }
+        ≡ answer_on (lending words.now cells.now partials.now) (question (of_piece locked? (number_of (piece_of piece).0)))) result }
 {
     of_partial_flag(locked(words, cells, partials, export_arguments::piece(piece)))
 }
@@ -53,8 +52,7 @@ pub extern "C" fn pp_hashing(
     piece: i32,
 ) -> Answered
     ensures { Says of_partial_flag partial_flag_in (λ o. partial_flag_answer o
-        ≡ answer_on (lending words.now cells.now partials.now)
-        (question (of_piece hashing? (number_of (piece_of piece).0)))) result }
+        ≡ answer_on (lending words.now cells.now partials.now) (question (of_piece hashing? (number_of (piece_of piece).0)))) result }
 {
     of_partial_flag(hashing(words, cells, partials, export_arguments::piece(piece)))
 }
@@ -67,8 +65,8 @@ pub extern "C" fn pp_is_hashing(
     partials: &[DownloadingPiece],
     piece: i32,
 ) -> Answered
-    ensures { Says of_flag flag_in (λ o. flag_answer o ≡ answer_on (lending words.now cells.now
-        partials.now) (question (of_piece is_hashing (number_of (piece_of piece).0)))) result }
+    ensures { Says of_flag flag_in (λ o. flag_answer o ≡ answer_on (lending words.now cells.now partials.now)
+        (question (of_piece is_hashing (number_of (piece_of piece).0)))) result }
 {
     of_flag(is_hashing(words, cells, partials, export_arguments::piece(piece)))
 }
@@ -81,8 +79,8 @@ pub extern "C" fn pp_have_piece(
     partials: &[DownloadingPiece],
     piece: i32,
 ) -> Answered
-    ensures { Says of_flag flag_in (λ o. flag_answer o ≡ answer_on (lending words.now cells.now
-        partials.now) (question (of_piece ask_have_piece (number_of (piece_of piece).0)))) result }
+    ensures { Says of_flag flag_in (λ o. flag_answer o ≡ answer_on (lending words.now cells.now partials.now)
+        (question (of_piece ask_have_piece (number_of (piece_of piece).0)))) result }
 {
     of_flag(have_piece(words, cells, partials, export_arguments::piece(piece)))
 }

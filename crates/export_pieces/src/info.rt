@@ -25,8 +25,8 @@ pub extern "C" fn pp_piece_info(
     partials: &[DownloadingPiece],
     piece: i32,
 ) -> Info
-    ensures { Says of_info info_in (λ o. info_answer o ≡ answer_on (lending words.now cells.now
-        partials.now) (question (of_piece piece_info (number_of (piece_of piece).0)))) result }
+    ensures { Says of_info info_in (λ o. info_answer o ≡ answer_on (lending words.now cells.now partials.now)
+        (question (of_piece piece_info (number_of (piece_of piece).0)))) result }
 {
     of_info(piece_info(words, cells, partials, export_arguments::piece(piece)))
 }
@@ -39,8 +39,8 @@ pub extern "C" fn pp_is_piece_finished(
     partials: &[DownloadingPiece],
     piece: i32,
 ) -> Answered
-    ensures { Says of_flag flag_in (λ o. flag_answer o ≡ answer_on (lending words.now cells.now
-        partials.now) (question (of_piece is_piece_finished (number_of (piece_of piece).0)))) result }
+    ensures { Says of_flag flag_in (λ o. flag_answer o ≡ answer_on (lending words.now cells.now partials.now)
+        (question (of_piece is_piece_finished (number_of (piece_of piece).0)))) result }
 {
     of_flag(is_piece_finished(words, cells, partials, export_arguments::piece(piece)))
 }

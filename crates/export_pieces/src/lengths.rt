@@ -23,8 +23,7 @@ pub extern "C" fn pp_piece_size(
     partials: &[DownloadingPiece],
     piece: i32,
 ) -> Answered
-    ensures { Says of_number number_in (λ o. number_answer o ≡ answer_on
-        (lending words.now cells.now partials.now)
+    ensures { Says of_number number_in (λ o. number_answer o ≡ answer_on (lending words.now cells.now partials.now)
         (question (of_piece piece_size (number_of (piece_of piece).0)))) result }
 {
     of_number(piece_size(words, cells, partials, export_arguments::piece(piece)))
@@ -37,8 +36,7 @@ pub extern "C" fn pp_blocks_in_piece(
     partials: &[DownloadingPiece],
     piece: i32,
 ) -> Answered
-    ensures { Says of_number number_in (λ o. number_answer o ≡ answer_on
-        (lending words.now cells.now partials.now)
+    ensures { Says of_number number_in (λ o. number_answer o ≡ answer_on (lending words.now cells.now partials.now)
         (question (of_piece ask_blocks_in_piece (number_of (piece_of piece).0)))) result }
 {
     of_number(blocks_in_piece(words, cells, partials, export_arguments::piece(piece)))
@@ -52,8 +50,7 @@ pub extern "C" fn pp_payload_blocks_in_piece(
     partials: &[DownloadingPiece],
     piece: i32,
 ) -> Answered
-    ensures { Says of_number number_in (λ o. number_answer o ≡ answer_on
-        (lending words.now cells.now partials.now)
+    ensures { Says of_number number_in (λ o. number_answer o ≡ answer_on (lending words.now cells.now partials.now)
         (question (of_piece ask_payload_blocks_in_piece (number_of (piece_of piece).0)))) result }
 {
     of_number(payload_blocks_in_piece(words, cells, partials, export_arguments::piece(piece)))

@@ -26,8 +26,7 @@ pub extern "C" fn pp_get_availability(
     partials: &[DownloadingPiece],
     piece: i32,
 ) -> Answered
-    ensures { Says of_number number_in (λ o. number_answer o ≡ answer_on
-        (lending words.now cells.now partials.now)
+    ensures { Says of_number number_in (λ o. number_answer o ≡ answer_on (lending words.now cells.now partials.now)
         (question (of_piece get_availability (number_of (piece_of piece).0)))) result }
 {
     of_number(get_availability(words, cells, partials, export_arguments::piece(piece)))
@@ -40,8 +39,7 @@ pub extern "C" fn pp_piece_stats(
     partials: &[DownloadingPiece],
     piece: i32,
 ) -> Stats
-    ensures { Says of_stats stats_in (λ o. stats_answer o ≡ answer_on
-        (lending words.now cells.now partials.now)
+    ensures { Says of_stats stats_in (λ o. stats_answer o ≡ answer_on (lending words.now cells.now partials.now)
         (question (of_piece piece_stats (number_of (piece_of piece).0)))) result }
 {
     of_stats(piece_stats(words, cells, partials, export_arguments::piece(piece)))

@@ -20,8 +20,8 @@ pub extern "C" fn pp_distributed_copies(
     cells: &[u16],
     partials: &[DownloadingPiece],
 ) -> Copied
-    ensures { Says of_copies copies_in (λ o. copies_answer o ≡ answer_on
-        (lending words.now cells.now partials.now) (question (of_picker distributed_copies))) result }
+    ensures { Says of_copies copies_in (λ o. copies_answer o ≡ answer_on (lending words.now cells.now partials.now)
+        (question (of_picker distributed_copies))) result }
 {
     of_copies(distributed_copies(words, cells, partials))
 }

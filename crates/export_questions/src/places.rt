@@ -23,8 +23,8 @@ pub extern "C" fn pp_partial_at(
     partials: &[DownloadingPiece],
     place: i32,
 ) -> Answered
-    ensures { Says of_place place_in (λ o. place_answer o ≡ answer_on
-        (lending words.now cells.now partials.now) (question (partial_at (number_of place)))) result }
+    ensures { Says of_place place_in (λ o. place_answer o ≡ answer_on (lending words.now cells.now partials.now)
+        (question (partial_at (number_of place)))) result }
 {
     of_place(partial_at(words, cells, partials, export_arguments::place(place)))
 }
@@ -37,8 +37,8 @@ pub extern "C" fn pp_recent_extent(
     partials: &[DownloadingPiece],
     place: i32,
 ) -> Answered
-    ensures { Says of_place place_in (λ o. place_answer o ≡ answer_on
-        (lending words.now cells.now partials.now) (question (recent_extent (number_of place)))) result }
+    ensures { Says of_place place_in (λ o. place_answer o ≡ answer_on (lending words.now cells.now partials.now)
+        (question (recent_extent (number_of place)))) result }
 {
     of_place(recent_extent(words, cells, partials, export_arguments::place(place)))
 }
@@ -51,8 +51,8 @@ pub extern "C" fn pp_list_place(
     partials: &[DownloadingPiece],
     place: i32,
 ) -> Answered
-    ensures { Says of_place place_in (λ o. place_answer o ≡ answer_on
-        (lending words.now cells.now partials.now) (question (ask_list_place (number_of place)))) result }
+    ensures { Says of_place place_in (λ o. place_answer o ≡ answer_on (lending words.now cells.now partials.now)
+        (question (ask_list_place (number_of place)))) result }
 {
     of_place(list_place(words, cells, partials, export_arguments::place(place)))
 }

@@ -23,8 +23,8 @@ pub extern "C" fn pp_is_finished(
     cells: &[u16],
     partials: &[DownloadingPiece],
 ) -> Answered
-    ensures { Says of_flag flag_in (λ o. flag_answer o ≡ answer_on (lending words.now cells.now
-        partials.now) (question (of_picker is_finished))) result }
+    ensures { Says of_flag flag_in (λ o. flag_answer o ≡ answer_on (lending words.now cells.now partials.now)
+        (question (of_picker is_finished))) result }
 {
     of_flag(is_finished(words, cells, partials))
 }
@@ -36,8 +36,8 @@ pub extern "C" fn pp_is_seeding(
     cells: &[u16],
     partials: &[DownloadingPiece],
 ) -> Answered
-    ensures { Says of_flag flag_in (λ o. flag_answer o ≡ answer_on (lending words.now cells.now
-        partials.now) (question (of_picker is_seeding))) result }
+    ensures { Says of_flag flag_in (λ o. flag_answer o ≡ answer_on (lending words.now cells.now partials.now)
+        (question (of_picker is_seeding))) result }
 {
     of_flag(is_seeding(words, cells, partials))
 }
@@ -49,8 +49,8 @@ pub extern "C" fn pp_num_want_left(
     cells: &[u16],
     partials: &[DownloadingPiece],
 ) -> Answered
-    ensures { Says of_number number_in (λ o. number_answer o ≡ answer_on
-        (lending words.now cells.now partials.now) (question (of_picker num_want_left))) result }
+    ensures { Says of_number number_in (λ o. number_answer o ≡ answer_on (lending words.now cells.now partials.now)
+        (question (of_picker num_want_left))) result }
 {
     of_number(num_want_left(words, cells, partials))
 }
@@ -61,8 +61,8 @@ pub extern "C" fn pp_get_download_queue_sizes(
     cells: &[u16],
     partials: &[DownloadingPiece],
 ) -> Sized
-    ensures { Says of_sizes sizes_in (λ o. sizes_answer o ≡ answer_on
-        (lending words.now cells.now partials.now) (question (of_picker get_download_queue_sizes))) result }
+    ensures { Says of_sizes sizes_in (λ o. sizes_answer o ≡ answer_on (lending words.now cells.now partials.now)
+        (question (of_picker get_download_queue_sizes))) result }
 {
     of_sizes(get_download_queue_sizes(words, cells, partials))
 }

@@ -2,8 +2,8 @@
 // Written by tools/exports.py, and not by hand.
 ghost use Rattle.picker_calls.specs.Calling.{answer_on};
 ghost use Rattle.picker_calls.specs.Cores.{lending};
-ghost use Rattle.model.specs.ask.Questions.{num_pad_bytes, of_picker, ask_num_have, ask_num_filtered, ask_num_have_filtered, want, have_want, have};
-ghost use Rattle.model.specs.ask.Questions.{all_pieces};
+ghost use Rattle.model.specs.ask.Questions.{num_pad_bytes, of_picker, ask_num_have, ask_num_filtered, ask_num_have_filtered, want};
+ghost use Rattle.model.specs.ask.Questions.{have_want, have, all_pieces};
 ghost use Rattle.picker_answers.specs.Answers.{number_answer};
 ghost use Rattle.model.specs.Calls.{question};
 ghost use Rattle.std.specs.Prelude.{◌≡◌};
@@ -26,8 +26,8 @@ pub extern "C" fn pp_num_pad_bytes(
     cells: &[u16],
     partials: &[DownloadingPiece],
 ) -> Answered
-    ensures { Says of_number number_in (λ o. number_answer o ≡ answer_on
-        (lending words.now cells.now partials.now) (question (of_picker num_pad_bytes))) result }
+    ensures { Says of_number number_in (λ o. number_answer o ≡ answer_on (lending words.now cells.now partials.now)
+        (question (of_picker num_pad_bytes))) result }
 {
     of_number(num_pad_bytes(words, cells, partials))
 }
@@ -39,8 +39,8 @@ pub extern "C" fn pp_num_have(
     cells: &[u16],
     partials: &[DownloadingPiece],
 ) -> Answered
-    ensures { Says of_number number_in (λ o. number_answer o ≡ answer_on
-        (lending words.now cells.now partials.now) (question (of_picker ask_num_have))) result }
+    ensures { Says of_number number_in (λ o. number_answer o ≡ answer_on (lending words.now cells.now partials.now)
+        (question (of_picker ask_num_have))) result }
 {
     of_number(num_have(words, cells, partials))
 }
@@ -52,8 +52,8 @@ pub extern "C" fn pp_num_filtered(
     cells: &[u16],
     partials: &[DownloadingPiece],
 ) -> Answered
-    ensures { Says of_number number_in (λ o. number_answer o ≡ answer_on
-        (lending words.now cells.now partials.now) (question (of_picker ask_num_filtered))) result }
+    ensures { Says of_number number_in (λ o. number_answer o ≡ answer_on (lending words.now cells.now partials.now)
+        (question (of_picker ask_num_filtered))) result }
 {
     of_number(num_filtered(words, cells, partials))
 }
@@ -65,8 +65,8 @@ pub extern "C" fn pp_num_have_filtered(
     cells: &[u16],
     partials: &[DownloadingPiece],
 ) -> Answered
-    ensures { Says of_number number_in (λ o. number_answer o ≡ answer_on
-        (lending words.now cells.now partials.now) (question (of_picker ask_num_have_filtered))) result }
+    ensures { Says of_number number_in (λ o. number_answer o ≡ answer_on (lending words.now cells.now partials.now)
+        (question (of_picker ask_num_have_filtered))) result }
 {
     of_number(num_have_filtered(words, cells, partials))
 }
@@ -74,8 +74,8 @@ pub extern "C" fn pp_num_have_filtered(
 // Pieces that are not filtered.
 #[unsafe(no_mangle)]
 pub extern "C" fn pp_want(words: &[u64], cells: &[u16], partials: &[DownloadingPiece]) -> Counted
-    ensures { Says of_count count_in (λ o. count_answer o ≡ answer_on
-        (lending words.now cells.now partials.now) (question (of_picker want))) result }
+    ensures { Says of_count count_in (λ o. count_answer o ≡ answer_on (lending words.now cells.now partials.now)
+        (question (of_picker want))) result }
 {
     of_count(want(words, cells, partials))
 }
@@ -87,8 +87,8 @@ pub extern "C" fn pp_have_want(
     cells: &[u16],
     partials: &[DownloadingPiece],
 ) -> Counted
-    ensures { Says of_count count_in (λ o. count_answer o ≡ answer_on
-        (lending words.now cells.now partials.now) (question (of_picker have_want))) result }
+    ensures { Says of_count count_in (λ o. count_answer o ≡ answer_on (lending words.now cells.now partials.now)
+        (question (of_picker have_want))) result }
 {
     of_count(have_want(words, cells, partials))
 }
@@ -96,8 +96,8 @@ pub extern "C" fn pp_have_want(
 // Pieces that are had.
 #[unsafe(no_mangle)]
 pub extern "C" fn pp_have(words: &[u64], cells: &[u16], partials: &[DownloadingPiece]) -> Counted
-    ensures { Says of_count count_in (λ o. count_answer o ≡ answer_on
-        (lending words.now cells.now partials.now) (question (of_picker have))) result }
+    ensures { Says of_count count_in (λ o. count_answer o ≡ answer_on (lending words.now cells.now partials.now)
+        (question (of_picker have))) result }
 {
     of_count(have(words, cells, partials))
 }
@@ -108,8 +108,8 @@ pub extern "C" fn pp_all_pieces(
     cells: &[u16],
     partials: &[DownloadingPiece],
 ) -> Counted
-    ensures { Says of_count count_in (λ o. count_answer o ≡ answer_on
-        (lending words.now cells.now partials.now) (question (of_picker all_pieces))) result }
+    ensures { Says of_count count_in (λ o. count_answer o ≡ answer_on (lending words.now cells.now partials.now)
+        (question (of_picker all_pieces))) result }
 {
     of_count(all_pieces(words, cells, partials))
 }

@@ -6,8 +6,7 @@ use Rattle.picker_block_questions.specs.declared.answers.BlockNumberAnswer.{Bloc
 use Rattle.picker_block_questions.specs.declared.answers.BlockNumberAnswer.TheVariants.{Refused as BlockNumberAnswerRefused}
 use Rattle.picker_block_questions.specs.declared.answers.BlockNumberAnswer.TheVariants.{Replied as BlockNumberAnswerReplied}
 use Rattle.picker_block_questions.specs.declared.answers.PeerAnswer.{PeerAnswer}
-use Rattle.picker_block_questions.specs.declared.answers.PeerAnswer.TheVariants.{Refused as PeerAnswerRefused}
-use Rattle.picker_block_questions.specs.declared.answers.PeerAnswer.TheVariants.{Replied as PeerAnswerReplied}
+use Rattle.picker_block_questions.specs.declared.answers.PeerAnswer.TheVariants.{Refused as PeerAnswerRefused, Replied as PeerAnswerReplied}
 
 -- a number of a block, or nothing where no partial stands
 abbrev pub block_number_answer : (r : BlockNumberAnswer) → Answer

@@ -3,12 +3,10 @@
 use Rattle.model.specs.Calls.{Answer, refused, replied}
 use Rattle.ask_columns.specs.Copies.{copies_reply}
 use Rattle.picker_questions.specs.declared.answers.CopiesAnswer.{CopiesAnswer}
-use Rattle.picker_questions.specs.declared.answers.CopiesAnswer.TheVariants.{Refused as CopiesAnswerRefused}
-use Rattle.picker_questions.specs.declared.answers.CopiesAnswer.TheVariants.{Replied as CopiesAnswerReplied}
+use Rattle.picker_questions.specs.declared.answers.CopiesAnswer.TheVariants.{Refused as CopiesAnswerRefused, Replied as CopiesAnswerReplied}
 use Rattle.ask_places.specs.Placed.{placed_reply}
 use Rattle.picker_questions.specs.declared.answers.PlaceAnswer.{PlaceAnswer}
-use Rattle.picker_questions.specs.declared.answers.PlaceAnswer.TheVariants.{Refused as PlaceAnswerRefused}
-use Rattle.picker_questions.specs.declared.answers.PlaceAnswer.TheVariants.{Replied as PlaceAnswerReplied}
+use Rattle.picker_questions.specs.declared.answers.PlaceAnswer.TheVariants.{Refused as PlaceAnswerRefused, Replied as PlaceAnswerReplied}
 
 -- the least copies of a piece, and how many pieces have more
 abbrev pub copies_answer : (r : CopiesAnswer) → Answer

@@ -1,8 +1,8 @@
 // What the head and the geometry tell.
 // Written by tools/publics.py, and not by hand.
 ghost use Rattle.std.specs.Prelude.{◌≡◌, length};
-ghost use Rattle.model.specs.ask.Questions.{of_picker, num_pieces, ask_blocks_per_piece, block_size, total_size, full_piece_size, num_seeds};
-ghost use Rattle.model.specs.ask.Questions.{cursor?, reverse_cursor?, dirty?, get_download_queue_size};
+ghost use Rattle.model.specs.ask.Questions.{of_picker, num_pieces, ask_blocks_per_piece, block_size, total_size, full_piece_size};
+ghost use Rattle.model.specs.ask.Questions.{num_seeds, cursor?, reverse_cursor?, dirty?, get_download_queue_size};
 ghost use Rattle.model.specs.Calls.{question};
 ghost use Rattle.picker_calls.specs.Calling.{answer_on};
 ghost use Rattle.picker_calls.specs.Cores.{lending};

@@ -3,12 +3,10 @@
 use Rattle.model.specs.Calls.{Answer, refused, replied}
 use Rattle.ask_totals.specs.Totals.{count_reply}
 use Rattle.picker_totals.specs.declared.answers.CountAnswer.{CountAnswer}
-use Rattle.picker_totals.specs.declared.answers.CountAnswer.TheVariants.{Refused as CountAnswerRefused}
-use Rattle.picker_totals.specs.declared.answers.CountAnswer.TheVariants.{Replied as CountAnswerReplied}
+use Rattle.picker_totals.specs.declared.answers.CountAnswer.TheVariants.{Refused as CountAnswerRefused, Replied as CountAnswerReplied}
 use Rattle.ask_progress.specs.Sizes.{sizes_reply}
 use Rattle.picker_totals.specs.declared.answers.SizesAnswer.{SizesAnswer}
-use Rattle.picker_totals.specs.declared.answers.SizesAnswer.TheVariants.{Refused as SizesAnswerRefused}
-use Rattle.picker_totals.specs.declared.answers.SizesAnswer.TheVariants.{Replied as SizesAnswerReplied}
+use Rattle.picker_totals.specs.declared.answers.SizesAnswer.TheVariants.{Refused as SizesAnswerRefused, Replied as SizesAnswerReplied}
 
 -- pieces, their pad bytes, and whether the last piece is among them
 abbrev pub count_answer : (r : CountAnswer) → Answer

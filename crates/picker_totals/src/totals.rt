@@ -1,8 +1,8 @@
 // Pieces that pass a test, and their pad bytes.
 // Written by tools/publics.py, and not by hand.
 ghost use Rattle.std.specs.Prelude.{◌≡◌, length};
-ghost use Rattle.model.specs.ask.Questions.{of_picker, num_pad_bytes, ask_num_have, ask_num_filtered, ask_num_have_filtered, want, have_want, have};
-ghost use Rattle.model.specs.ask.Questions.{all_pieces};
+ghost use Rattle.model.specs.ask.Questions.{of_picker, num_pad_bytes, ask_num_have, ask_num_filtered, ask_num_have_filtered, want};
+ghost use Rattle.model.specs.ask.Questions.{have_want, have, all_pieces};
 ghost use Rattle.model.specs.Calls.{question};
 ghost use Rattle.picker_calls.specs.Calling.{answer_on};
 ghost use Rattle.picker_calls.specs.Cores.{lending};

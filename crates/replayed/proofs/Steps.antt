@@ -1,9 +1,6 @@
 -- Recorded calls, a few, computed. Written by compare/steps.py: not to be edited.
-use mathlib.Core.Path.{◌≡◌, refl}
-use mathlib.Core.Bool.{true, false}
-use Prim.Native.Nat.{ℕ}
-use mathlib.Core.List.{List, [], ◌∷◌}
-use mathlib.Core.Option.{none, some}
+use Rattle.std.specs.Prelude.{◌≡◌, refl, true, false, ℕ, List, [], ◌∷◌}
+use Rattle.std.proofs.Math.Option.{none, some}
 use Rattle.model.specs.Calls.{do_mark_as_downloading, do_pick_pieces, picked, said}
 use Rattle.model.specs.pick.Blocks.{piece_block}
 use Rattle.replayed.proofs.Replaying.{replaying}

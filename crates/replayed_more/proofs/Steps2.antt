@@ -1,11 +1,8 @@
 -- Recorded calls 302 to 589, those that are replayed, computed. Written by compare/steps.py: not to be edited.
-use mathlib.Core.Path.{◌≡◌, refl}
-use mathlib.Core.Bool.{true, false}
-use Prim.Native.Nat.{ℕ}
-use mathlib.Core.List.{List, [], ◌∷◌}
-use mathlib.Core.Option.{none, some}
-use Rattle.model.specs.Calls.{do_abort_download, do_dec_refcount, do_dec_refcount_all, done, do_inc_refcount, do_inc_refcount_all, do_lock_piece, do_mark_as_canceled, do_mark_as_downloading, do_mark_as_finished, do_mark_as_writing, do_pick_pieces, picked, do_piece_passed, question, refused, replied, said, do_set_piece_priority}
-use Rattle.model.specs.ask.Questions.{block_peer, blocks_for_piece, download_state, get_availability_vec, get_downloader, get_downloaders, is_downloading, is_finished_block, is_requested, ask_list_place, list_of_picker, list_of_piece, nothing, numbers, of_block, of_picker, of_piece, partial_at, piece_priorities, piece_stats, recent_extent, reverse_cursor?, stale_list}
+use Rattle.std.specs.Prelude.{◌≡◌, refl, true, false, ℕ, List, [], ◌∷◌}
+use Rattle.std.proofs.Math.Option.{none, some}
+use Rattle.model.specs.Calls.{do_abort_download, do_dec_refcount, do_dec_refcount_all, do_inc_refcount, do_inc_refcount_all, do_lock_piece, do_mark_as_canceled, do_mark_as_downloading, do_mark_as_finished, do_mark_as_writing, do_pick_pieces, do_piece_passed, do_set_piece_priority, done, picked, question, refused, replied, said}
+use Rattle.model.specs.ask.Questions.{ask_list_place, block_peer, blocks_for_piece, download_state, get_availability_vec, get_downloader, get_downloaders, is_downloading, is_finished_block, is_requested, list_of_picker, list_of_piece, nothing, numbers, of_block, of_picker, of_piece, partial_at, piece_priorities, piece_stats, recent_extent, reverse_cursor?, stale_list}
 use Rattle.model.specs.pick.Blocks.{piece_block}
 use Rattle.replayed.proofs.Replaying.{replaying}
 use Rattle.replayed.specs.Replay.{answered, asking, bytes_taken, call_line, image_line, lending, new_line, outcome, outcomes, plenty, read_line, stands, words}

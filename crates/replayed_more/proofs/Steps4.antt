@@ -1,11 +1,8 @@
 -- Recorded calls 903 to 2166, those that are replayed, computed. Written by compare/steps.py: not to be edited.
-use mathlib.Core.Path.{◌≡◌, refl}
-use mathlib.Core.Bool.{true, false}
-use Prim.Native.Nat.{ℕ}
-use mathlib.Core.List.{List, [], ◌∷◌}
-use mathlib.Core.Option.{none, some}
-use Rattle.model.specs.Calls.{do_abort_download, do_dec_refcount, do_dec_refcount_all, done, do_inc_refcount, do_inc_refcount_all, do_lock_piece, do_mark_as_canceled, do_mark_as_downloading, do_mark_as_finished, do_mark_as_writing, do_pick_pieces, picked, do_piece_passed, question, refused, replied, said, do_set_piece_priority}
-use Rattle.model.specs.ask.Questions.{block_state, blocks_for_piece, get_availability, get_availability_vec, get_download_queue, get_download_queue_size, get_downloaders, ask_have_piece, have_want, is_downloaded, is_hashing, is_requested, is_seeding, ask_list_place, list_of_picker, list_of_piece, nothing, num_peers_block, numbers, of_block, of_picker, of_piece, partial_at, piece_info, piece_priorities, piece_size, recent_extent, total_size, want}
+use Rattle.std.specs.Prelude.{◌≡◌, refl, true, false, ℕ, List, [], ◌∷◌}
+use Rattle.std.proofs.Math.Option.{none, some}
+use Rattle.model.specs.Calls.{do_abort_download, do_dec_refcount, do_dec_refcount_all, do_inc_refcount, do_inc_refcount_all, do_lock_piece, do_mark_as_canceled, do_mark_as_downloading, do_mark_as_finished, do_mark_as_writing, do_pick_pieces, do_piece_passed, do_set_piece_priority, done, picked, question, refused, replied, said}
+use Rattle.model.specs.ask.Questions.{ask_have_piece, ask_list_place, block_state, blocks_for_piece, get_availability, get_availability_vec, get_download_queue, get_download_queue_size, get_downloaders, have_want, is_downloaded, is_hashing, is_requested, is_seeding, list_of_picker, list_of_piece, nothing, num_peers_block, numbers, of_block, of_picker, of_piece, partial_at, piece_info, piece_priorities, piece_size, recent_extent, total_size, want}
 use Rattle.model.specs.pick.Blocks.{piece_block}
 use Rattle.replayed.proofs.Replaying.{replaying}
 use Rattle.replayed.specs.Replay.{answered, asking, call_line, image_line, lending, new_line, not_done, outcome, outcomes, plenty, read_line, stands, words}

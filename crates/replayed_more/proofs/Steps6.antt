@@ -1,11 +1,8 @@
 -- Recorded calls 5741 to 8299, those that are replayed, computed. Written by compare/steps.py: not to be edited.
-use mathlib.Core.Path.{◌≡◌, refl}
-use mathlib.Core.Bool.{true, false}
-use Prim.Native.Nat.{ℕ}
-use mathlib.Core.List.{List, [], ◌∷◌}
-use mathlib.Core.Option.{none, some}
-use Rattle.model.specs.Calls.{do_abort_download, do_dec_refcount, do_dec_refcount_all, done, do_inc_refcount, do_inc_refcount_all, do_lock_piece, do_mark_as_canceled, do_mark_as_downloading, do_mark_as_finished, do_mark_as_writing, do_pick_pieces, picked, do_piece_passed, question, refused, replied, said, do_set_piece_priority}
-use Rattle.model.specs.ask.Questions.{all_pieces, block_num_peers, block_peer, block_size, blocks_for_piece, ask_blocks_in_piece, ask_blocks_per_piece, cursor?, dirty?, distributed_copies, download_state, full_piece_size, get_availability, get_availability_vec, get_download_queue, get_download_queue_size, get_download_queue_sizes, get_downloaders, have, ask_have_piece, have_want, is_downloading, is_finished, is_hashing, is_piece_finished, is_piece_flushed, is_requested, is_seeding, ask_list_place, list_of_picker, list_of_piece, nothing, ask_num_filtered, ask_num_have, ask_num_have_filtered, num_pad_bytes, num_pieces, num_seeds, num_want_left, numbers, of_block, of_picker, of_piece, pad_bytes_in_piece, passed_hash_check, ask_payload_blocks_in_piece, peer_count, piece_info, piece_priorities, piece_priority, piece_size, piece_stats, reverse_cursor?, stale_list, total_size, want}
+use Rattle.std.specs.Prelude.{◌≡◌, refl, true, false, ℕ, List, [], ◌∷◌}
+use Rattle.std.proofs.Math.Option.{none, some}
+use Rattle.model.specs.Calls.{do_abort_download, do_dec_refcount, do_dec_refcount_all, do_inc_refcount, do_inc_refcount_all, do_lock_piece, do_mark_as_canceled, do_mark_as_downloading, do_mark_as_finished, do_mark_as_writing, do_pick_pieces, do_piece_passed, do_set_piece_priority, done, picked, question, refused, replied, said}
+use Rattle.model.specs.ask.Questions.{all_pieces, ask_blocks_in_piece, ask_blocks_per_piece, ask_have_piece, ask_list_place, ask_num_filtered, ask_num_have, ask_num_have_filtered, ask_payload_blocks_in_piece, block_num_peers, block_peer, block_size, blocks_for_piece, cursor?, dirty?, distributed_copies, download_state, full_piece_size, get_availability, get_availability_vec, get_download_queue, get_download_queue_size, get_download_queue_sizes, get_downloaders, have, have_want, is_downloading, is_finished, is_hashing, is_piece_finished, is_piece_flushed, is_requested, is_seeding, list_of_picker, list_of_piece, nothing, num_pad_bytes, num_pieces, num_seeds, num_want_left, numbers, of_block, of_picker, of_piece, pad_bytes_in_piece, passed_hash_check, peer_count, piece_info, piece_priorities, piece_priority, piece_size, piece_stats, reverse_cursor?, stale_list, total_size, want}
 use Rattle.model.specs.pick.Blocks.{piece_block}
 use Rattle.replayed.proofs.Replaying.{replaying}
 use Rattle.replayed.specs.Replay.{answered, asking, bytes_taken, call_line, image_line, lending, new_line, not_done, outcome, outcomes, plenty, read_line, stands, words}

@@ -3,44 +3,46 @@
 use Rattle.model.specs.Lists.{least, from, range, range_down, count, filter, every, any, nth, len, set_nth, remove_nth, last_or, reversed}
 use Rattle.model.specs.Lists.{member, place_of, each, concat_map, unless, when, branch, repeat, for_each, walk_until, walk, insert_by}
 use Rattle.model.specs.Lists.{sort_by}
-use Rattle.model.specs.Bep3.{parts_of, part_length, sum_to, num_pieces, piece_length, block_length, block_count, block_start, block_length_at}
-use Rattle.model.specs.Bep3.{whole_piece_blocks, piece_blocks, piece_of_byte, block_of_byte, bitfield_bytes, bit_of, bit_at, none_set, spare_zero}
-use Rattle.model.specs.State.{same_queue, is_open, same_block_state, same_peer, has_peer, is_dirty, list_of, no_piece, no_block, with_peer_count}
-use Rattle.model.specs.State.{with_state, with_priority, with_flushed, with_peer, with_blocks, with_flags, with_seeds, with_cursors}
-use Rattle.model.specs.State.{with_pieces, with_partials, with_recent_extents, with_listing, piece_at, with_piece, pieces_in, mark_dirty}
-use Rattle.model.specs.State.{piece_size_at, blocks_per_piece, blocks_in_piece, payload_blocks_in_piece, extent_size, num_extents, extent_for}
-use Rattle.model.specs.State.{extent_start, extent_end, valid_geometry, fresh_piece, new}
+use Rattle.model.specs.Bep3.{parts_of, part_length, sum_to, num_pieces, piece_length, block_length, block_count, block_start}
+use Rattle.model.specs.Bep3.{block_length_at, whole_piece_blocks, piece_blocks, piece_of_byte, block_of_byte, bitfield_bytes, bit_of}
+use Rattle.model.specs.Bep3.{bit_at, none_set, spare_zero}
+use Rattle.model.specs.State.{same_queue, is_open, same_block_state, same_peer, has_peer, is_dirty, list_of, no_piece, no_block}
+use Rattle.model.specs.State.{with_peer_count, with_state, with_priority, with_flushed, with_peer, with_blocks, with_flags, with_seeds}
+use Rattle.model.specs.State.{with_cursors, with_pieces, with_partials, with_recent_extents, with_listing, piece_at, with_piece, pieces_in}
+use Rattle.model.specs.State.{mark_dirty, piece_size_at, blocks_per_piece, blocks_in_piece, payload_blocks_in_piece, extent_size}
+use Rattle.model.specs.State.{num_extents, extent_for, extent_start, extent_end, valid_geometry, fresh_piece, new}
 use Rattle.model.specs.list.Order.{unlisted, adjustment, bucket_number, bucket, rank_of, rank, draw, group_start, group_size, carry}
 use Rattle.model.specs.list.Order.{turn_left, bring, turn_right, placed, removed, earlier, later, swap, added, add_draws, group_last}
 use Rattle.model.specs.list.Order.{group_drawn, changed, change_draws, updated, update_draws, inserted, sorted, shuffled, run_length}
 use Rattle.model.specs.list.Order.{groups_shuffled, group_draws, with_bucket, sorted_pieces, rebuilt, rebuild_draws, drawing, no_draw}
 use Rattle.model.specs.list.Order.{update_in, update, update_pieces_in, update_pieces, change_and_update}
 use Rattle.model.specs.list.Listed.{rising_from, rising, ListingOk}
-use Rattle.model.specs.change.Partials.{find_dl_piece, partial_of, block_at, blocks_in_state, progress, in_queue, replace_in, replace_partial}
-use Rattle.model.specs.change.Partials.{replace_block, in_direction, new_state, set_state, move_state, update_state_of, update_piece_state}
-use Rattle.model.specs.change.Partials.{fresh_block, fresh_partial, insert_in, add_partial, add_download_piece, drop_partial}
-use Rattle.model.specs.change.Partials.{erase_download_piece, erase_and_update}
-use Rattle.model.specs.change.Changes.{quietly, saying, inc_peer_count, dec_peer_count, all_pieces, inc_refcount, break_one_seed, dec_refcount}
-use Rattle.model.specs.change.Changes.{inc_refcount_all, dec_refcount_all, flushed_or_filtered, flushed_or_filtered_run, cursor_from}
-use Rattle.model.specs.change.Changes.{reverse_from, empty_range, advance_cursors, cursors_on_filter, filter_changes, priority_set}
-use Rattle.model.specs.change.Changes.{set_piece_priority, neighbours, worth_recording, recordable, record_downloading_piece, reverse_asked}
-use Rattle.model.specs.change.Changes.{affinity_asked, opened, set_block, mark_first, mark_opening, set_direction, make_piece_reverse}
-use Rattle.model.specs.change.Changes.{unreverse_piece, requested_by, written_by, finished_by, received, request, mark_downloading_in}
-use Rattle.model.specs.change.Changes.{mark_as_downloading, mark_writing_in, mark_as_writing, piece_flushed, all_finished, flush_if, flush_done}
-use Rattle.model.specs.change.Changes.{finished_peer, mark_finished_in, mark_as_finished, freed, canceled, free_block, cancel_in}
-use Rattle.model.specs.change.Changes.{mark_as_canceled, released, abort_in, abort_download, lock_in, lock_piece, pass_in, piece_passed}
+use Rattle.model.specs.change.Partials.{find_dl_piece, partial_of, block_at, blocks_in_state, progress, in_queue, replace_in}
+use Rattle.model.specs.change.Partials.{replace_partial, replace_block, in_direction, new_state, set_state, move_state, update_state_of}
+use Rattle.model.specs.change.Partials.{update_piece_state, fresh_block, fresh_partial, insert_in, add_partial, add_download_piece}
+use Rattle.model.specs.change.Partials.{drop_partial, erase_download_piece, erase_and_update}
+use Rattle.model.specs.change.Changes.{quietly, saying, inc_peer_count, dec_peer_count, all_pieces, inc_refcount, break_one_seed}
+use Rattle.model.specs.change.Changes.{dec_refcount, inc_refcount_all, dec_refcount_all, flushed_or_filtered, flushed_or_filtered_run}
+use Rattle.model.specs.change.Changes.{cursor_from, reverse_from, empty_range, advance_cursors, cursors_on_filter, filter_changes}
+use Rattle.model.specs.change.Changes.{priority_set, set_piece_priority, neighbours, worth_recording, recordable, record_downloading_piece}
+use Rattle.model.specs.change.Changes.{reverse_asked, affinity_asked, opened, set_block, mark_first, mark_opening, set_direction}
+use Rattle.model.specs.change.Changes.{make_piece_reverse, unreverse_piece, requested_by, written_by, finished_by, received, request}
+use Rattle.model.specs.change.Changes.{mark_downloading_in, mark_as_downloading, mark_writing_in, mark_as_writing, piece_flushed}
+use Rattle.model.specs.change.Changes.{all_finished, flush_if, flush_done, finished_peer, mark_finished_in, mark_as_finished, freed}
+use Rattle.model.specs.change.Changes.{canceled, free_block, cancel_in, mark_as_canceled, released, abort_in, abort_download, lock_in}
+use Rattle.model.specs.change.Changes.{lock_piece, pass_in, piece_passed}
 use Rattle.model.specs.ask.Questions.{plain, one, flag, passed_in, have_piece, filtered, pieces_where, count_where, sum, pad_bytes_where}
 use Rattle.model.specs.ask.Questions.{num_have, num_filtered, num_have_filtered, counted, copies, lowest, distributed, info, info_of}
 use Rattle.model.specs.ask.Questions.{queue_info, queue_sizes, availability, reply_picker, list_picker, of_partial, hashing_in, finished_in}
-use Rattle.model.specs.ask.Questions.{peers_in, block_info, stats, reply_piece, list_piece, block_in, block_test, of_block_there, num_peers_of}
-use Rattle.model.specs.ask.Questions.{downloader_of, reply_block, place_in, list_place, reply}
+use Rattle.model.specs.ask.Questions.{peers_in, block_info, stats, reply_piece, list_piece, block_in, block_test, of_block_there}
+use Rattle.model.specs.ask.Questions.{num_peers_of, downloader_of, reply_block, place_in, list_place, reply}
 use Rattle.model.specs.pick.Blocks.{option, has_bit, start_state, spent, with_out, with_contiguous, with_backup, with_picker, ignore}
 use Rattle.model.specs.pick.Blocks.{flagged, steps, is_ignored, contiguous_is_zero, contiguous_above, shorter, whole_pieces, is_piece_free}
 use Rattle.model.specs.pick.Blocks.{can_pick, down_by, up_by, alone, lowest_start, span_from, span_of, expand_piece, pieces_of, piece_block}
 use Rattle.model.specs.pick.Blocks.{took, contiguous_met, contiguous_over, span_step, take_span, take_payload, add_new_piece, longer}
 use Rattle.model.specs.pick.Blocks.{longest_free, by_another, requested_from, free_from, enough_aside, put_aside, set_aside, free_halt}
-use Rattle.model.specs.pick.Blocks.{take_free, keeping_contiguous, use_free, add_blocks_downloading, add_partial_of, add_standing, add_blocks}
-use Rattle.model.specs.pick.Blocks.{append_blocks}
+use Rattle.model.specs.pick.Blocks.{take_free, keeping_contiguous, use_free, add_blocks_downloading, add_partial_of, add_standing}
+use Rattle.model.specs.pick.Blocks.{add_blocks, append_blocks}
 use Rattle.model.specs.pick.Pick.{forced, is_forced, forced_request, effective_request, start_pick, usable, scan_step, scan_partials}
 use Rattle.model.specs.pick.Pick.{partial_compare_rarest_first, by_rarity, ordered_partials, partial_step, walk_partials, pick_scanned}
 use Rattle.model.specs.pick.Pick.{pick_partials, visit, suggest, pick_suggested, leading_top, visit_below_top, pick_range, pick_sequential}
@@ -55,9 +57,9 @@ use Rattle.model.specs.image.WellFormed.{partials_ok, extents_ok, order_ok, list
 use Rattle.model.specs.image.Sound.{partials_from}
 use Rattle.model.specs.image.Image.{body_length, bytes_of, head_record, piece_record, peer_bytes, block_record, flags_of, partial_records}
 use Rattle.model.specs.image.Image.{number_record, image, next, number_of, field, starts_with, given, judged, obeying, head_of, read_head}
-use Rattle.model.specs.image.Image.{piece_of, read_piece, peer_fits, peer_of, block_of, read_block, last_fits, read_last_block, read_partial}
-use Rattle.model.specs.image.Image.{get_pieces, get_blocks, partial_with, get_partial, get_partials, read_extent, comes, get_extents}
-use Rattle.model.specs.image.Image.{read_place, get_order, get_listing, get_picker, whole, read_image}
+use Rattle.model.specs.image.Image.{piece_of, read_piece, peer_fits, peer_of, block_of, read_block, last_fits, read_last_block}
+use Rattle.model.specs.image.Image.{read_partial, get_pieces, get_blocks, partial_with, get_partial, get_partials, read_extent, comes}
+use Rattle.model.specs.image.Image.{get_extents, read_place, get_order, get_listing, get_picker, whole, read_image}
 use Rattle.model.specs.image.Program.{request_of, read_request, get_job, pick_of, job_answer, program_answer, program}
 use Rattle.model.specs.Memory.{partials_needed, words_needed, cells_needed, memory_for, memory_needed, is_short}
 use Rattle.model.specs.Calls.{records_needed, check, refuse_few_draws, refuse_bad_piece, refuse_bad_block, peers_full, num_peers_full}

@@ -1,0 +1,127 @@
+#!/usr/bin/env python3
+"""Makes static libraries of proved crates over the libraries that `rt ci` built: build/staticlib/libNAME.a.
+
+    tools/archive.py --proved    after `rt ci` passed: notes in build/proved which sources it proved
+    tools/archive.py --sum       prints what build/proved has to hold for the sources as they are
+    tools/archive.py NAME..      makes the libraries
+
+Each crate named is proved again as it is compiled. Those below it are not, where `rt ci` proved these very sources in this checkout
+(build/proved): what it built is in crates/*/out/rlib. Else `rt lib` proves them first, which takes only what `rt check` and `rt lib` kept.
+A static library that is there, of the same sources, is not made again."""
+
+import hashlib
+import os
+import shutil
+import subprocess
+import sys
+import threading
+from concurrent.futures import ThreadPoolExecutor
+
+TOP = os.path.dirname(os.path.dirname(os.path.abspath(__file__)))
+KIT = os.path.dirname(os.path.dirname(os.path.realpath(shutil.which('rt') or 'rt')))
+
+NOTED, MADE = os.path.join(TOP, 'build', 'proved'), os.path.join(TOP, 'build', 'staticlib')
+AT_ONCE = 2
+ONE = threading.Lock()
+
+
+def sources():
+    """The sum of the toolchain's version and of every source."""
+    out = hashlib.sha256(subprocess.run(['rt', 'version'], stdout=subprocess.PIPE, check=True).stdout)
+    paths = [os.path.join(TOP, 'crates.txt')]
+    for crate in sorted(os.listdir(os.path.join(TOP, 'crates'))):
+        for part in ('src', 'specs', 'proofs'):
+            paths += [os.path.join(at, name) for at, _, names in os.walk(os.path.join(TOP, 'crates', crate, part)) for name in names]
+    for path in sorted(paths):
+        with open(path, 'rb') as f:
+            out.update(os.path.relpath(path, TOP).encode() + b'\0' + hashlib.sha256(f.read()).digest())
+    return out.hexdigest()
+
+
+def text_of(path):
+    """The text of a small file, or nothing where it is not there."""
+    if not os.path.isfile(path):
+        return None
+    with open(path, encoding='ascii') as f:
+        return f.read().strip()
+
+
+def crates():
+    """The crates by name, as the kit's own command has them, which knows how rattle is called for each."""
+    sys.dont_write_bytecode = True
+    sys.path.insert(0, os.path.join(KIT, 'bin'))
+    import rtlib
+    return {it.name: it for it in rtlib.crates_below(TOP)}
+
+
+def compiled(crate, to):
+    """Proves and compiles one crate over the libraries below it, which stand; the status, and what was said."""
+    missing = [it.name for it in crate.below() if not os.path.isdir(it.rlib)]
+    if missing:
+        return 1, f'{crate.name}: no library of {", ".join(missing)}\n'
+    with open(os.devnull, 'w') as crate.out:
+        words = crate.words(['--jobs', '1'], keeps=False)
+    kind = [] if crate.is_static else ['--crate-type', 'staticlib']
+    ran = subprocess.run([os.path.join(KIT, 'bin', 'rattle'), 'build', *words, *kind, '--toolchain', f'{KIT}/toolchain', '--backend', 'llvm',
+                          '-o', to], cwd=crate.folder, stdin=subprocess.DEVNULL, stdout=subprocess.PIPE, stderr=subprocess.STDOUT, text=True,
+                         errors='replace')
+    proved = any(line.startswith('logic=proved ') for line in ran.stdout.split('\n'))
+    return (1 if ran.returncode or not proved or not os.path.isfile(to) else 0), ran.stdout
+
+
+def below_proved(crate):
+    """Has `rt lib` prove the crate and those below it that it has not proved."""
+    ran = subprocess.run(['rt', 'lib'], cwd=crate.folder, stdin=subprocess.DEVNULL, stdout=subprocess.PIPE, stderr=subprocess.STDOUT, text=True,
+                         errors='replace')
+    return ran.returncode, ran.stdout
+
+
+def archive(crate, now):
+    """Makes the archive; the status, and what was said. `now` is the sum of the sources."""
+    to, of = os.path.join(MADE, f'lib{crate.name}.a'), os.path.join(MADE, f'{crate.name}.made-of')
+    if os.path.isfile(to) and text_of(of) == now:
+        return 0, ''
+    os.makedirs(MADE, exist_ok=True)
+    for path in (to, of):
+        if os.path.exists(path):
+            os.remove(path)
+    status, said = compiled(crate, to) if text_of(NOTED) == now else (1, '')
+    if status:
+        with ONE:
+            status, said = below_proved(crate)
+            if not status:
+                status, said = compiled(crate, to)
+    if not status:
+        with open(of, 'w', encoding='ascii') as f:
+            f.write(now)
+    return status, said
+
+
+def main(names):
+    if not names:
+        print(__doc__, file=sys.stderr)
+        return 2
+    if names == ['--sum']:
+        print(sources())
+        return 0
+    if names == ['--proved']:
+        os.makedirs(os.path.dirname(NOTED), exist_ok=True)
+        with open(NOTED, 'w', encoding='ascii') as f:
+            f.write(sources() + '\n')
+        return 0
+    known = crates()
+    unknown = [name for name in names if name not in known]
+    if unknown:
+        print(f'archive: crates.txt has no crate {unknown[0]}', file=sys.stderr)
+        return 2
+    now = sources()
+    with ThreadPoolExecutor(AT_ONCE) as pool:
+        made = list(pool.map(lambda name: archive(known[name], now), names))
+    for name, (status, said) in zip(names, made):
+        if status:
+            print(said[-4000:] + f'archive: no static library of {name}', file=sys.stderr)
+    return 1 if any(status for status, _ in made) else 0
+
+
+if __name__ == '__main__':
+    sys.exit(main(sys.argv[1:]))
