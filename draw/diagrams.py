@@ -43,7 +43,7 @@ BUFFERS = (
         ("head", "16", HEAD, 90), ("pad bytes", "n", BY_PIECE, 160), ("list", "n", LIST, 160), ("peers", "m·b", OF_BLOCKS, 400))),
     ("cells", "numbers of 16 bits; 4·n + 3·m·b of them", (
         ("peer count", "n", BY_PIECE, 90), ("state", "n", BY_PIECE, 90), ("priority", "n", BY_PIECE, 90), ("flushed", "n", BY_PIECE, 90),
-        ("state", "m·b", OF_BLOCKS, 150), ("num_peers", "m·b", OF_BLOCKS, 150), ("has_peer", "m·b", OF_BLOCKS, 150))),
+        ("state", "m·b", OF_BLOCKS, 150), ("num_peers", "m·b", OF_BLOCKS, 150), ("has-peer", "m·b", OF_BLOCKS, 150))),
     ("partials", "records of three numbers of 32 bits; m of them", (
         ("records of lower pieces", "", "#f0fdf4", 240), ("index", "", RECORDS, 80), ("info_idx", "p", RECORDS, 80),
         ("flags", "", RECORDS, 80), ("of higher pieces", "", "#f0fdf4", 150), ("not in use", "", BEYOND, 180))),
