@@ -1,5 +1,6 @@
 #!/usr/bin/env python3
-"""Makes static libraries of proved crates over the libraries that `rt ci` built: build/staticlib/libNAME.a.
+"""Makes static libraries of proved crates over the libraries that `rt ci` built: build/staticlib/libNAME.a, of the crate NAME, or of NAME_c
+where NAME is a library that NAME_c exports.
 
     tools/archive.py --proved    after `rt ci` passed: notes in build/proved which sources it proved
     tools/archive.py --sum       prints what build/proved has to hold for the sources as they are
@@ -61,10 +62,8 @@ def compiled(crate, to):
         return 1, f'{crate.name}: no library of {", ".join(missing)}\n'
     with open(os.devnull, 'w') as crate.out:
         words = crate.words(['--jobs', '1'], keeps=False)
-    kind = [] if crate.is_static else ['--crate-type', 'staticlib']
-    ran = subprocess.run([os.path.join(KIT, 'bin', 'rattle'), 'build', *words, *kind, '--toolchain', f'{KIT}/toolchain', '--backend', 'llvm',
-                          '-o', to], cwd=crate.folder, stdin=subprocess.DEVNULL, stdout=subprocess.PIPE, stderr=subprocess.STDOUT, text=True,
-                         errors='replace')
+    ran = subprocess.run([os.path.join(KIT, 'bin', 'rattle'), 'build', *words, '--toolchain', f'{KIT}/toolchain', '--backend', 'llvm', '-o', to],
+                         cwd=crate.folder, stdin=subprocess.DEVNULL, stdout=subprocess.PIPE, stderr=subprocess.STDOUT, text=True, errors='replace')
     proved = any(line.startswith('logic=proved ') for line in ran.stdout.split('\n'))
     return (1 if ran.returncode or not proved or not os.path.isfile(to) else 0), ran.stdout
 
@@ -76,9 +75,9 @@ def below_proved(crate):
     return ran.returncode, ran.stdout
 
 
-def archive(crate, now):
-    """Makes the archive; the status, and what was said. `now` is the sum of the sources."""
-    to, of = os.path.join(MADE, f'lib{crate.name}.a'), os.path.join(MADE, f'{crate.name}.made-of')
+def archive(name, crate, now):
+    """Makes the archive of this name; the status, and what was said. `now` is the sum of the sources."""
+    to, of = os.path.join(MADE, f'lib{name}.a'), os.path.join(MADE, f'{name}.made-of')
     if os.path.isfile(to) and text_of(of) == now:
         return 0, ''
     os.makedirs(MADE, exist_ok=True)
@@ -109,14 +108,15 @@ def main(names):
         with open(NOTED, 'w', encoding='ascii') as f:
             f.write(sources() + '\n')
         return 0
-    known = crates()
-    unknown = [name for name in names if name not in known]
+    static = {name: crate for name, crate in crates().items() if crate.is_static}
+    exporting = {name: static.get(f'{name}_c') or static.get(name) for name in names}
+    unknown = [name for name in names if exporting[name] is None]
     if unknown:
-        print(f'archive: crates.txt has no crate {unknown[0]}', file=sys.stderr)
+        print(f'archive: crates.txt has no static library {unknown[0]}', file=sys.stderr)
         return 2
     now = sources()
     with ThreadPoolExecutor(AT_ONCE) as pool:
-        made = list(pool.map(lambda name: archive(known[name], now), names))
+        made = list(pool.map(lambda name: archive(name, exporting[name], now), names))
     for name, (status, said) in zip(names, made):
         if status:
             print(said[-4000:] + f'archive: no static library of {name}', file=sys.stderr)
