@@ -1,3 +1,3 @@
-// What the exports' proofs share: each shape of export walked once. No code.
+// What the exports share: what an answer in numbers says. No code.
 
 #![tactic(auto)]

@@ -1,3 +1,3 @@
-// What the proofs of public calls over words, cells and partial records share: each shape of call walked once. No code.
+// Empty: a public call over words, cells and partial records is proved as it stands, and no walk of one is written.
 
 #![tactic(auto)]

@@ -1,4 +1,4 @@
-// Calls of three shapes, to show that a walk of `memory_walks` can be used as it stands. The cores are as small as can be.
+// Calls of three shapes over words, cells and partial records: what each shape asks of its core. The cores are as small as can be.
 #![tactic(auto)]
 
 ghost use Rattle.std.specs.Prelude.{◌≡◌, length};

@@ -1,5 +1,4 @@
 -- `cursor` meets its contract. Assumes nothing.
--- Written by tools/asks.py, and not by hand.
 use mathlib.Core.Path.{ap}
 use borrow.Author.Rules.{rules}
 use Rattle.model.specs.ask.Questions.{reply_picker, one}

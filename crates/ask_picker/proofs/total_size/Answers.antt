@@ -1,5 +1,4 @@
 -- `total_size` meets its contract. Assumes nothing.
--- Written by tools/asks.py, and not by hand.
 use mathlib.Core.Path.{ap}
 use native.Mathlib.Omega.{arith}
 use Rattle.model.specs.ask.Questions.{reply_picker, one}

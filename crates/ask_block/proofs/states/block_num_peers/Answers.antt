@@ -1,5 +1,4 @@
 -- `block_num_peers` meets its contract. Assumes nothing.
--- Written by tools/asks.py, and not by hand.
 use mathlib.Core.Option.{none}
 use mathlib.Core.Path.{subst}
 use borrow.Author.Rules.{rules}

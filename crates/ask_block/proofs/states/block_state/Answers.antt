@@ -1,5 +1,4 @@
 -- `block_state` meets its contract. Assumes nothing.
--- Written by tools/asks.py, and not by hand.
 use mathlib.Core.Option.{none}
 use mathlib.Core.Path.{subst, ap, ◌∙◌}
 use borrow.Author.Rules.{rules}

@@ -1,5 +1,4 @@
 -- `num_peers_block` meets its contract. Assumes nothing.
--- Written by tools/asks.py, and not by hand.
 use mathlib.Core.Option.{none}
 use mathlib.Core.Path.{subst}
 use borrow.Author.Rules.{rules}

@@ -1,5 +1,4 @@
 -- `hashing` meets its contract. Assumes nothing.
--- Written by tools/asks.py, and not by hand.
 use Rattle.ask_partial.proofs.FlagLaws.{flag_asked}
 use Rattle.ask_partial.specs.Flags.{flag_in, flag_reply}
 use Rattle.memory_rows.specs.Lookup.{picker_in}

@@ -1,5 +1,4 @@
 -- `have` meets its contract. Assumes nothing.
--- Written by tools/asks.py, and not by hand.
 use borrow.Author.Rules.{rules}
 use Rattle.model.specs.ask.Questions.{reply_picker}
 use Rattle.ask_totals.proofs.CountLaws.{count_reply_lem}

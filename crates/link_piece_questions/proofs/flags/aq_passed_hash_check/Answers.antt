@@ -1,5 +1,4 @@
 -- `aq_passed_hash_check` asks what `passed_hash_check` asks, and hands its answer on as a kind and a number. Assumes nothing.
--- Written by tools/asks.py, and not by hand.
 use borrow.Author.Rules.{rules}
 use Rattle.link_piece_questions.proofs.flags.aq_passed_hash_check.Goals as goal
 

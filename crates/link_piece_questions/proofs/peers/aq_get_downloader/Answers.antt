@@ -1,5 +1,4 @@
 -- `aq_get_downloader` asks what `get_downloader` asks, and hands its answer on as a kind and a number. Assumes nothing.
--- Written by tools/asks.py, and not by hand.
 use borrow.Author.Rules.{rules}
 use Rattle.link_piece_questions.proofs.peers.aq_get_downloader.Goals as goal
 

@@ -1,5 +1,4 @@
 -- `aq_partial_at` asks what `partial_at` asks, and hands its answer on as a kind and a number. Assumes nothing.
--- Written by tools/asks.py, and not by hand.
 use borrow.Author.Rules.{rules}
 use Rattle.link_piece_questions.proofs.places.aq_partial_at.Goals as goal
 

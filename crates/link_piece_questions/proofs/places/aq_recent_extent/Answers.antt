@@ -1,5 +1,4 @@
 -- `aq_recent_extent` asks what `recent_extent` asks, and hands its answer on as a kind and a number. Assumes nothing.
--- Written by tools/asks.py, and not by hand.
 use borrow.Author.Rules.{rules}
 use Rattle.link_piece_questions.proofs.places.aq_recent_extent.Goals as goal
 

@@ -1,5 +1,4 @@
 -- `aq_block_num_peers` asks what `block_num_peers` asks, and hands its answer on as a kind and a number. Assumes nothing.
--- Written by tools/asks.py, and not by hand.
 use borrow.Author.Rules.{rules}
 use Rattle.link_piece_questions.proofs.states.aq_block_num_peers.Goals as goal
 

@@ -1,5 +1,4 @@
 -- `is_downloaded_core` meets its contract. Assumes nothing.
--- Written by tools/publics.py, and not by hand.
 use mathlib.Core.Path.{refl, ap, ◌∙◌}
 use mir.Syntax.{w32}
 use mir.Val.{SFits}

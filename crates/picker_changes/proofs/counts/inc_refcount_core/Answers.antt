@@ -1,5 +1,4 @@
 -- `inc_refcount_core` meets its contract. Assumes nothing.
--- Written by tools/calls.py, and not by hand.
 use mathlib.Core.Path.{refl}
 use Prim.Native.Nat.{ℕ}
 use Rattle.model.specs.change.Changes.{inc_refcount}

@@ -1,5 +1,4 @@
 -- `abort_download_core` meets its contract. Assumes nothing.
--- Written by tools/calls.py, and not by hand.
 use mathlib.Core.Path.{refl, ap}
 use mathlib.Core.Option.{Option}
 use Prim.Native.Nat.{ℕ}

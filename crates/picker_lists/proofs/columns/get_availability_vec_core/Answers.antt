@@ -1,5 +1,4 @@
 -- `get_availability_vec_core` meets its contract. Assumes nothing.
--- Written by tools/publics.py, and not by hand.
 use mathlib.Core.Path.{refl}
 use Rattle.model.specs.ask.Questions.{reply}
 use Rattle.model.specs.Calls.{question_refusal, records_needed}

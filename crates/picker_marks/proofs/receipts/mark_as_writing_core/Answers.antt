@@ -1,5 +1,4 @@
 -- `mark_as_writing_core` meets its contract. Assumes nothing.
--- Written by tools/calls.py, and not by hand.
 use mathlib.Core.Path.{refl, sym, ap, ◌∙◌}
 use mathlib.Core.Option.{Option, none}
 use Prim.Native.Nat.{ℕ}

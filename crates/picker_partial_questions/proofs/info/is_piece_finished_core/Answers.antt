@@ -1,5 +1,4 @@
 -- `is_piece_finished_core` meets its contract. Assumes nothing.
--- Written by tools/publics.py, and not by hand.
 use mathlib.Core.Path.{refl}
 use borrow.Author.Rules.{rules}
 use Rattle.model.specs.ask.Questions.{of_piece, is_piece_finished, reply}

@@ -1,5 +1,4 @@
 -- `num_pieces_core` meets its contract. Assumes nothing.
--- Written by tools/publics.py, and not by hand.
 use mathlib.Core.Path.{refl, ap, ◌∙◌}
 use borrow.Author.Rules.{rules}
 use Rattle.model.specs.ask.Questions.{of_picker, num_pieces, reply, one}

@@ -1,5 +1,4 @@
 -- `reverse_cursor_core` meets its contract. Assumes nothing.
--- Written by tools/publics.py, and not by hand.
 use mathlib.Core.Path.{refl}
 use borrow.Author.Rules.{rules}
 use Rattle.model.specs.ask.Questions.{of_picker, reverse_cursor?, reply}

@@ -1,5 +1,4 @@
 -- `dec_refcount_all_core` meets its contract. Assumes nothing.
--- Written by tools/calls.py, and not by hand.
 use mathlib.Core.Path.{refl}
 use Rattle.model.specs.change.Changes.{dec_refcount_all}
 use Rattle.model.specs.Calls.{act, do_dec_refcount_all}

@@ -1,5 +1,4 @@
 -- `inc_refcount_all_core` meets its contract. Assumes nothing.
--- Written by tools/calls.py, and not by hand.
 use mathlib.Core.Path.{refl}
 use Rattle.model.specs.change.Changes.{inc_refcount_all}
 use Rattle.model.specs.Calls.{act, do_inc_refcount_all}
