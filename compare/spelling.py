@@ -1,4 +1,4 @@
-"""Names of the definitions in whatever spelling their text has them: `well_formed`, `well-formed` and `well_formed` are one name."""
+"""Names of the definitions in whatever spelling their text has them: `wellFormed`, `well-formed` and `well_formed` are one name."""
 import functools
 import os
 import re
