@@ -1,5 +1,5 @@
-// The list and the queues of a picker in lent buffers, for callers in C and Rust. Only for comparison and timing: a caller has to meet
-// what is required. The geometry comes in numbers, as a call has it from the memory test.
+// The list and the queues of a picker in lent buffers, for the crates for linking; `link_lists_c` exports it. Only for comparison and
+// timing: a caller has to meet what is required. The geometry comes in numbers, as a call has it from the memory test.
 #![tactic(auto)]
 
 ghost use Rattle.std.specs.Prelude.{◌≡◌, true, ◌<◌, length};

@@ -1,5 +1,5 @@
 // A partial opened for a piece: the lowest free place, its blocks as those of a piece just opened, one partial more. The records are not
-// written: the walk above puts in the one that is answered, and the contract speaks of the picker with it there.
+// written: the public call puts in the one that is answered, and the contract speaks of the picker with it there.
 #![tactic(auto)]
 
 ghost use Rattle.std.specs.Prelude.{◌≡◌, ◌<◌, ◌≤◌, length};

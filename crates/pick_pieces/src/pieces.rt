@@ -14,8 +14,7 @@ use pick_phases::pick_phases;
 use pick_start::{effective_request, is_forced, start_pick};
 use pick_state::PickRequest;
 
-// Where the output ends now, the flags set, the draws used and the steps of the seven loops. An enum holds no array today, so that the
-// counters are fields.
+// Where the output ends now, the flags set, the draws used and the steps of the seven loops, in document 01's order.
 #[derive(Drop)]
 pub struct Picked {
     pub end: usize,

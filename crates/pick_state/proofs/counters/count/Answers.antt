@@ -1,4 +1,3 @@
--- src/counters.rt:12:22
 use Rattle.model.specs.Lists.{nth, set_nth}
 use native.Mathlib.Omega.{arith}
 use mathlib.Core.Path.{refl}
@@ -9,7 +8,6 @@ pub overflow_add-loops : goal.overflow_add-loops
 unfolding nth
 overflow_add-loops c = omega (arith, c.requires.1)
 
--- src/counters.rt:8:1
 pub returns : goal.returns
 unfolding set_nth nth
 returns c = refl

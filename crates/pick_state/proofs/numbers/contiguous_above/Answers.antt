@@ -1,11 +1,9 @@
--- src/numbers.rt:66:5
 use Rattle.pick_state.specs.PickStates.{contiguous_of}
 use Rattle.model.specs.pick.Blocks.{contiguous_above}
 use mathlib.Core.Path.{refl}
 use borrow.Author.Rules.{rules}
 use Rattle.pick_state.proofs.numbers.contiguous_above.Goals as goal
 
--- src/numbers.rt:62:1
 pub returns : goal.returns
 unfolding contiguous_above contiguous_of
 returns c = refl

@@ -1,4 +1,3 @@
--- src/numbers.rt:55:1
 use Rattle.pick_state.specs.PickStates.{contiguous_of}
 use Rattle.model.specs.pick.Blocks.{contiguous_is_zero}
 use mathlib.Core.Path.{refl}

@@ -1,4 +1,3 @@
--- src/numbers.rt:24:1
 use Rattle.pick_state.specs.PickStates.{with_flags}
 use mathlib.Core.Path.{refl}
 use Rattle.pick_state.proofs.numbers.flagged.Goals as goal

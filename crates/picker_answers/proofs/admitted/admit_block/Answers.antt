@@ -8,7 +8,6 @@ use Rattle.picker_answers.proofs.AdmittedLaws.{block_past, block_there, block_fi
 use borrow.Author.Rules.{rules}
 use Rattle.picker_answers.proofs.admitted.admit_block.Goals as goal
 
--- src/admitted.rt:88:17
 pub returns-then-s-i : goal.returns-then-s-i
 unfolding refuse_bad_block
 returns-then-s-i c = let k = c.admit in
@@ -18,7 +17,6 @@ returns-then-s-i c = let k = c.admit in
     refused_by_rule (λ d. refuse_bad_block d a.i a.j none) (block_rule a.i a.j) _ _ _ _ _ _ k.result k.ensures _ at _
     (piece_past _ _ _ _ t a.i _ c.if-s-i.true)
 
--- src/admitted.rt:90:29
 pub blocks_in_piece-requires : goal.blocks_in_piece-requires
 blocks_in_piece-requires c = let k = c.admit in
     let t = stood_at _ _ _ _ _ k.result k.ensures _ c.in-At.is in
@@ -28,7 +26,6 @@ blocks_in_piece-requires c = let k = c.admit in
       i_lt_pieces = c.if-s-i.false;
     }
 
--- src/admitted.rt:91:17
 pub returns-then-u64_to_usize-j : goal.returns-then-u64_to_usize-j
 returns-then-u64_to_usize-j c = let k = c.admit in
     let at = c.in-At.is in
@@ -38,14 +35,12 @@ returns-then-u64_to_usize-j c = let k = c.admit in
     (block_past _ _ _ _ t a.i a.j _ c.if-s-i.false c.blocks_in_piece.ensures
     (omega (arith, c.u64_to_usize.ensures, c.if-u64_to_usize-j.true)))
 
--- src/admitted.rt:71:1
 pub returns-in-Refused : goal.returns-in-Refused
 returns-in-Refused c = let k = c.admit in
     let a = c.args in
     refused_for_memory (λ d. refuse_bad_block d a.i a.j none) (block_rule a.i a.j) _ _ _ _ _ _ k.result k.ensures _
     c.in-Refused.is
 
--- src/admitted.rt:71:1
 pub returns-else-u64_to_usize-j : goal.returns-else-u64_to_usize-j
 returns-else-u64_to_usize-j c = let k = c.admit in
     let at = c.in-At.is in

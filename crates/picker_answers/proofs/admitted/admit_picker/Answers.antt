@@ -6,14 +6,12 @@ use Rattle.picker_answers.proofs.AdmittedLaws.{refused_for_memory, admitted_by_r
 use borrow.Author.Rules.{rules}
 use Rattle.picker_answers.proofs.admitted.admit_picker.Goals as goal
 
--- src/admitted.rt:21:1
 pub returns-in-Refused : goal.returns-in-Refused
 unfolding of_memory
 returns-in-Refused c = let k = c.admit in
     refused_for_memory (λ d. none) (λ d. refl) _ _ _ _ _ _ k.result k.ensures _
     c.in-Refused.is
 
--- src/admitted.rt:21:1
 pub returns-in-At : goal.returns-in-At
 unfolding of_memory
 returns-in-At c = let k = c.admit in

@@ -7,7 +7,6 @@ use Rattle.picker_answers.proofs.AdmittedLaws.{piece_rule, piece_past, piece_the
 use borrow.Author.Rules.{rules}
 use Rattle.picker_answers.proofs.admitted.admit_piece.Goals as goal
 
--- src/admitted.rt:55:17
 pub returns-then-s-i : goal.returns-then-s-i
 returns-then-s-i c = let k = c.admit in
     let at = c.in-At.is in
@@ -16,14 +15,12 @@ returns-then-s-i c = let k = c.admit in
     refused_by_rule (λ d. refuse_bad_piece d a.i none) (piece_rule a.i) _ _ _ _ _ _ k.result k.ensures _ at _
     (piece_past _ _ _ _ t a.i none c.if-s-i.true)
 
--- src/admitted.rt:39:1
 pub returns-in-Refused : goal.returns-in-Refused
 returns-in-Refused c = let k = c.admit in
     let a = c.args in
     refused_for_memory (λ d. refuse_bad_piece d a.i none) (piece_rule a.i) _ _ _ _ _ _ k.result k.ensures _
     c.in-Refused.is
 
--- src/admitted.rt:39:1
 pub returns-else-s-i : goal.returns-else-s-i
 returns-else-s-i c = let k = c.admit in
     let at = c.in-At.is in

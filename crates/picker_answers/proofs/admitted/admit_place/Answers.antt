@@ -9,12 +9,10 @@ use Rattle.picker_answers.proofs.AdmittedLaws.{refused_for_memory, refused_by_ru
 use borrow.Author.Rules.{rules}
 use Rattle.picker_answers.proofs.admitted.admit_place.Goals as goal
 
--- src/admitted.rt:125:16
 pub past_list-requires : goal.past_list-requires
 past_list-requires c = let k = c.admit in
     (stood_at _ _ _ _ _ k.result k.ensures _ c.in-At.is).stands.bounds.spans.in_words
 
--- src/admitted.rt:126:17
 pub returns-then-past_list : goal.returns-then-past_list
 unfolding check
 returns-then-past_list c = let k = c.admit in
@@ -26,14 +24,12 @@ returns-then-past_list c = let k = c.admit in
     (ap (λ (x : Bool). check x OutOfRange none)
     (sym (c.past_list.ensures.is _ _ t.bounds) ∙ c.if-past_list.true))
 
--- src/admitted.rt:110:1
 pub returns-in-Refused : goal.returns-in-Refused
 returns-in-Refused c = let k = c.admit in
     let a = c.args in
     refused_for_memory (λ d. check (no_place d.listing a.k) OutOfRange none) (place_rule a.k) _ _ _ _ _ _ k.result k.ensures _
     c.in-Refused.is
 
--- src/admitted.rt:110:1
 pub returns-else-past_list : goal.returns-else-past_list
 unfolding check
 returns-else-past_list c = let k = c.admit in

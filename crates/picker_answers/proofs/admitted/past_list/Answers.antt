@@ -4,11 +4,9 @@ use Rattle.picker_answers.proofs.AdmittedLaws.{dirty_place, fresh_place}
 use borrow.Author.Rules.{rules}
 use Rattle.picker_answers.proofs.admitted.past_list.Goals as goal
 
--- src/admitted.rt:104:9
 pub returns-then-is_dirty : goal.returns-then-is_dirty
 returns-then-is_dirty c = record { is = λ records cells q. dirty_place _ _ (sym (c.is_dirty.ensures.is records cells) ∙ c.if-is_dirty.true) }
 
--- src/admitted.rt:99:1
 pub returns : goal.returns
 returns c = record {
   is = λ records cells q.
