@@ -29,7 +29,7 @@
  * Stack. What a call works on besides stands on the stack: PP_STACK_BYTES is enough for any call and all that it calls. The pick takes the
  * most, some 88 KiB; any other call takes less than 32 KiB. examples/stack.py reads that from the archive's machine code.
  *
- * x86-64-v2 with the System V calling convention. */
+ * x86-64 with the System V calling convention. */
 #ifndef PIECE_PICKER_H
 #define PIECE_PICKER_H
 

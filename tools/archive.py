@@ -21,6 +21,8 @@ from concurrent.futures import ThreadPoolExecutor
 TOP = os.path.dirname(os.path.dirname(os.path.abspath(__file__)))
 KIT = os.path.dirname(os.path.dirname(os.path.realpath(shutil.which('rt') or 'rt')))
 
+# the processors that the libraries are for: a static library does not look for one, so it is built for all of x86-64
+CPU = 'x86-64'
 NOTED, MADE = os.path.join(TOP, 'build', 'proved'), os.path.join(TOP, 'build', 'staticlib')
 AT_ONCE = 2
 ONE = threading.Lock()
@@ -62,8 +64,9 @@ def compiled(crate, to):
         return 1, f'{crate.name}: no library of {", ".join(missing)}\n'
     with open(os.devnull, 'w') as crate.out:
         words = crate.words(['--jobs', '1'], keeps=False)
-    ran = subprocess.run([os.path.join(KIT, 'bin', 'rattle'), 'build', *words, '--toolchain', f'{KIT}/toolchain', '--backend', 'llvm', '-o', to],
-                         cwd=crate.folder, stdin=subprocess.DEVNULL, stdout=subprocess.PIPE, stderr=subprocess.STDOUT, text=True, errors='replace')
+    ran = subprocess.run([os.path.join(KIT, 'bin', 'rattle'), 'build', *words, '--cpu', CPU, '--toolchain', f'{KIT}/toolchain', '--backend', 'llvm',
+                          '-o', to], cwd=crate.folder, stdin=subprocess.DEVNULL, stdout=subprocess.PIPE, stderr=subprocess.STDOUT, text=True,
+                         errors='replace')
     proved = any(line.startswith('logic=proved ') for line in ran.stdout.split('\n'))
     return (1 if ran.returncode or not proved or not os.path.isfile(to) else 0), ran.stdout
 
