@@ -2,8 +2,8 @@
 use Rattle.std.proofs.Common.{◌≡◌, ℕ, ◌+◌, ◌-◌, ◌≤◌, List, ◌++◌, arith, length, take, slice_range, sym, ap, ◌∙◌, subst, le_refl, drop_at, length-take-le}
 use Rattle.std.proofs.lemmas.Slice.{take-put_mid_below}
 use Rattle.std.specs.declared.option.Option.{Option}
-use Rattle.std.specs.Io.KnownBytes.{Consumes, Keeps}
-use Rattle.std.proofs.KnownBytes.{Consumes-trans, Consumes-kept}
+use Rattle.std.specs.Io.KnownBytes.{Consumes}
+use Rattle.std.proofs.KnownBytes.{Consumes-trans}
 use borrow.Rule.Slice.PartMut.{put_mid, post_of}
 use lib.Seq.{take-add, take-append-le}
 
@@ -20,17 +20,10 @@ range_put a k n xs ys within fits =
     ∙ take-append-le n ys after fits
 
 module _ (a b c : Option (List ℕ)) (at k : ℕ) (buf part : List ℕ) (within : at ≤ length buf) (before : Consumes a b (take at buf)) where
-  -- n bytes
+  -- n bytes more
   pub read_more : (n next : ℕ) → next ≡ at + n → n ≤ length part → Consumes b c (take n part) → Consumes a c (take next (put_mid at k buf part))
   read_more n next e fits read =
       let joined = take_split at (at + n) buf (put_mid at k buf part) (omega arith) (take-put_mid_below _ _ _ _ _ (le_refl _) within) in
       subst (Consumes a c)
       (ap (λ l. take at buf ++ l) (sym (range_put at k n buf part within fits)) ∙ joined ∙ ap (λ m. take m (put_mid at k buf part)) (sym e))
       (Consumes-trans a b c _ _ before read)
-
-  -- an interrupted one
-  pub read_none : (next : ℕ) → next ≡ at → Keeps b c → Consumes a c (take next (put_mid at k buf part))
-  read_none next e kept =
-      subst (Consumes a c)
-      (sym (take-put_mid_below _ _ _ _ _ (le_refl _) within) ∙ ap (λ m. take m (put_mid at k buf part)) (sym e))
-      (Consumes-kept a b c _ before kept)

@@ -1,16 +1,11 @@
 -- `read_full` meets its contract. Assumes nothing.
-use Rattle.std.proofs.Common.{rules, length, ◌-◌}
-use Rattle.pick.proofs.ReadLaws.{read_more, read_none}
+use Rattle.std.proofs.Common.{rules, refl, length, ◌-◌}
+use Rattle.pick.proofs.ReadLaws.{read_more}
 use Rattle.pick.proofs.reading.read_full.Goals as goal
-use Rattle.pick.proofs.reading.read_full.Goals.{in-Ok, in-Err+else-ne}
 
-pub loop-preserved : goal.loop-preserved
-loop-preserved g c =
-    let at = c.loop.done in
-    let room = length c.loop.buf - at in
-    elim c.match-read.branch [
-      | in-Ok w ↦
-          (search rules, search (rules, w.done-is, w.in-Ok.ensures.bound), read_more _ _ _ at room c.loop.buf c.read.new.buf c.loop.invariant.1 c.loop.invariant.2 w.in-Ok.n _ w.done-is w.in-Ok.ensures.bound.0 w.in-Ok.ensures.bytes.0)
-      | in-Err+else-ne w ↦
-          (search rules, search (rules, w.done-is), read_none _ _ _ at room c.loop.buf c.read.new.buf c.loop.invariant.1 c.loop.invariant.2 _ w.done-is w.in-Err.ensures.bytes)
-    ]
+pub loop-done-preserved : goal.loop-done-preserved
+loop-done-preserved g c =
+    let at = c.loop-done.done in
+    let room = length c.loop-done.buf - at in
+    let read = c.in_ok-n.ensures in
+    (search rules, search (rules, read.bound), read_more _ _ _ at room c.loop-done.buf c.read.new.buf c.loop-done.invariant.1 c.loop-done.invariant.2 c.in_ok-n.n _ refl read.bound.0 read.bytes.0)
