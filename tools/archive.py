@@ -2,14 +2,16 @@
 """Makes static libraries of proved crates over the libraries that `rt ci` built: build/staticlib/libNAME.a, of the crate NAME, or of NAME_c
 where NAME is a library that NAME_c exports.
 
-    tools/archive.py --proved    after `rt ci` passed: notes in build/proved which sources it proved
-    tools/archive.py --sum       prints what build/proved has to hold for the sources as they are
+    tools/archive.py --proved    after `rt ci` passed: notes in build/proved which sources it proved, and what it built of them
+    tools/archive.py --sum       prints the sum of the sources as they are
     tools/archive.py NAME..      makes the libraries
 
 Each crate named is proved again as it is compiled. Those below it are not, where `rt ci` proved these very sources in this checkout
-(build/proved): what it built is in crates/*/out/rlib. Else `rt lib` proves them first, which takes only what `rt check` and `rt lib` kept.
+(build/proved) and what it built stands as it left it in crates/*/out/rlib. Else `rt lib` proves them first, which takes only what
+`rt check` and `rt lib` kept.
 A static library that is there, of the same sources, is not made again."""
 
+import glob
 import hashlib
 import os
 import shutil
@@ -29,15 +31,24 @@ ONE = threading.Lock()
 
 
 def sources():
-    """The sum of the toolchain's version and of every source."""
+    """The sum of the toolchain's version, of every source and of this tool."""
     out = hashlib.sha256(subprocess.run(['rt', 'version'], stdout=subprocess.PIPE, check=True).stdout)
-    paths = [os.path.join(TOP, 'crates.txt')]
+    paths = [os.path.join(TOP, 'crates.txt'), os.path.abspath(__file__)]
     for crate in sorted(os.listdir(os.path.join(TOP, 'crates'))):
         for part in ('src', 'specs', 'proofs'):
             paths += [os.path.join(at, name) for at, _, names in os.walk(os.path.join(TOP, 'crates', crate, part)) for name in names]
     for path in sorted(paths):
         with open(path, 'rb') as f:
             out.update(os.path.relpath(path, TOP).encode() + b'\0' + hashlib.sha256(f.read()).digest())
+    return out.hexdigest()
+
+
+def libraries():
+    """The sum of what is built in crates/*/out/rlib: each library's own description, and when it was written."""
+    out = hashlib.sha256()
+    for path in sorted(glob.glob(os.path.join(TOP, 'crates', '*', 'out', 'rlib', '*.rlib', 'format'))):
+        with open(path, 'rb') as f:
+            out.update(f'{os.path.relpath(path, TOP)} {os.stat(path).st_mtime_ns}\0'.encode() + f.read())
     return out.hexdigest()
 
 
@@ -57,6 +68,13 @@ def crates():
     return {it.name: it for it in rtlib.crates_below(TOP)}
 
 
+def ran(words, crate):
+    """Runs a command in the crate's folder; its status, and what it said."""
+    it = subprocess.run(words, cwd=crate.folder, stdin=subprocess.DEVNULL, stdout=subprocess.PIPE, stderr=subprocess.STDOUT, text=True,
+                        errors='replace')
+    return it.returncode, it.stdout
+
+
 def compiled(crate, to):
     """Proves and compiles one crate over the libraries below it, which stand; the status, and what was said."""
     missing = [it.name for it in crate.below() if not os.path.isdir(it.rlib)]
@@ -64,18 +82,15 @@ def compiled(crate, to):
         return 1, f'{crate.name}: no library of {", ".join(missing)}\n'
     with open(os.devnull, 'w') as crate.out:
         words = crate.words(['--jobs', '1'], keeps=False)
-    ran = subprocess.run([os.path.join(KIT, 'bin', 'rattle'), 'build', *words, '--cpu', CPU, '--toolchain', f'{KIT}/toolchain', '--backend', 'llvm',
-                          '-o', to], cwd=crate.folder, stdin=subprocess.DEVNULL, stdout=subprocess.PIPE, stderr=subprocess.STDOUT, text=True,
-                         errors='replace')
-    proved = any(line.startswith('logic=proved ') for line in ran.stdout.split('\n'))
-    return (1 if ran.returncode or not proved or not os.path.isfile(to) else 0), ran.stdout
+    status, said = ran([os.path.join(KIT, 'bin', 'rattle'), 'build', *words, '--cpu', CPU, '--toolchain', f'{KIT}/toolchain',
+                        '--backend', 'llvm', '-o', to], crate)
+    proved = any(line.startswith('logic=proved ') for line in said.split('\n'))
+    return (1 if status or not proved or not os.path.isfile(to) else 0), said
 
 
 def below_proved(crate):
     """Has `rt lib` prove the crate and those below it that it has not proved."""
-    ran = subprocess.run(['rt', 'lib'], cwd=crate.folder, stdin=subprocess.DEVNULL, stdout=subprocess.PIPE, stderr=subprocess.STDOUT, text=True,
-                         errors='replace')
-    return ran.returncode, ran.stdout
+    return ran(['rt', 'lib'], crate)
 
 
 def archive(name, crate, now):
@@ -87,7 +102,7 @@ def archive(name, crate, now):
     for path in (to, of):
         if os.path.exists(path):
             os.remove(path)
-    status, said = compiled(crate, to) if text_of(NOTED) == now else (1, '')
+    status, said = compiled(crate, to) if text_of(NOTED) == f'{now} {libraries()}' else (1, '')
     if status:
         with ONE:
             status, said = below_proved(crate)
@@ -109,7 +124,7 @@ def main(names):
     if names == ['--proved']:
         os.makedirs(os.path.dirname(NOTED), exist_ok=True)
         with open(NOTED, 'w', encoding='ascii') as f:
-            f.write(sources() + '\n')
+            f.write(f'{sources()} {libraries()}\n')
         return 0
     static = {name: crate for name, crate in crates().items() if crate.is_static}
     exporting = {name: static.get(f'{name}_c') or static.get(name) for name in names}

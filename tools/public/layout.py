@@ -39,8 +39,8 @@ def blocks(lines):
 
 
 def for_proof(line):
-    """Whether a line begins an attribute that says how a function is proved, or which traits a type derives."""
-    return line.startswith(('#[tactic', '#[derive'))
+    """Whether a line begins an attribute that says how a function is proved."""
+    return line.startswith('#[tactic')
 
 
 def others(block):
@@ -74,8 +74,8 @@ def with_lines(lines, standing):
 
 
 def kept(text, standing):
-    """A source with what stands in it for the prover alone: the tactics of crate and functions, the traits that types derive, and the
-    lemmas that tactics name. None of it changes what a function does or promises."""
+    """A source with what stands in it for the prover alone: the tactics of crate and functions, and the lemmas that tactics name. None of it
+    changes what a function does or promises."""
     now = standing.split('\n')
     return '\n'.join(with_items(with_lines(text.split('\n'), now), now))
 
