@@ -11,7 +11,6 @@ use memory_layout::Shape;
 
 // Block j of the partial of piece i at place p, whose blocks have the numbers of `t`, is asked for by a peer, `back` under REVERSE. One
 // that was received is not asked for again.
-#[tactic(auto, using(crate::proofs::RequestLaws::request_refused))]
 pub fn request_block(
     words: &mut [u64],
     cells: &mut [u16],
