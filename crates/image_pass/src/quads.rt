@@ -29,7 +29,6 @@ fn wide(n: u32) -> u64
 }
 
 // The numbers of each block. The answer is 0 where every flag is one, and no peer stands without it.
-#[tactic(auto, using(crate::proofs::QuadLaws::gathered_wrong, std::proofs::lemmas::List::places))]
 fn gather(bytes: &[u8], start: usize, many: usize, quads: &mut [u32]) -> u64
     requires { (start + 13 * many ≤ length bytes.now) × (many ≤ length quads.old) }
     ensures { Gathered start many bytes.now quads.old quads.new result }
