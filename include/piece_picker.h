@@ -27,7 +27,7 @@
  * image of a geometry; the answer says how many bytes there are. Any bytes may be read: those that are no image are refused with 13.
  *
  * Stack. What a call works on besides stands on the stack: PP_STACK_BYTES is enough for any call and all that it calls. The pick takes the
- * most, some 88 KiB; any other call takes less than 32 KiB. examples/stack.py reads that from the archive's machine code.
+ * most, some 89 KiB; any other call takes less than 32 KiB. examples/stack.py reads that from the archive's machine code.
  *
  * x86-64 with the System V calling convention. */
 #ifndef PIECE_PICKER_H
