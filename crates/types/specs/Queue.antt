@@ -1,11 +1,9 @@
 -- The queues: the number of each, the queue that has a number, and the turn from and to the reverse ones. Assumes nothing.
-use Rattle.std.specs.Prelude.{ℕ, Bool, true, false, List, [], ◌∷◌}
+use Rattle.std.specs.Prelude.{ℕ, Bool, true, false, List, [], ◌∷◌, None, Option, Some}
 use Rattle.types.specs.Numbers.{case_with}
 use Rattle.types.specs.declared.queue.DownloadQueue.{DownloadQueue}
 use Rattle.types.specs.declared.queue.DownloadQueue.TheVariants.{Downloading, Full, Finished, ZeroPrio, Open, DownloadingReverse}
 use Rattle.types.specs.declared.queue.DownloadQueue.TheVariants.{FullReverse}
-use Rattle.types.specs.declared.queue.QueueOf.{QueueOf}
-use Rattle.types.specs.declared.queue.QueueOf.TheVariants.{Queue, Nothing}
 
 -- the number that an image holds for each queue
 abbrev pub queue_number : DownloadQueue → ℕ
@@ -62,5 +60,5 @@ is_downloading DownloadingReverse = true
 is_downloading FullReverse = true
 
 -- the queue that has a number, if any
-unfoldable pub queue_with_number : ℕ → QueueOf
-queue_with_number = case_with queue_number Queue Nothing queues
+unfoldable pub queue_with_number : ℕ → Option DownloadQueue
+queue_with_number = case_with queue_number Some None queues

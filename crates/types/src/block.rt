@@ -1,47 +1,42 @@
 // The state of a block.
-ghost use Rattle.std.specs.Prelude.{◌≡◌};
+ghost use Rattle.std.specs.Prelude.{◌≡◌, ok_or};
 ghost use Rattle.types.specs.Block.{block_state_number, block_state_with_number};
 
-#[derive(Drop)]
+use crate::unknown::UnknownNumber;
+
+#[derive(Clone, Copy, PartialEq, Eq)]
 pub enum BlockState {
     // Free to request.
-    None,
+    None = 0,
     // Requested from at least one peer.
-    Requested,
+    Requested = 1,
     // Received, being written.
-    Writing,
+    Writing = 2,
     // Written.
-    Finished,
-}
-
-// The state that has a number, or nothing where no state has it.
-#[derive(Drop)]
-pub enum BlockStateOf {
-    State(BlockState),
-    Nothing,
+    Finished = 3,
 }
 
 impl BlockState {
     pub fn number(self) -> u8
         ensures { result ≡ block_state_number self }
     {
-        match self {
-            BlockState::None => 0,
-            BlockState::Requested => 1,
-            BlockState::Writing => 2,
-            BlockState::Finished => 3,
-        }
+        self as u8
     }
+}
 
-    pub fn from_number(n: u8) -> BlockStateOf
-        ensures { result ≡ block_state_with_number n }
-    {
+impl TryFrom<u8> for BlockState {
+    type Error = UnknownNumber;
+
+    ghost try_from_gives = { λ n found. found ≡ ok_or (block_state_with_number n) (record { number = n }) };
+
+    #[tactic(auto, unfolding(crate::specs::Block::block_state_with_number, crate::specs::Numbers::case_with))]
+    fn try_from(n: u8) -> Result<BlockState, UnknownNumber> {
         match n {
-            0 => BlockStateOf::State(BlockState::None),
-            1 => BlockStateOf::State(BlockState::Requested),
-            2 => BlockStateOf::State(BlockState::Writing),
-            3 => BlockStateOf::State(BlockState::Finished),
-            _ => BlockStateOf::Nothing,
+            0 => Ok(BlockState::None),
+            1 => Ok(BlockState::Requested),
+            2 => Ok(BlockState::Writing),
+            3 => Ok(BlockState::Finished),
+            _ => Err(UnknownNumber { number: n }),
         }
     }
 }

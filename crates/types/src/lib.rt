@@ -10,8 +10,9 @@ mod piece;
 mod priority;
 mod queue;
 mod refusal;
+mod unknown;
 
-pub use block::{BlockState, BlockStateOf};
+pub use block::BlockState;
 pub use convert::{
     i32_to_usize, i64_to_u64, u16_to_u64, u16_to_usize, u32_to_usize, u64_to_u16, u64_to_usize,
     usize_to_u32, usize_to_u64,
@@ -24,5 +25,6 @@ pub use limits::{
 pub use options::PickerOptions;
 pub use piece::{PieceBlock, PieceIndex};
 pub use priority::DownloadPriority;
-pub use queue::{DownloadQueue, QueueOf};
+pub use queue::DownloadQueue;
 pub use refusal::Refusal;
+pub use unknown::UnknownNumber;

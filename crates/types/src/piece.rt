@@ -5,7 +5,7 @@ ghost use Rattle.types.specs.Piece.{number_of, index_of, after, largest};
 use crate::convert::i32_to_usize;
 
 // The number of a piece. A number of its own kind, so that it cannot be taken for a block or a list place.
-#[derive(Clone, Copy)]
+#[derive(Clone, Copy, PartialEq, Eq)]
 pub struct PieceIndex(pub i32);
 
 impl PieceIndex {
@@ -36,17 +36,12 @@ impl PieceIndex {
     pub fn next(self) -> PieceIndex
         ensures { result.0 ≡ after self.0 }
     {
-        let n = self.0;
-        if n < 2147483647 {
-            PieceIndex(n + 1)
-        } else {
-            self
-        }
+        PieceIndex(self.0.saturating_add(1))
     }
 }
 
 // A block: the piece it is part of, and its number within the piece.
-#[derive(Drop)]
+#[derive(Clone, Copy, PartialEq, Eq)]
 pub struct PieceBlock {
     pub piece_index: PieceIndex,
     pub block_index: i32,

@@ -1,7 +1,7 @@
 // The priority of a piece, 0 to 7: what document 01 calls its wish.
 ghost use Rattle.std.specs.Prelude.{◌≡◌, ◌∷◌, []};
 
-#[derive(Drop)]
+#[derive(Clone, Copy, PartialEq, Eq)]
 pub struct DownloadPriority(pub u8);
 
 impl DownloadPriority {

@@ -1,30 +1,25 @@
 // The queue that a piece stands in.
-ghost use Rattle.std.specs.Prelude.{◌≡◌, map};
+ghost use Rattle.std.specs.Prelude.{◌≡◌, map, ok_or};
 ghost use Rattle.types.specs.Queue.{queue_number, queue_with_number, queues, unreverse, make_reverse, is_reverse, is_downloading};
 
-#[derive(Clone, Copy)]
+use crate::unknown::UnknownNumber;
+
+#[derive(Clone, Copy, PartialEq, Eq)]
 pub enum DownloadQueue {
     // Some blocks are outstanding.
-    Downloading,
+    Downloading = 0,
     // All blocks are requested or received, some only requested.
-    Full,
+    Full = 1,
     // All blocks are received.
-    Finished,
+    Finished = 2,
     // A partial piece whose priority is 0.
-    ZeroPrio,
+    ZeroPrio = 3,
     // In no queue.
-    Open,
+    Open = 4,
     // As Downloading, requested by a peer that picks in reverse.
-    DownloadingReverse,
+    DownloadingReverse = 5,
     // As Full, requested by a peer that picks in reverse.
-    FullReverse,
-}
-
-// The queue that has a number, or nothing where no queue has it.
-#[derive(Drop)]
-pub enum QueueOf {
-    Queue(DownloadQueue),
-    Nothing,
+    FullReverse = 6,
 }
 
 impl DownloadQueue {
@@ -63,28 +58,19 @@ impl DownloadQueue {
         ensures { result ≡ unreverse self }
     {
         match self {
-            DownloadQueue::Downloading => DownloadQueue::Downloading,
-            DownloadQueue::Full => DownloadQueue::Full,
-            DownloadQueue::Finished => DownloadQueue::Finished,
-            DownloadQueue::ZeroPrio => DownloadQueue::ZeroPrio,
-            DownloadQueue::Open => DownloadQueue::Open,
             DownloadQueue::DownloadingReverse => DownloadQueue::Downloading,
             DownloadQueue::FullReverse => DownloadQueue::Full,
+            _ => self,
         }
     }
 
     pub fn is_reverse(self) -> bool
         ensures { result ≡ is_reverse self }
     {
-        match self {
-            DownloadQueue::Downloading => false,
-            DownloadQueue::Full => false,
-            DownloadQueue::Finished => false,
-            DownloadQueue::ZeroPrio => false,
-            DownloadQueue::Open => false,
-            DownloadQueue::DownloadingReverse => true,
-            DownloadQueue::FullReverse => true,
-        }
+        matches!(
+            self,
+            DownloadQueue::DownloadingReverse | DownloadQueue::FullReverse
+        )
     }
 
     pub fn unreverse(self) -> DownloadQueue
@@ -99,11 +85,7 @@ impl DownloadQueue {
         match self {
             DownloadQueue::Downloading => DownloadQueue::DownloadingReverse,
             DownloadQueue::Full => DownloadQueue::FullReverse,
-            DownloadQueue::Finished => DownloadQueue::Finished,
-            DownloadQueue::ZeroPrio => DownloadQueue::ZeroPrio,
-            DownloadQueue::Open => DownloadQueue::Open,
-            DownloadQueue::DownloadingReverse => DownloadQueue::DownloadingReverse,
-            DownloadQueue::FullReverse => DownloadQueue::FullReverse,
+            _ => self,
         }
     }
 
@@ -111,43 +93,32 @@ impl DownloadQueue {
     pub fn is_downloading(self) -> bool
         ensures { result ≡ is_downloading self }
     {
-        match self {
-            DownloadQueue::Downloading => true,
-            DownloadQueue::Full => true,
-            DownloadQueue::Finished => true,
-            DownloadQueue::ZeroPrio => true,
-            DownloadQueue::Open => false,
-            DownloadQueue::DownloadingReverse => true,
-            DownloadQueue::FullReverse => true,
-        }
+        !matches!(self, DownloadQueue::Open)
     }
 
     pub fn number(self) -> u8
         ensures { result ≡ queue_number self }
     {
-        match self {
-            DownloadQueue::Downloading => 0,
-            DownloadQueue::Full => 1,
-            DownloadQueue::Finished => 2,
-            DownloadQueue::ZeroPrio => 3,
-            DownloadQueue::Open => 4,
-            DownloadQueue::DownloadingReverse => 5,
-            DownloadQueue::FullReverse => 6,
-        }
+        self as u8
     }
+}
 
-    pub fn from_number(n: u8) -> QueueOf
-        ensures { result ≡ queue_with_number n }
-    {
+impl TryFrom<u8> for DownloadQueue {
+    type Error = UnknownNumber;
+
+    ghost try_from_gives = { λ n found. found ≡ ok_or (queue_with_number n) (record { number = n }) };
+
+    #[tactic(auto, unfolding(crate::specs::Queue::queue_with_number, crate::specs::Numbers::case_with))]
+    fn try_from(n: u8) -> Result<DownloadQueue, UnknownNumber> {
         match n {
-            0 => QueueOf::Queue(DownloadQueue::Downloading),
-            1 => QueueOf::Queue(DownloadQueue::Full),
-            2 => QueueOf::Queue(DownloadQueue::Finished),
-            3 => QueueOf::Queue(DownloadQueue::ZeroPrio),
-            4 => QueueOf::Queue(DownloadQueue::Open),
-            5 => QueueOf::Queue(DownloadQueue::DownloadingReverse),
-            6 => QueueOf::Queue(DownloadQueue::FullReverse),
-            _ => QueueOf::Nothing,
+            0 => Ok(DownloadQueue::Downloading),
+            1 => Ok(DownloadQueue::Full),
+            2 => Ok(DownloadQueue::Finished),
+            3 => Ok(DownloadQueue::ZeroPrio),
+            4 => Ok(DownloadQueue::Open),
+            5 => Ok(DownloadQueue::DownloadingReverse),
+            6 => Ok(DownloadQueue::FullReverse),
+            _ => Err(UnknownNumber { number: n }),
         }
     }
 }

@@ -1,5 +1,4 @@
 -- `PieceIndex::at` meets its contract: a place below 2^31 fits, and its bits read as itself. Assumes nothing.
-use borrow.Author.Rules.{rules}
 use Rattle.types.proofs.Signed.{reads, numbers, places}
 use Rattle.types.proofs.piece.PieceIndex.at.Goals as goal
 
