@@ -1,4 +1,5 @@
 -- What `specs/Bitfield.antt` means, bit by bit: for the reader, and for a caller to cite.
+use Rattle.std.specs.Prelude.{None, Option, Some}
 use mathlib.Core.Path.{◌≡◌, refl, ap, sym, ◌∙◌}
 use mathlib.Core.Bool.{Bool, true, false, ◌&&◌}
 use mathlib.Core.List.{List}
@@ -11,8 +12,6 @@ use Rattle.model.specs.Bep3.{bit_at}
 use Rattle.bitfield.specs.Bitfield.{count_bits, every_set, first_from, first_set, last_clear}
 use Rattle.model.specs.Lists.{bit}
 use Rattle.bitfield.proofs.ScanLaws.{count_le}
-use Rattle.bitfield.specs.declared.Found.{Found}
-use Rattle.bitfield.specs.declared.Found.TheVariants.{At, Nothing}
 
 -- ---- searches
 -- bit j is the first set one of the n bits from i on
@@ -28,26 +27,26 @@ pub record Last (bytes : List ℕ) (n j : ℕ) : Type 0 where
   pub here : bit_at bytes j ≡ false
   pub behind : (k : ℕ) → j < k → k < n → bit_at bytes k ≡ true
 
-is_at : Found → ℕ
-is_at (At i) = suc i
-is_at Nothing = 0
+is_at : Option ℕ → ℕ
+is_at (Some i) = suc i
+is_at None = 0
 
-at_same : (i j : ℕ) → At i ≡ At j → i ≡ j
+at_same : (i j : ℕ) → Some i ≡ Some j → i ≡ j
 unfolding is_at
 at_same i j e = let d = ap is_at e in omega arith
 
-at_nothing : (j : ℕ) → Nothing ≡ At j → ⊥
+at_nothing : (j : ℕ) → None ≡ Some j → ⊥
 unfolding is_at
 at_nothing j e = let d = ap is_at e in omega arith
 
 module _ (bytes : List ℕ) where
-  first_from_lem : (n i j : ℕ) → first_from bytes i n ≡ At j → First bytes i n j
+  first_from_lem : (n i j : ℕ) → first_from bytes i n ≡ Some j → First bytes i n j
   unfolding first_from
   first_from_lem zero i j e = absurd (at_nothing j e)
   first_from_lem (suc n) i j e = by (bit_at bytes i) refl e (first_from_lem n (suc i) j)
     where
-      by : (b : Bool) → bit_at bytes i ≡ b → elim b [ true ↦ At i | false ↦ first_from bytes (suc i) n ] ≡ At j
-          → (first_from bytes (suc i) n ≡ At j → First bytes (suc i) n j) → First bytes i (suc n) j
+      by : (b : Bool) → bit_at bytes i ≡ b → elim b [ true ↦ Some i | false ↦ first_from bytes (suc i) n ] ≡ Some j
+          → (first_from bytes (suc i) n ≡ Some j → First bytes (suc i) n j) → First bytes i (suc n) j
       by true b e next =
           let d = at_same i j e in
           record { from = omega arith; below = omega arith; here = rw d at b; before = λ k l u. absurd (omega arith) }
@@ -63,18 +62,18 @@ module _ (bytes : List ℕ) where
           }
 
   -- the bit that a search finds is the first set one
-  pub first_means : (bits j : ℕ) → first_set bytes bits ≡ At j → First bytes 0 bits j
+  pub first_means : (bits j : ℕ) → first_set bytes bits ≡ Some j → First bytes 0 bits j
   unfolding first_set
   first_means bits j e = first_from_lem bits 0 j e
 
   -- the bit that a search finds is the last unset one
-  pub last_means : (bits j : ℕ) → last_clear bytes bits ≡ At j → Last bytes bits j
+  pub last_means : (bits j : ℕ) → last_clear bytes bits ≡ Some j → Last bytes bits j
   unfolding last_clear
   last_means zero j e = absurd (at_nothing j e)
   last_means (suc n) j e = by (bit_at bytes n) refl e (last_means n j)
     where
-      by : (b : Bool) → bit_at bytes n ≡ b → elim b [ true ↦ last_clear bytes n | false ↦ At n ] ≡ At j
-          → (last_clear bytes n ≡ At j → Last bytes n j) → Last bytes (suc n) j
+      by : (b : Bool) → bit_at bytes n ≡ b → elim b [ true ↦ last_clear bytes n | false ↦ Some n ] ≡ Some j
+          → (last_clear bytes n ≡ Some j → Last bytes n j) → Last bytes (suc n) j
       by false b e next =
           let d = at_same n j e in
           record { below = omega arith; here = rw d at b; behind = λ k l u. absurd (omega arith) }

@@ -6,56 +6,39 @@ ghost use Rattle.std.specs.Prelude.{◌≡◌, ◌+◌, ◌*◌, ◌/◌, min, t
 ghost use Rattle.model.specs.Bep3.{parts_of, bitfield_bytes, bit_at, none_set};
 ghost use Rattle.bitfield.specs.Bitfield.{get_bit, count_bits, all_set, first_set, last_clear, next_bit};
 
-// What a search answers.
-#[derive(Drop)]
-pub enum Found {
-    At(usize),
-    Nothing,
-}
-
-// What an iterator answers: a bit and the next place.
-#[derive(Drop)]
-pub enum Step {
-    Bit(bool, usize),
-    Done,
+// What an iterator gives: a bit and the next place.
+#[derive(Clone, Copy, PartialEq, Eq)]
+pub struct Step {
+    pub bit: bool,
+    pub next: usize,
 }
 
 // ---- one bit
 
 // Bit `index`; unset where it is not below `bits`.
+#[tactic(auto, unfolding(crate::specs::Bitfield::get_bit))]
 pub fn get_bit(bytes: &[u8], bits: usize, index: usize) -> bool
     ensures { result ≡ get_bit bytes.now bits index }
 {
-    if index < bits {
-        bit_at(bytes, index)
-    } else {
-        false
-    }
+    index < bits && bit_at(bytes, index)
 }
 
 // ---- all the bits
 
 // Every bit is set, and there is one.
+#[tactic(auto, using(crate::proofs::ScanLaws::every_last), unfolding(crate::specs::Bitfield::all_set))]
 pub fn all_set(bytes: &[u8], bits: usize) -> bool
     ensures { result ≡ all_set bytes.now bits }
 {
-    if bits == 0 {
-        return false;
-    }
-    match find_last_clear(bytes, bits) {
-        Found::At(_) => false,
-        Found::Nothing => true,
-    }
+    bits != 0 && find_last_clear(bytes, bits).is_none()
 }
 
 // No bit is set.
+#[tactic(auto, using(crate::proofs::ScanLaws::none_first), unfolding(crate::specs::Bitfield::first_set))]
 pub fn none_set(bytes: &[u8], bits: usize) -> bool
     ensures { result ≡ none_set bytes.now 0 bits }
 {
-    match find_first_set(bytes, bits) {
-        Found::At(_) => false,
-        Found::Nothing => true,
-    }
+    find_first_set(bytes, bits).is_none()
 }
 
 // The number of bits.
@@ -66,17 +49,19 @@ pub fn size(bits: usize) -> usize
 }
 
 // The number of 32-bit words that hold the bits.
+#[tactic(auto, unfolding(model::specs::Bep3::parts_of))]
 pub fn num_words(bits: usize) -> usize
     ensures { result ≡ parts_of bits 32 }
 {
-    bits / 32 + (bits % 32 + 31) / 32
+    bits.div_ceil(32)
 }
 
 // The number of bytes that hold the bits.
+#[tactic(auto, unfolding(model::specs::Bep3::parts_of, model::specs::Bep3::bitfield_bytes))]
 pub fn num_bytes(bits: usize) -> usize
     ensures { result ≡ bitfield_bytes bits }
 {
-    bits / 8 + (bits % 8 + 7) / 8
+    bits.div_ceil(8)
 }
 
 // There are no bits.
@@ -90,7 +75,7 @@ pub fn is_empty(bits: usize) -> bool
 pub fn bytes(buf: &[u8], bits: usize) -> &[u8]
     ensures { result.now ≡ take (bitfield_bytes bits) buf.now }
 {
-    let n = least(num_bytes(bits), buf.len());
+    let n = num_bytes(bits).min(buf.len());
     &buf[..n]
 }
 
@@ -100,55 +85,55 @@ pub fn count(bytes: &[u8], bits: usize) -> usize
 {
     let stop = held(bytes.len(), bits);
     let mut n: usize = 0;
-    let mut i: usize = 0;
-    while i < stop {
+    for i in 0..stop {
         if bit_at(bytes, i) {
             n += 1;
         }
-        i += 1;
     }
     n
 }
 
 // The first set bit.
-pub fn find_first_set(bytes: &[u8], bits: usize) -> Found
+#[tactic(auto, using(crate::proofs::ScanLaws::first_here, crate::proofs::ScanLaws::first_next, crate::proofs::ScanLaws::first_none), unfolding(crate::specs::Bitfield::first_set))]
+pub fn find_first_set(bytes: &[u8], bits: usize) -> Option<usize>
     ensures { result ≡ first_set bytes.now bits }
 {
     let end = held(bytes.len(), bits);
-    let mut i: usize = 0;
-    while i < end {
+    for i in 0..end {
         if bit_at(bytes, i) {
-            return Found::At(i);
+            return Some(i);
         }
-        i += 1;
     }
-    Found::Nothing
+    None
 }
 
 // The last unset bit.
-pub fn find_last_clear(bytes: &[u8], bits: usize) -> Found
+#[tactic(auto, using(crate::proofs::ScanLaws::last_here, crate::proofs::ScanLaws::last_next), unfolding(crate::specs::Bitfield::last_clear))]
+pub fn find_last_clear(bytes: &[u8], bits: usize) -> Option<usize>
     ensures { result ≡ last_clear bytes.now bits }
 {
-    let mut i = bits;
-    while 0 < i {
-        i -= 1;
+    for i in (0..bits).rev() {
         if !bit_at(bytes, i) {
-            return Found::At(i);
+            return Some(i);
         }
     }
-    Found::Nothing
+    None
 }
 
 // ---- the iterator
 
 // The bit at `index` and the next place, or the end.
-pub fn next(bytes: &[u8], bits: usize, index: usize) -> Step
+#[tactic(auto, unfolding(crate::specs::Bitfield::next_bit))]
+pub fn next(bytes: &[u8], bits: usize, index: usize) -> Option<Step>
     ensures { result ≡ next_bit bytes.now bits index }
 {
     if index < bits {
-        Step::Bit(bit_at(bytes, index), index + 1)
+        Some(Step {
+            bit: bit_at(bytes, index),
+            next: index + 1,
+        })
     } else {
-        Step::Done
+        None
     }
 }
 
@@ -169,12 +154,5 @@ fn bit_at(bytes: &[u8], i: usize) -> bool
 fn held(len: usize, bits: usize) -> usize
     ensures { result ≡ min bits (8 * len) }
 {
-    if bits / 8 < len { bits } else { len * 8 }
-}
-
-// The lesser of two numbers.
-pub fn least(a: usize, b: usize) -> usize
-    ensures { result ≡ min a b }
-{
-    if a < b { a } else { b }
+    bits.min(len.saturating_mul(8))
 }

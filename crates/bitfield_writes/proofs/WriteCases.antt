@@ -4,7 +4,8 @@ use mathlib.Core.Bool.{true}
 use mathlib.Core.List.{[], ◌∷◌}
 use Rattle.model.specs.Bep3.{parts_of, bitfield_bytes, bit_of, bit_at}
 use Rattle.bitfield_writes.specs.Writing.{digits, from_bits, put_run, put_bit, filled, grown, room_for}
-use Rattle.bitfield_writes.specs.declared.Stored.TheVariants.{Done, TooShort}
+use Rattle.std.specs.Prelude.{Ok, Err}
+use Rattle.bitfield_writes.specs.declared.StoreError.TheVariants.{TooShort}
 
 opened : Unit {0}
 unfolding parts_of bitfield_bytes bit_of bit_at digits from_bits put_run put_bit filled grown room_for
@@ -26,6 +27,6 @@ unfolding opened
 set_nine = (refl, refl)
 
 -- nine bits need two bytes
-room : (room_for 9 (0 ∷ []) ≡ TooShort) × (room_for 8 (0 ∷ []) ≡ Done)
+room : (room_for 9 (0 ∷ []) ≡ Err TooShort) × (room_for 8 (0 ∷ []) ≡ Ok tt)
 unfolding opened
 room = (refl, refl)

@@ -1,9 +1,9 @@
 -- Bitfields in lent bytes, written. `bytes` is the lent memory and `bits` the number of bits that count.
-use Rattle.std.specs.Prelude.{◌≡◌, ℕ, zero, suc, ◌+◌, ◌-◌, ◌*◌, Bool, ◌&&◌, cond, List, [], ◌∷◌, length, leb, ltb}
+use Rattle.std.specs.Prelude.{◌≡◌, ℕ, zero, suc, ◌+◌, ◌-◌, ◌*◌, Bool, ◌&&◌, cond, List, [], ◌∷◌, length, leb, ltb, ⊤, Result, Ok, Err}
 use Rattle.model.specs.Lists.{bit}
 use Rattle.model.specs.Bep3.{bitfield_bytes, bit_of, bit_at}
-use Rattle.bitfield_writes.specs.declared.Stored.{Stored}
-use Rattle.bitfield_writes.specs.declared.Stored.TheVariants.{Done, DataShort, TooShort}
+use Rattle.bitfield_writes.specs.declared.StoreError.{StoreError}
+use Rattle.bitfield_writes.specs.declared.StoreError.TheVariants.{DataShort, TooShort}
 
 -- the number whose n binary digits, the highest first, are f 0 to f (n - 1)
 unfoldable pub digits : (f : ℕ → Bool) (n : ℕ) → ℕ
@@ -37,20 +37,19 @@ grown bytes old v i = cond (ltb i old) (bit_at bytes i) v
 
 -- ---- answers
 -- whether the buffer has room for the bits
-unfoldable pub room_for : (bits : ℕ) (buf : List ℕ) → Stored
-room_for bits buf = cond (leb (bitfield_bytes bits) (length buf)) Done TooShort
+unfoldable pub room_for : (bits : ℕ) (buf : List ℕ) → Result ⊤ StoreError
+room_for bits buf = cond (leb (bitfield_bytes bits) (length buf)) (Ok tt) (Err TooShort)
 
 -- whether the data has the bits, and then the buffer the room
-unfoldable pub room_from : (bits : ℕ) (src buf : List ℕ) → Stored
-room_from bits src buf = cond (leb (bitfield_bytes bits) (length src)) (room_for bits buf) DataShort
+unfoldable pub room_from : (bits : ℕ) (src buf : List ℕ) → Result ⊤ StoreError
+room_from bits src buf = cond (leb (bitfield_bytes bits) (length src)) (room_for bits buf) (Err DataShort)
 
 -- the new bytes if a call is done, else the old ones
-unfoldable pub on_done : (want : Stored) (new old : List ℕ) → List ℕ
-on_done Done new old = new
-on_done DataShort new old = old
-on_done TooShort new old = old
+unfoldable pub on_done : (want : Result ⊤ StoreError) (new old : List ℕ) → List ℕ
+on_done (Ok _) new old = new
+on_done (Err _) new old = old
 
--- a call answers `want`, and leaves the new bytes if that is Done, else the old ones
-pub record Did (want : Stored) (new old : List ℕ) (answer : Stored) (exit : List ℕ) : Type 0 where
+-- a call answers `want`, and leaves the new bytes if that is Ok, else the old ones
+pub record Did (want : Result ⊤ StoreError) (new old : List ℕ) (answer : Result ⊤ StoreError) (exit : List ℕ) : Type 0 where
   pub answers : answer ≡ want
   pub leaves : exit ≡ on_done want new old

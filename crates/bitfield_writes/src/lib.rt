@@ -6,59 +6,60 @@ ghost use Rattle.std.specs.Prelude.{◌≡◌, ◌+◌, ◌*◌, ◌/◌, ◌≤
 ghost use Rattle.model.specs.Bep3.{bit_at};
 ghost use Rattle.bitfield_writes.specs.Writing.{digits, with_mask, put_run, put_bit, filled, grown, room_for, room_from, Did};
 
-use bitfield::{least, num_bytes};
+use bitfield::num_bytes;
 
 // A byte with every bit set, and with its first one alone.
 const ALL_BITS: u8 = 255;
 
 const HIGH_BIT: u8 = 128;
 
-// What a call on a buffer answers: where the data or the buffer is too short, nothing is written.
-#[derive(Drop)]
-pub enum Stored {
-    Done,
+// Why a call on a buffer writes nothing.
+#[derive(Clone, Copy, PartialEq, Eq)]
+pub enum StoreError {
+    // The data has fewer bits.
     DataShort,
+    // The buffer has no room for the bits.
     TooShort,
 }
 
 // ---- the buffer filled
 
 // `bits` bits, all unset.
-pub fn with_size(buf: &mut [u8], bits: usize) -> Stored
+pub fn with_size(buf: &mut [u8], bits: usize) -> Result<(), StoreError>
     ensures { Did (room_for bits buf.old) (filled bits (λ i. false) buf.old) buf.old result buf.new }
 {
     with_value(buf, bits, false)
 }
 
 // `bits` bits, all `val`.
-pub fn with_value(buf: &mut [u8], bits: usize, val: bool) -> Stored
+pub fn with_value(buf: &mut [u8], bits: usize, val: bool) -> Result<(), StoreError>
     ensures { Did (room_for bits buf.old) (filled bits (λ i. val) buf.old) buf.old result buf.new }
 {
     if buf.len() < num_bytes(bits) {
-        return Stored::TooShort;
+        return Err(StoreError::TooShort);
     }
     fill_to(buf, 0, bits, val);
-    Stored::Done
+    Ok(())
 }
 
 // `bits` bits of `src`.
-pub fn from_bytes(buf: &mut [u8], src: &[u8], bits: usize) -> Stored
+pub fn from_bytes(buf: &mut [u8], src: &[u8], bits: usize) -> Result<(), StoreError>
     ensures { Did (room_from bits src.now buf.old) (filled bits (bit_at src.now) buf.old) buf.old result buf.new }
 {
     let n = num_bytes(bits);
     if src.len() < n {
-        return Stored::DataShort;
+        return Err(StoreError::DataShort);
     }
     if buf.len() < n {
-        return Stored::TooShort;
+        return Err(StoreError::TooShort);
     }
     copy_bytes(buf, src, n);
     put_run(buf, bits, n, false);
-    Stored::Done
+    Ok(())
 }
 
 // The contents replaced by `bits` bits of `src`.
-pub fn assign(buf: &mut [u8], src: &[u8], bits: usize) -> Stored
+pub fn assign(buf: &mut [u8], src: &[u8], bits: usize) -> Result<(), StoreError>
     ensures { Did (room_from bits src.now buf.old) (filled bits (bit_at src.now) buf.old) buf.old result buf.new }
 {
     from_bytes(buf, src, bits)
@@ -99,21 +100,21 @@ pub fn clear_all(buf: &mut [u8], bits: usize)
 // ---- another number of bits
 
 // From `old` bits to `bits`; new bits are 0.
-pub fn resize(buf: &mut [u8], old: usize, bits: usize) -> Stored
+pub fn resize(buf: &mut [u8], old: usize, bits: usize) -> Result<(), StoreError>
     ensures { Did (room_for bits buf.old) (filled bits (grown buf.old old false) buf.old) buf.old result buf.new }
 {
     resize_with(buf, old, bits, false)
 }
 
 // From `old` bits to `bits`; new bits are `val`.
-pub fn resize_with(buf: &mut [u8], old: usize, bits: usize, val: bool) -> Stored
+pub fn resize_with(buf: &mut [u8], old: usize, bits: usize, val: bool) -> Result<(), StoreError>
     ensures { Did (room_for bits buf.old) (filled bits (grown buf.old old val) buf.old) buf.old result buf.new }
 {
     if buf.len() < num_bytes(bits) {
-        return Stored::TooShort;
+        return Err(StoreError::TooShort);
     }
     fill_to(buf, old, bits, val);
-    Stored::Done
+    Ok(())
 }
 
 // ---- what the calls above are made of
@@ -162,11 +163,9 @@ fn fill_bytes(buf: &mut [u8], from: usize, to: usize, v: bool)
     ensures { buf.new ≡ put_run (8 * from) (8 * to) (λ i. v) buf.old }
 {
     let w = whole(v);
-    let end = least(to, buf.len());
-    let mut j = from;
-    while j < end {
+    let end = to.min(buf.len());
+    for j in from..end {
         buf[j] = w;
-        j += 1;
     }
 }
 
@@ -196,10 +195,8 @@ fn copy_bytes(buf: &mut [u8], src: &[u8], n: usize)
     requires { n ≤ length src.now }
     ensures { buf.new ≡ put_run 0 (8 * n) (bit_at src.now) buf.old }
 {
-    let end = least(n, buf.len());
-    let mut j: usize = 0;
-    while j < end {
+    let end = n.min(buf.len());
+    for j in 0..end {
         buf[j] = src[j];
-        j += 1;
     }
 }

@@ -2,26 +2,37 @@
 // implementation. An answer on a buffer is 0 for done, 1 for too little data and 2 for too little room.
 #![tactic(auto)]
 
-ghost use Rattle.std.specs.Prelude.{◌≡◌, true, false, eqb, length, take};
+ghost use Rattle.std.specs.Prelude.{◌≡◌, true, false, eqb, length, take, is_some, unwrap_or};
 ghost use Rattle.model.specs.Bep3.{parts_of, bitfield_bytes, bit_at, none_set};
 ghost use Rattle.bitfield.specs.Bitfield.{get_bit, count_bits, all_set, first_set, last_clear, next_bit};
 ghost use Rattle.bitfield_writes.specs.Writing.{put_bit, filled, grown, room_for, room_from};
-ghost use Rattle.link_bitfield.specs.Codes.{code_of, Coded, is_found, found_at, is_bit, bit_given, next_place};
+ghost use Rattle.link_bitfield.specs.Codes.{code_of, Coded, bit_given, next_place};
 
-use bitfield::{Found, Step};
-use bitfield_writes::Stored;
+use bitfield_writes::StoreError;
 
-fn code(s: Stored) -> u8
-    ensures { result ≡ code_of s }
+fn code(answer: Result<(), StoreError>) -> u8
+    ensures { result ≡ code_of answer }
 {
-    match s {
-        Stored::Done => 0,
-        Stored::DataShort => 1,
-        Stored::TooShort => 2,
+    match answer {
+        Ok(()) => 0,
+        Err(StoreError::DataShort) => 1,
+        Err(StoreError::TooShort) => 2,
     }
 }
 
+// Whether a search found something; `at` is then its number.
+fn tell(found: Option<usize>, at: &mut usize) -> bool
+    ensures value { result ≡ is_some found }
+    ensures at_after { at.new ≡ unwrap_or found at.old }
+{
+    if let Some(i) = found {
+        *at = i;
+    }
+    found.is_some()
+}
+
 #[unsafe(no_mangle)]
+#[tactic(auto, using(crate::proofs::CodeLaws::coded))]
 pub extern "C" fn bf_with_size(buf: &mut [u8], bits: usize) -> u8
     ensures { Coded (room_for bits buf.old) (filled bits (λ i. false) buf.old) buf.old result buf.new }
 {
@@ -29,6 +40,7 @@ pub extern "C" fn bf_with_size(buf: &mut [u8], bits: usize) -> u8
 }
 
 #[unsafe(no_mangle)]
+#[tactic(auto, using(crate::proofs::CodeLaws::coded))]
 pub extern "C" fn bf_with_value(buf: &mut [u8], bits: usize, val: bool) -> u8
     ensures { Coded (room_for bits buf.old) (filled bits (λ i. val) buf.old) buf.old result buf.new }
 {
@@ -36,6 +48,7 @@ pub extern "C" fn bf_with_value(buf: &mut [u8], bits: usize, val: bool) -> u8
 }
 
 #[unsafe(no_mangle)]
+#[tactic(auto, using(crate::proofs::CodeLaws::coded))]
 pub extern "C" fn bf_from_bytes(buf: &mut [u8], src: &[u8], bits: usize) -> u8
     ensures { Coded (room_from bits src.now buf.old) (filled bits (bit_at src.now) buf.old) buf.old result buf.new }
 {
@@ -43,6 +56,7 @@ pub extern "C" fn bf_from_bytes(buf: &mut [u8], src: &[u8], bits: usize) -> u8
 }
 
 #[unsafe(no_mangle)]
+#[tactic(auto, using(crate::proofs::CodeLaws::coded))]
 pub extern "C" fn bf_assign(buf: &mut [u8], src: &[u8], bits: usize) -> u8
     ensures { Coded (room_from bits src.now buf.old) (filled bits (bit_at src.now) buf.old) buf.old result buf.new }
 {
@@ -130,31 +144,19 @@ pub extern "C" fn bf_count(bytes: &[u8], bits: usize) -> usize
 // Whether there is one; `at` is then its number.
 #[unsafe(no_mangle)]
 pub extern "C" fn bf_find_first_set(bytes: &[u8], bits: usize, at: &mut usize) -> bool
-    ensures value { result ≡ is_found (first_set bytes.now bits) }
-    ensures at_after { at.new ≡ found_at at.old (first_set bytes.now bits) }
+    ensures value { result ≡ is_some (first_set bytes.now bits) }
+    ensures at_after { at.new ≡ unwrap_or (first_set bytes.now bits) at.old }
 {
-    match bitfield::find_first_set(bytes, bits) {
-        Found::At(i) => {
-            *at = i;
-            true
-        }
-        Found::Nothing => false,
-    }
+    tell(bitfield::find_first_set(bytes, bits), at)
 }
 
 // Whether there is one; `at` is then its number.
 #[unsafe(no_mangle)]
 pub extern "C" fn bf_find_last_clear(bytes: &[u8], bits: usize, at: &mut usize) -> bool
-    ensures value { result ≡ is_found (last_clear bytes.now bits) }
-    ensures at_after { at.new ≡ found_at at.old (last_clear bytes.now bits) }
+    ensures value { result ≡ is_some (last_clear bytes.now bits) }
+    ensures at_after { at.new ≡ unwrap_or (last_clear bytes.now bits) at.old }
 {
-    match bitfield::find_last_clear(bytes, bits) {
-        Found::At(i) => {
-            *at = i;
-            true
-        }
-        Found::Nothing => false,
-    }
+    tell(bitfield::find_last_clear(bytes, bits), at)
 }
 
 #[unsafe(no_mangle)]
@@ -172,6 +174,7 @@ pub extern "C" fn bf_clear_all(buf: &mut [u8], bits: usize)
 }
 
 #[unsafe(no_mangle)]
+#[tactic(auto, using(crate::proofs::CodeLaws::coded))]
 pub extern "C" fn bf_resize(buf: &mut [u8], old: usize, bits: usize) -> u8
     ensures { Coded (room_for bits buf.old) (filled bits (grown buf.old old false) buf.old) buf.old result buf.new }
 {
@@ -179,6 +182,7 @@ pub extern "C" fn bf_resize(buf: &mut [u8], old: usize, bits: usize) -> u8
 }
 
 #[unsafe(no_mangle)]
+#[tactic(auto, using(crate::proofs::CodeLaws::coded))]
 pub extern "C" fn bf_resize_with(buf: &mut [u8], old: usize, bits: usize, val: bool) -> u8
     ensures { Coded (room_for bits buf.old) (filled bits (grown buf.old old val) buf.old) buf.old result buf.new }
 {
@@ -194,16 +198,16 @@ pub extern "C" fn bf_next(
     bit: &mut bool,
     next: &mut usize,
 ) -> bool
-    ensures value { result ≡ is_bit (next_bit bytes.now bits index) }
+    ensures value { result ≡ is_some (next_bit bytes.now bits index) }
     ensures bit_after { bit.new ≡ bit_given bit.old (next_bit bytes.now bits index) }
     ensures next_after { next.new ≡ next_place next.old (next_bit bytes.now bits index) }
 {
     match bitfield::next(bytes, bits, index) {
-        Step::Bit(b, n) => {
-            *bit = b;
-            *next = n;
+        Some(step) => {
+            *bit = step.bit;
+            *next = step.next;
             true
         }
-        Step::Done => false,
+        None => false,
     }
 }

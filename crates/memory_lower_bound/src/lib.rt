@@ -17,6 +17,7 @@ fn few(rows: &[u32], live: usize, i: usize) -> usize
 {
     let mut low = 0;
     let mut width: usize = 64;
+    // A `while`, since the width is halved each turn.
     while 0 < width {
         let next = low + (width - width / 2);
         if next <= live {

@@ -1,10 +1,8 @@
 -- The lent records by place and by piece: searches, and one put in, taken out or replaced. Assumes nothing.
-use Rattle.std.specs.Prelude.{◌≡◌, Bool, true, false, cond, not, ◌&&◌, ◌||◌, ℕ, zero, suc, ◌+◌, ◌-◌, ◌<◌, ◌≤◌, ltb, leb, eqb, List, [], ◌∷◌, length, get_or, set, take}
+use Rattle.std.specs.Prelude.{◌≡◌, Bool, true, false, cond, not, ◌&&◌, ◌||◌, ℕ, zero, suc, ◌+◌, ◌-◌, ◌<◌, ◌≤◌, ltb, leb, eqb, List, [], ◌∷◌, length, get_or, set, take, None, Option, Some}
 use Rattle.memory_records.specs.declared.record.DownloadingPiece.{DownloadingPiece}
 use Rattle.memory_records.specs.declared.edits.Edit.{Edit}
 use Rattle.memory_records.specs.declared.edits.Edit.TheVariants.{Keep, Replace, Insert, Remove}
-use Rattle.memory_records.specs.declared.search.Found.{Found}
-use Rattle.memory_records.specs.declared.search.Found.TheVariants.{At, Nothing}
 
 -- what stands past the last record
 abbrev pub no_record : DownloadingPiece
@@ -20,13 +18,13 @@ abbrev pub Rising : (n : ℕ) (ds : List DownloadingPiece) → Type 0
 Rising n ds = (n ≤ length ds) × (rising_from 0 (take n ds) ≡ true)
 
 -- a choice by a truth value, of answers
-abbrev pub choice_of : (test : Bool) (a b : Found) → Found
+abbrev pub choice_of : (test : Bool) (a b : Option ℕ) → Option ℕ
 choice_of true a b = a
 choice_of false a b = b
 
 -- the answer of a search that stopped at place k of n
-abbrev pub answer_of : (k n : ℕ) → Found
-answer_of k n = choice_of (ltb k n) (At k) Nothing
+abbrev pub answer_of : (k n : ℕ) → Option ℕ
+answer_of k n = choice_of (ltb k n) (Some k) None
 
 -- a choice by a truth value, of places
 abbrev pub place_of : (test : Bool) (a b : ℕ) → ℕ

@@ -2,7 +2,7 @@
 use crate::record::DownloadingPiece;
 
 // What a call does to the records: one replaced, one put in, or that of a piece taken out.
-#[derive(Drop)]
+#[derive(Clone, Copy, PartialEq, Eq)]
 pub enum Edit {
     Keep,
     Replace(DownloadingPiece),

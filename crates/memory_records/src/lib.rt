@@ -6,9 +6,7 @@
 mod edits;
 mod record;
 mod rows;
-mod search;
 
 pub use edits::Edit;
 pub use record::{DownloadingPiece, get, put};
 pub use rows::{live_records, pack, row, set_row, unpack};
-pub use search::Found;

@@ -4,7 +4,7 @@ ghost use Rattle.memory_records.specs.Records.{no_record};
 
 // The Rust's `DownloadingPiece`: the piece, the place of its blocks, and flags: bit 1 passed_hash_check, 2 locked, 4 hashing.
 #[repr(C)]
-#[derive(Clone, Copy)]
+#[derive(Clone, Copy, PartialEq, Eq)]
 pub struct DownloadingPiece {
     pub index: u32,
     pub info_idx: u32,

@@ -1,15 +1,8 @@
 // The live records as rows of numbers: three columns of 512, the piece, the place of its blocks, the flags.
 ghost use Rattle.std.specs.Prelude.{◌≡◌, ◌≤◌, ◌<◌, length};
-ghost use Rattle.memory_records.specs.Rows.{lesser, live_records, row_put, row_at, unpacked, packed};
+ghost use Rattle.memory_records.specs.Rows.{live_records, row_put, row_at, unpacked, packed};
 
 use crate::record::{DownloadingPiece, get, put};
-
-// The smaller one.
-fn least(a: usize, b: usize) -> usize
-    ensures { result ≡ lesser a b }
-{
-    if a < b { a } else { b }
-}
 
 // How many records are live by word 7 of the head, at most 512; none where the words hold no head.
 pub fn live_records(words: &[u64]) -> usize
@@ -18,8 +11,7 @@ pub fn live_records(words: &[u64]) -> usize
     if words.len() < 16 {
         return 0;
     }
-    let n = words[7];
-    if n < 512 { n as usize } else { 512 }
+    words[7].min(512) as usize
 }
 
 // Row k holds d.
@@ -52,12 +44,10 @@ pub fn unpack(partials: &[DownloadingPiece], live: usize, rows: &mut [u32]) -> u
     ensures { (result ≡ length partials.now)
         × (rows.new ≡ unpacked live partials.now rows.old) }
 {
-    let n = least(live, partials.len());
-    let mut k = 0;
-    while k < n {
+    let n = live.min(partials.len());
+    for k in 0..n {
         let d = get(partials, k);
         set_row(rows, k, d);
-        k = k + 1;
     }
     partials.len()
 }
@@ -67,10 +57,8 @@ pub fn pack(partials: &mut [DownloadingPiece], rows: &[u32], n: usize)
     requires { (n ≤ 512) × (n ≤ length partials.old) × (length rows.now ≡ 1536) }
     ensures { partials.new ≡ packed n rows.now partials.old }
 {
-    let mut k = 0;
-    while k < n {
+    for k in 0..n {
         let d = row(rows, k);
         put(partials, k, d);
-        k = k + 1;
     }
 }

@@ -2,7 +2,6 @@
 use mathlib.Core.Path.{refl, sym}
 use Rattle.model.specs.Bep3.{bit_of, bit_at}
 use Rattle.model.proofs.base.Bep3Laws.{bit_at_past}
-use borrow.Author.Rules.{rules}
 use native.Mathlib.Omega.{arith}
 use Rattle.bitfield.proofs.bit_at.Goals as goal
 

@@ -6,7 +6,6 @@ use native.Mathlib.Decide.{dec_le}
 use lib.ListN.{length, take, length-take}
 use lib.Seq.{take_all}
 use Rattle.model.specs.Bep3.{bitfield_bytes}
-use borrow.Author.Rules.{rules}
 use native.Mathlib.Omega.{arith}
 use Rattle.bitfield.proofs.bytes.Goals as goal
 
@@ -18,7 +17,7 @@ within k n xs h = elim (dec_le n (length xs)) [
 ]
 
 pub slice_bounds-result-end : goal.slice_bounds-result-end
-slice_bounds-result-end c = rw (length-take c.least-n.result c.args.buf.now) (omega arith)
+slice_bounds-result-end c = rw (length-take c.min-n.result c.args.buf.now) (omega arith)
 
 pub returns : goal.returns
-returns c = within c.least-n.result (bitfield_bytes c.args.bits) c.args.buf.now (omega arith)
+returns c = within c.min-n.result (bitfield_bytes c.args.bits) c.args.buf.now (omega arith)

@@ -1,7 +1,6 @@
 -- `count` meets its contract. The invariant: n is the count of the bits below i. Assumes nothing.
 use mathlib.Core.Path.{◌≡◌, refl, sym, ◌∙◌, ap}
-use mathlib.Core.Logic.{⊎_elim}
-use Prim.Native.Nat.{◌-◌, ◌*◌, ◌≤◌, min}
+use Prim.Native.Nat.{◌*◌, min}
 use lib.ListN.{length}
 use Rattle.bitfield.specs.Bitfield.{count_bits}
 use Rattle.bitfield.proofs.ScanLaws.{count-set, count_clear, count_within}

@@ -1,12 +1,10 @@
 -- `copy_bytes` meets its contract. The invariant: the bytes below j are copied. Assumes nothing.
-use mathlib.Core.Path.{◌≡◌, refl, sym, ◌∙◌}
-use Prim.Native.Nat.{◌-◌, ◌*◌, ◌≤◌}
-use lib.ListN.{length, get_or, length-set}
+use mathlib.Core.Path.{refl, sym, ◌∙◌}
+use Prim.Native.Nat.{◌*◌}
+use lib.ListN.{get_or, length-set}
 use Rattle.model.specs.Bep3.{bit_at}
-use Rattle.bitfield_writes.specs.Writing.{put_run}
 use Rattle.bitfield_writes.proofs.ByteLaws.{at_byte}
 use Rattle.bitfield_writes.proofs.RunLaws.{run_none, run_step, run_upto}
-use borrow.Author.Rules.{rules}
 use native.Mathlib.Omega.{arith}
 use Rattle.bitfield_writes.proofs.copy_bytes.Goals as goal
 

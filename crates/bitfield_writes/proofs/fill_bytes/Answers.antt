@@ -1,11 +1,9 @@
 -- `fill_bytes` meets its contract. The invariant: the bytes from the first up to j are written. Assumes nothing.
-use mathlib.Core.Path.{◌≡◌, refl, ◌∙◌}
-use Prim.Native.Nat.{◌-◌, ◌*◌, ◌≤◌, max}
-use lib.ListN.{length, length-set}
-use Rattle.bitfield_writes.specs.Writing.{put_run}
+use mathlib.Core.Path.{refl, ◌∙◌}
+use Prim.Native.Nat.{◌*◌}
+use lib.ListN.{length-set}
 use Rattle.bitfield_writes.proofs.ByteLaws.{byte_bit, digits_lt}
 use Rattle.bitfield_writes.proofs.RunLaws.{run_none, run_step, run_upto}
-use borrow.Author.Rules.{rules}
 use native.Mathlib.Omega.{arith}
 use Rattle.bitfield_writes.proofs.fill_bytes.Goals as goal
 

@@ -1,7 +1,6 @@
 -- `fill_rest` meets its contract: the mask has the bits of the rest of the byte. Assumes nothing.
 use Prim.Native.Nat.{◌+◌, ◌*◌, ◌/◌, ◌%◌, ◌^◌}
 use Rattle.bitfield_writes.proofs.RunLaws.{run_none, mask_run, rest_mask}
-use borrow.Author.Rules.{rules}
 use native.Mathlib.Omega.{arith}
 use Rattle.bitfield_writes.proofs.fill_rest.Goals as goal
 

@@ -4,7 +4,6 @@ use mathlib.Core.Bool.{false}
 use Prim.Native.Nat.{◌*◌}
 use Rattle.bitfield_writes.specs.Writing.{put_run, grown}
 use Rattle.bitfield_writes.proofs.RunLaws.{tail_fill}
-use borrow.Author.Rules.{rules}
 use Rattle.bitfield_writes.proofs.fill_to.Goals as goal
 
 pub returns : goal.returns

@@ -6,7 +6,6 @@ use Rattle.model.specs.Bep3.{bit_at}
 use Rattle.bitfield_writes.specs.Writing.{put_run}
 use Rattle.bitfield_writes.proofs.RunLaws.{tail_fill, fill_all}
 use Rattle.bitfield_writes.proofs.Answers.{took_done, took_short, took_none}
-use borrow.Author.Rules.{rules}
 use native.Mathlib.Omega.{arith}
 use Rattle.bitfield_writes.proofs.from_bytes.Goals as goal
 

@@ -3,7 +3,6 @@ use Prim.Native.Nat.{◌+◌, ◌/◌, ◌%◌, ◌^◌}
 use borrow.Author.Tests.{lt-ltb, le-ltb}
 use Rattle.bitfield_writes.specs.Writing.{put_bit}
 use Rattle.bitfield_writes.proofs.RunLaws.{run_none, mask_run, bit_mask}
-use borrow.Author.Rules.{rules}
 use native.Mathlib.Omega.{arith}
 use Rattle.bitfield_writes.proofs.put_bit.Goals as goal
 

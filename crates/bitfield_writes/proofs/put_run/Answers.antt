@@ -3,7 +3,6 @@ use mathlib.Core.Path.{◌∙◌, ap}
 use Prim.Native.Nat.{◌+◌, ◌*◌, ◌/◌}
 use Rattle.bitfield_writes.specs.Writing.{put_run}
 use Rattle.bitfield_writes.proofs.RunLaws.{run_none, run_run}
-use borrow.Author.Rules.{rules}
 use native.Mathlib.Omega.{arith}
 use Rattle.bitfield_writes.proofs.put_run.Goals as goal
 

@@ -1,7 +1,6 @@
 -- `resize_with` meets its contract: a fill from the old number of bits on, where there is room. Assumes nothing.
 use Rattle.bitfield_writes.specs.Writing.{filled, grown}
 use Rattle.bitfield_writes.proofs.Answers.{did_done, did_short}
-use borrow.Author.Rules.{rules}
 use native.Mathlib.Omega.{arith}
 use Rattle.bitfield_writes.proofs.resize_with.Goals as goal
 

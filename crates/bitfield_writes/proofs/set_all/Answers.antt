@@ -3,7 +3,6 @@ use mathlib.Core.Path.{◌∙◌}
 use mathlib.Core.Bool.{true}
 use Rattle.bitfield_writes.specs.Writing.{grown}
 use Rattle.bitfield_writes.proofs.RunLaws.{fill_all}
-use borrow.Author.Rules.{rules}
 use Rattle.bitfield_writes.proofs.set_all.Goals as goal
 
 pub returns : goal.returns

@@ -3,7 +3,6 @@ use mathlib.Core.Path.{◌∙◌}
 use Rattle.bitfield_writes.specs.Writing.{grown}
 use Rattle.bitfield_writes.proofs.RunLaws.{fill_all}
 use Rattle.bitfield_writes.proofs.Answers.{did_done, did_short}
-use borrow.Author.Rules.{rules}
 use native.Mathlib.Omega.{arith}
 use Rattle.bitfield_writes.proofs.with_value.Goals as goal
 

@@ -58,13 +58,13 @@ length-edited n (Insert d) ds = length-inserted n d ds
 length-edited n (Remove piece) ds = length-removed n piece ds
 
 -- ---- gaps and searches behind the first record
-open_past : (t i : ℕ) (e : DownloadingPiece) (es : Records) → open_gap t (suc i) (e ∷ es) ≡ e ∷ open_gap t i es
+pub open_past : (t i : ℕ) (e : DownloadingPiece) (es : Records) → open_gap t (suc i) (e ∷ es) ≡ e ∷ open_gap t i es
 open_past zero i e es = refl
 open_past (suc t) i e es =
     ap (λ (k : ℕ). open_gap t (suc i) (set (e ∷ es) (suc k) (get_or (e ∷ es) k no_record))) (suc-add i t)
     ∙ open_past t i e (set es (suc (i + t)) (get_or es (i + t) no_record))
 
-close_past : (t i : ℕ) (e : DownloadingPiece) (es : Records) → close_gap t (suc i) (e ∷ es) ≡ e ∷ close_gap t i es
+pub close_past : (t i : ℕ) (e : DownloadingPiece) (es : Records) → close_gap t (suc i) (e ∷ es) ≡ e ∷ close_gap t i es
 close_past zero i e es = refl
 close_past (suc t) i e es = close_past t (suc i) e (set es i (get_or es (suc i) no_record))
 
@@ -78,7 +78,7 @@ first_past test (suc t) k = go (test (suc k)) (first_past test t (suc k))
     go false again = again
 
 -- ---- an insert
-open_front : (t : ℕ) (ds : Records) → t < length ds → open_gap t 0 ds ≡ take 1 ds ++ (take t ds ++ drop (suc t) ds)
+pub open_front : (t : ℕ) (ds : Records) → t < length ds → open_gap t 0 ds ≡ take 1 ds ++ (take t ds ++ drop (suc t) ds)
 open_front zero ds h = sym (take-append-drop 1 ds)
 open_front (suc t) ds h =
     ap (λ (k : ℕ). open_gap t 0 (set ds (suc k) (get_or ds k no_record))) (zero-add t)
@@ -179,7 +179,7 @@ seek_absent (suc n) piece (d ∷ ds) h e = go (eqb d.index piece) e (seek_absent
     go false m again = first_past (λ i. eqb (get_or (d ∷ ds) i no_record).index piece) n 0 ∙ ap suc (again m)
 
 -- ---- a removal
-close_front : (t : ℕ) (e : DownloadingPiece) (es : Records) → t ≤ length es → close_gap t 0 (e ∷ es) ≡ take t es ++ drop t (e ∷ es)
+pub close_front : (t : ℕ) (e : DownloadingPiece) (es : Records) → t ≤ length es → close_gap t 0 (e ∷ es) ≡ take t es ++ drop t (e ∷ es)
 close_front zero e es h = refl
 close_front (suc t) e [] h = absurd (nothing_there h)
   where

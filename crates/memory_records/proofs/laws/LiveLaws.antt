@@ -6,6 +6,8 @@ use mathlib.Core.List.{List}
 use native.Mathlib.Omega.{arith}
 use lib.Dec.{T, ltb, lt→ltb, ltb→lt}
 use lib.ListN.{length, get_or}
+use Rattle.std.specs.Prelude.{min}
+use borrow.Author.Tests.{ltb-false}
 use Rattle.memory_records.specs.Rows.{lesser, live_records}
 use Rattle.memory_records.proofs.laws.SearchLaws.{holds, fails}
 
@@ -14,6 +16,13 @@ lesser_left a b h = ap (λ (t : Bool). cond {A = ℕ} t a b) (holds (ltb a b) (l
 
 pub lesser_right : (a b : ℕ) → b ≤ a → lesser a b ≡ b
 lesser_right a b h = ap (λ (t : Bool). cond {A = ℕ} t a b) (fails (ltb a b) (λ l. omega (arith, ltb→lt a b l, h)))
+
+pub lesser_min : (a b : ℕ) → min a b ≡ lesser a b
+lesser_min a b = go (ltb a b) refl
+  where
+    go : (t : Bool) → ltb a b ≡ t → min a b ≡ cond {A = ℕ} t a b
+    go true e = omega (arith, ltb→lt a b (subst T (sym e) tt))
+    go false e = omega (arith, ltb-false a b e)
 
 -- the smaller one is at most either
 pub lesser_both : (a b : ℕ) → (lesser a b ≤ a) × (lesser a b ≤ b)

@@ -9,6 +9,3 @@ invariant-loop-k l = record {
   long : length l.partials ≡ length l.fn.partials;
   same : pack_from (l.n - l.k) l.k l.rows l.partials ≡ pack_from l.n 0 l.rows l.fn.partials;
 }
-
-abbrev pub decreases-loop-k : goal.decreases-loop-k
-decreases-loop-k l = l.n - l.k

@@ -1,7 +1,8 @@
 use Rattle.std.proofs.Common.{◌≡◌, ℕ, suc, ◌+◌, ◌-◌, ◌<◌, ◌≤◌, List, refl, sym, ap, ◌∙◌, arith, length, get_or}
 use Rattle.memory_records.specs.declared.record.DownloadingPiece.{DownloadingPiece}
 use Rattle.memory_records.specs.Records.{no_record}
-use Rattle.memory_records.specs.Rows.{lesser, row_put, unpack_from, unpacked}
+use Rattle.memory_records.specs.Rows.{row_put, unpack_from, unpacked}
+use Rattle.memory_records.proofs.laws.LiveLaws.{lesser_min}
 use Rattle.memory_records.proofs.laws.RowLaws.{length_put}
 use Rattle.memory_records.proofs.rows.unpack.Goals as goal
 
@@ -19,7 +20,7 @@ done n k ds rows h = let none : n - k ≡ 0 = omega arith in ap (λ (t : ℕ). u
 
 pub loop-k-preserved : goal.loop-k-preserved
 loop-k-preserved c =
-    let n = c.least-n.result in
+    let n = c.min-n.result in
     let ds = c.args.partials.now in
     let step : c.set_row.new.rows ≡ row_put c.loop-k.rows c.loop-k.k (get_or ds c.loop-k.k no_record)
     = c.set_row.ensures ∙ ap (row_put c.loop-k.rows c.loop-k.k) c.get-d.ensures in
@@ -35,6 +36,6 @@ unfolding unpacked
 returns c =
     let ds = c.args.partials.now in (
       refl,
-      sym (done c.least-n.result c.loop-k.k ds c.loop-k.rows c.loop-k-test.false) ∙ c.loop-k.invariant.same
-          ∙ ap (λ (t : ℕ). unpack_from t 0 ds c.args.rows.now) c.least-n.ensures,
+      sym (done c.min-n.result c.loop-k.k ds c.loop-k.rows c.loop-k-test.false) ∙ c.loop-k.invariant.same
+          ∙ ap (λ (t : ℕ). unpack_from t 0 ds c.args.rows.now) (c.min-n.ensures ∙ lesser_min _ _),
     )

@@ -9,6 +9,3 @@ invariant-loop-k l = record {
   long : length l.rows ≡ 1536;
   same : unpack_from (l.n - l.k) l.k l.partials l.rows ≡ unpack_from l.n 0 l.partials l.fn.rows;
 }
-
-abbrev pub decreases-loop-k : goal.decreases-loop-k
-decreases-loop-k l = l.n - l.k

@@ -1,4 +1,4 @@
-use Rattle.std.proofs.Common.{ℕ, ◌+◌, ◌-◌, ◌<◌, ap, ◌∙◌, arith, get_or}
+use Rattle.std.proofs.Common.{ℕ, ap, ◌∙◌, arith, get_or}
 use lib.Dec.{ltb, ltb→lt}
 use Rattle.memory_records.specs.declared.record.DownloadingPiece.{DownloadingPiece}
 use Rattle.memory_records.specs.Records.{no_record}

@@ -8,6 +8,3 @@ invariant-loop-k l = record {
   within : l.k ≤ l.n;
   same : above_from l.n 0 l.partials l.piece ≡ above_from (l.n - l.k) l.k l.partials l.piece;
 }
-
-abbrev pub decreases-loop-k : goal.decreases-loop-k
-decreases-loop-k l = l.n - l.k
