@@ -1,12 +1,12 @@
 -- A length cut into parts: the quotient rounded up without a sum that could wrap, and the part that stands at a place.
 use mathlib.Core.Path.{◌≡◌, refl, sym}
-use Prim.Native.Nat.{ℕ, zero, suc, ◌+◌, ◌-◌, ◌*◌, ◌/◌, ◌≤◌, ◌<◌}
+use Prim.Native.Nat.{ℕ, zero, suc, min, ◌+◌, ◌-◌, ◌*◌, ◌/◌, ◌≤◌, ◌<◌}
 use native.Mathlib.Nat.{div-zero, div-eq_of_lt, add-div_right}
 use native.Mathlib.Decide.{dec_le}
 use native.Mathlib.Omega.{arith}
 use borrow.Author.Tests.{le-leb, lt-leb}
 use Rattle.model.specs.Lists.{least}
-use Rattle.model.specs.Bep3.{parts_of, part_length}
+use Rattle.model.specs.Bep3.{parts_of}
 use Rattle.model.proofs.base.Bep3Laws.{lt_parts_of}
 
 -- ---- how many
@@ -38,15 +38,6 @@ part_some whole (suc part) k h = omega arith
 pub part_starts : (whole part k : ℕ) → k < parts_of whole part → k * part < whole
 part_starts whole part k h = (lt_parts_of whole part k (part_some whole part k h)).0 h
 
--- what is left where that is less than a part, and else a part
-pub part_short : (whole part k : ℕ) → whole - k * part < part → whole - k * part ≡ part_length whole part k
-unfolding part_length
-part_short whole part k h = omega arith
-
-pub part_long : (whole part k : ℕ) → part ≤ whole - k * part → part ≡ part_length whole part k
-unfolding part_length
-part_long whole part k h = omega arith
-
 -- ---- the lesser of two numbers
 pub least_left : (x y : ℕ) → x ≤ y → x ≡ least x y
 unfolding least
@@ -55,6 +46,12 @@ least_left x y h = rw (le-leb x y h)
 pub least_right : (x y : ℕ) → y < x → y ≡ least x y
 unfolding least
 least_right x y h = rw (lt-leb x y h)
+
+pub least_min : (x y : ℕ) → min x y ≡ least x y
+least_min x y = elim (dec_le x y) [
+  | yes h ↦ omega (arith, least_left x y h)
+  | no h ↦ omega (arith, least_right x y (omega arith))
+]
 
 -- the lesser is greater than neither
 pub least_le : (x y : ℕ) → (least x y ≤ x) × (least x y ≤ y)

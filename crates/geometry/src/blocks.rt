@@ -12,7 +12,7 @@ use types::{BLOCK_SIZE, PieceIndex};
 pub fn block_size(size: u64) -> u64
     ensures { result ≡ block_length size }
 {
-    if BLOCK_SIZE < size { BLOCK_SIZE } else { size }
+    BLOCK_SIZE.min(size)
 }
 
 // The number of blocks of so many bytes. The divisor is a constant where pieces are longer than a block.
@@ -66,7 +66,7 @@ pub fn payload_blocks_in_piece(total: u64, size: u64, piece: PieceIndex, pad: u6
 {
     let blocks = blocks_in_piece(total, size, piece);
     let pads = blocks_filled(pad, size);
-    if pads < blocks { blocks - pads } else { 0 }
+    blocks.saturating_sub(pads)
 }
 
 // The length of block j of a piece.

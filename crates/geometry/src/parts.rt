@@ -21,13 +21,12 @@ pub fn part_length(whole: u64, part: u64, k: u64) -> u64
     requires { k < parts_of whole part }
     ensures { result ≡ part_length whole part k }
 {
-    let left = whole - k * part;
-    if left < part { left } else { part }
+    part.min(whole - k * part)
 }
 
 // The lesser of two numbers.
 pub fn lesser(x: u64, y: u64) -> u64
     ensures { result ≡ least x y }
 {
-    if x <= y { x } else { y }
+    x.min(y)
 }

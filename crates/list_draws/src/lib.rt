@@ -12,7 +12,7 @@ ghost use Rattle.list_groups.specs.Places.{Rises};
 pub fn some(size: usize) -> usize
     ensures { result ≡ bit (ltb 0 size) }
 {
-    if 0 < size { 1 } else { 0 }
+    usize::from(0 < size)
 }
 
 // Draw number `used`, from 0 to the limit; beyond the last word it is 0.
@@ -32,9 +32,7 @@ pub fn swap(list: &mut [u64], k: usize, m: usize)
     requires m_in_bounds { m < length list.old }
     ensures { list.new ≡ swap list.old k m }
 {
-    let w = list[k];
-    list[k] = list[m];
-    list[m] = w;
+    list.swap(k, m);
 }
 
 // What stands at k goes, as w, forward to the end of the group from `low` to `high`, and changes places with a drawn one of it.

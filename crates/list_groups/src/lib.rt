@@ -26,6 +26,7 @@ pub fn gallop(list: &[u64], from: usize, end: usize, near: usize, top: u64) -> S
 {
     let mut low = from;
     let mut step = near;
+    // No `for`: how far the next step goes depends on the one before.
     while step <= end - low {
         let k = low + (step - 1);
         if top < list[k] {
@@ -55,6 +56,7 @@ pub fn halve(list: &[u64], from: usize, end: usize, top: u64) -> usize
 {
     let mut low = from;
     let mut size = end - from;
+    // No `partition_point`: that branches at each word, which the processor cannot foretell, and is slower.
     while 0 < size {
         let half = size - size / 2;
         let w = list[low + (half - 1)];

@@ -21,6 +21,7 @@ pub fn carry(list: &mut [u64], from: usize, end: usize, first: u64)
     let mut held = first;
     let mut near = 1;
     let mut k = group_end(list, from, end, near, top_of(first));
+    // No `for`: each turn goes on at the end of a group, which the search finds there.
     while k < end {
         let next = list[k];
         list[k] = held;
@@ -73,6 +74,7 @@ pub fn pull(list: &mut [u64], k: usize, last: usize)
 {
     let mut hole = k;
     let mut near = 1;
+    // No `for`: each turn goes on at the last of a group, which the search finds there.
     while hole < last {
         let end = group_end(list, hole + 2, last + 1, near, top_of(list[hole + 1]));
         list[hole] = list[end - 1];

@@ -1,4 +1,4 @@
--- One turn of the loops of `pass_fours` and `place_from`, and what the start of a group tells of a word of it. Assumes nothing.
+-- One turn of the loop of `pass_fours`, where a word is found, and what the start of a group tells of a word of it. Assumes nothing.
 use mathlib.Core.Path.{◌≡◌, refl, sym, ap, ◌∙◌, subst}
 use mathlib.Core.Logic.{◌≢◌}
 use mathlib.Core.Bool.{Bool, true, false, ◌||◌}
@@ -7,7 +7,10 @@ use Prim.Native.Nat.{ℕ, zero, suc, ◌+◌, ◌-◌, ◌≤◌, ◌<◌}
 use native.Mathlib.Nat.{le_of_suc-le-suc}
 use native.Mathlib.Decide.{dec_le, ℕ_discrete}
 use native.Mathlib.Omega.{arith}
-use lib.ListN.{length, get_or, take}
+use lib.ListN.{length, get_or, take, drop, length-drop}
+use Rattle.std.specs.Prelude.{Option, Some}
+use Rattle.std.specs.List.{position_from}
+use Rattle.std.proofs.lemmas.List.{drop-take}
 use lib.Seq.{get_or-take, length-take-le}
 use lib.Dec.{eqb}
 use borrow.Author.Tests.{eq-eqb, ne_eqb, eqb-false}
@@ -31,15 +34,40 @@ place_there w (v ∷ l) h = elim (ℕ_discrete w v) [
   | no e ↦ (let q = ne_eqb w v e in rw q (place_there w l (le_of_suc-le-suc (rw q at h))))
 ]
 
--- and nowhere before it
-pub place_first : (w k : ℕ) (l : List ℕ) → k < place_of w l → get_or l k 0 ≢ w
+-- the first that passes the test for the word stands at its place
+position_place : (w i : ℕ) (l : List ℕ) → place_of w l < length l → position_from (λ v. eqb w v) i l ≡ Some (i + place_of w l)
 unfolding place_of
-place_first w k [] h e = absurd (omega arith)
-place_first w zero (v ∷ l) h e = let z : 0 < 0 = rw (eq-eqb w v (sym e)) at h in absurd (omega arith)
-place_first w (suc k) (v ∷ l) h e = elim (ℕ_discrete w v) [
-  | yes q ↦ (let z : suc k < 0 = rw (eq-eqb w v q) at h in absurd (omega arith))
-  | no q ↦ place_first w k l (le_of_suc-le-suc (rw (ne_eqb w v q) at h)) e
+position_place w i [] h = absurd (omega arith)
+position_place w i (v ∷ l) h = elim (ℕ_discrete w v) [
+  | yes e ↦ (let z : i ≡ i + 0 = omega arith in rw (eq-eqb w v e) (ap Some z))
+  | no e ↦ (
+      let n = ne_eqb w v e in
+      let z : i + 1 + place_of w l ≡ i + suc (place_of w l) = omega arith in
+      rw n (position_place w (i + 1) l (le_of_suc-le-suc (rw n at h)) ∙ ap Some z)
+      )
 ]
+
+-- its place in a list without the first n
+place_drop : (w n : ℕ) (l : List ℕ) → n ≤ place_of w l → n + place_of w (drop n l) ≡ place_of w l
+unfolding place_of
+place_drop w zero l h = omega arith
+place_drop w (suc n) [] h = absurd (omega arith)
+place_drop w (suc n) (v ∷ l) h = elim (ℕ_discrete w v) [
+  | yes e ↦ (let z : suc n ≤ 0 = rw (eq-eqb w v e) at h in absurd (omega arith))
+  | no e ↦ rw (ne_eqb w v e) (omega (arith, place_drop w n l (le_of_suc-le-suc (rw (ne_eqb w v e) at h))))
+]
+
+-- the word is found from a place on before which it does not stand
+pub found_from : (w n end : ℕ) (l : List ℕ) → end ≤ length l → n ≤ place_of w (take end l) → place_of w (take end l) < end
+    → (k : ℕ) × (position_from (λ v. eqb w v) 0 (take (end - n) (drop n l)) ≡ Some k) × (n + k ≡ place_of w (take end l))
+found_from w n end l le ahead inside =
+    let xs = take (end - n) (drop n l) in
+    let s : n + (end - n) ≡ end = omega arith in
+    let part : drop n (take end l) ≡ xs = rw s at (drop-take n (end - n) l) in
+    let here : n + place_of w xs ≡ place_of w (take end l) = rw part at (place_drop w n (take end l) ahead) in
+    let long : length xs ≡ end - n = length-take-le (end - n) (drop n l) (omega (arith, length-drop n l)) in
+    let z : 0 + place_of w xs ≡ place_of w xs = omega arith in
+    (place_of w xs, position_place w 0 xs (omega arith) ∙ ap Some z, here)
 
 -- none of four tests that are joined
 none_of_four : (a b c d : Bool) → (((a || b) || c) || d) ≡ false → (a ≡ false) × (b ≡ false) × (c ≡ false) × (d ≡ false)
@@ -97,10 +125,3 @@ module _ (w end : ℕ) (l : List ℕ) (le : end ≤ length l) where
     where
       at_sum : {i j : ℕ} → Seeks w end l i → i ≡ j → Seeks w end l j
       at_sum x e = subst (Seeks w end l) e x
-
-  -- the word stands at k
-  pub seeks_found : {k : ℕ} → Seeks w end l k → get_or l k 0 ≡ w → k ≡ place_of w (take end l)
-  seeks_found {k} s e = elim (dec_le (place_of w (take end l)) k) [
-    | yes q ↦ omega (arith, s.ahead)
-    | no q ↦ absurd (place_first w k (take end l) (omega arith) (get_or-take end l k 0 (omega (arith, s.inside)) ∙ e))
-  ]

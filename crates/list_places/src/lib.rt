@@ -17,6 +17,7 @@ fn pass_fours(list: &[u64], from: usize, end: usize, w: u64) -> usize
     ensures { result ≤ place_of w (take end list.now) }
 {
     let mut k = from;
+    // No `position`: that takes one word in a turn, which is slower.
     while 4 <= end - k {
         if (list[k] == w) | (list[k + 1] == w) | (list[k + 2] == w) | (list[k + 3] == w) {
             return k;
@@ -45,11 +46,9 @@ pub fn place_from(list: &[u64], from: usize, end: usize, w: u64) -> usize
     requires list_bound { place_of w (take end list.now) < end }
     ensures { result ≡ place_of w (take end list.now) }
 {
-    let mut k = pass_fours(list, from, end, w);
-    while list[k] != w {
-        k += 1;
-    }
-    k
+    let near = pass_fours(list, from, end, w);
+    let rest = &list[near..end];
+    near + rest.iter().position(|v| w == *v).unwrap()
 }
 
 // Where the word w stands, which is among the first. Its group is scanned.

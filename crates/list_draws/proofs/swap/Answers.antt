@@ -1,10 +1,7 @@
--- `swap` meets its contract: two stores. Assumes nothing.
-use borrow.Author.Rules.{rules}
-use mathlib.Core.Path.{refl}
-use Rattle.model.specs.Lists.{nth, set_nth}
-use Rattle.model.specs.list.Order.{swap}
+-- `swap` meets its contract: the library's. Assumes nothing.
+use mathlib.Core.Path.{◌∙◌}
+use Rattle.list_draws.proofs.Draws.{swap_is}
 use Rattle.list_draws.proofs.swap.Goals as goal
 
 pub returns : goal.returns
-unfolding swap nth set_nth
-returns c = refl
+returns c = c.swap.ensures.after ∙ swap_is c.args.list.now c.args.k c.args.m c.requires.k_in_bounds c.requires.m_in_bounds

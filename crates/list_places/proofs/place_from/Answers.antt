@@ -1,34 +1,30 @@
--- `place_from` meets its contract. The invariant: the word does not stand before k. Assumes nothing.
-use borrow.Author.Rules.{rules}
-use Prim.Native.Nat.{◌-◌}
+-- `place_from` meets its contract: the first of the rest that is w stands at its place. Assumes nothing.
+use Rattle.std.proofs.Common.{rules, Some}
+use mathlib.Core.Path.{◌≡◌, ◌∙◌}
+use Prim.Native.Nat.{ℕ, ◌+◌, ◌-◌}
 use native.Mathlib.Omega.{arith}
-use Rattle.list_places.proofs.Seeking.{Seeks, seeks_next, seeks_found}
+use lib.ListN.{take, drop}
+use lib.Dec.{eqb}
+use Rattle.std.proofs.lemmas.Iterator.{YieldsList-from_slice}
+use Rattle.model.specs.Lists.{place_of}
+use Rattle.std.proofs.lemmas.Iterator.Adapters.{position_from-zero}
+use Rattle.std.proofs.lemmas.Iterator.Search.{position_from_yields_List}
+use Rattle.list_places.proofs.Seeking.{found_from}
 use Rattle.list_places.proofs.place_from.Goals as goal
+use Rattle.list_places.proofs.place_from.Goals.{After-position}
 
-pub pass_fours-k-requires : goal.pass_fours-k-requires
-pass_fours-k-requires c = record {
-  end_in_bounds = c.requires.end_in_bounds;
-  from_bound = c.requires.from_bound;
-  list_bound = c.requires.list_bound;
-}
+found : (c : After-position) → (k : ℕ) × (c.position.result ≡ Some k) × (c.pass_fours-near.result + k ≡ place_of c.args.w (take c.args.end c.args.list.now))
+found c = let near = c.pass_fours-near.result in
+    let h = found_from c.args.w near c.args.end c.args.list.now c.requires.end_in_bounds c.pass_fours-near.ensures c.requires.list_bound in
+    let rest = take (c.args.end - near) (drop near c.args.list.now) in
+    let r = position_from_yields_List (λ v. eqb c.args.w v) _ _ c.position.result c.position.ensures.ran
+    (YieldsList-from_slice rest cc) (λ x b q k. search rules) in
+    (h.0, r ∙ position_from-zero (λ v. eqb c.args.w v) rest ∙ h.1, h.2)
 
-pub loop-k-init : goal.loop-k-init
-loop-k-init c = record { ahead = c.pass_fours-k.ensures; inside = c.requires.list_bound }
-
-pub offset_bounds-list-k : goal.offset_bounds-list-k
-offset_bounds-list-k c = search rules
-
-pub bounds-list-k : goal.bounds-list-k
-bounds-list-k c = omega (arith, c.loop-k.invariant.ahead, c.loop-k.invariant.inside, c.requires.end_in_bounds)
-
-pub overflow_add-k : goal.overflow_add-k
-overflow_add-k c = search rules
-
-pub loop-k-smaller : goal.loop-k-smaller
-loop-k-smaller c = omega (arith, c.loop-k.invariant.ahead, c.loop-k.invariant.inside)
-
-pub loop-k-preserved : goal.loop-k-preserved
-loop-k-preserved c = seeks_next c.args.w c.args.end c.args.list.now c.requires.end_in_bounds c.loop-k.invariant c.loop-k-test.true
+pub unwrap-requires : goal.unwrap-requires
+unwrap-requires c = let h = found c in rw h.1
 
 pub returns : goal.returns
-returns c = seeks_found c.args.w c.args.end c.args.list.now c.requires.end_in_bounds c.loop-k.invariant c.loop-k-test.false
+returns c = let h = found (goal.at.returns c).After-position in
+    let e : h.0 ≡ c.unwrap.result = cc in
+    omega (arith, h.2)

@@ -3,17 +3,12 @@ use native.Mathlib.Omega.{arith}
 use Rattle.model.specs.Bep3.{num_pieces}
 use Rattle.geometry.specs.Numbers.{payload_blocks}
 use Rattle.geometry.proofs.PartLaws.{part_some}
-use borrow.Author.Rules.{rules}
 use Rattle.geometry.proofs.blocks.payload_blocks_in_piece.Goals as goal
 
 pub blocks_filled-pads-requires : goal.blocks_filled-pads-requires
 unfolding num_pieces
 blocks_filled-pads-requires c = omega (arith, part_some _ _ _ c.requires)
 
-pub returns-then-pads-blocks : goal.returns-then-pads-blocks
+pub returns : goal.returns
 unfolding payload_blocks
-returns-then-pads-blocks c = cc
-
-pub returns-else-pads-blocks : goal.returns-else-pads-blocks
-unfolding payload_blocks
-returns-else-pads-blocks c = rw (← c.blocks_in_piece-blocks.ensures, ← c.blocks_filled-pads.ensures) (omega arith)
+returns c = cc

@@ -11,8 +11,5 @@ returns-then-whole-eq0 c = parts_of_nothing _ _ c.if-whole-eq0.true
 pub returns-then-part-eq0 : goal.returns-then-part-eq0
 returns-then-part-eq0 c = parts_of_none _ _ c.if-part-eq0.true
 
-pub overflow_add-result : goal.overflow_add-result
-overflow_add-result c = omega (arith, div-le_self (c.args.whole - 1) c.args.part)
-
 pub returns : goal.returns
 returns c = parts_rounded _ _ (omega arith) (omega arith)

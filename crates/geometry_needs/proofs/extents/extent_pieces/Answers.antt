@@ -13,8 +13,5 @@ overflow_sub-n c = omega (arith, extent_starts _ _ _ c.extent_size-long.ensures 
 pub returns-then-n-begin : goal.returns-then-n-begin
 returns-then-n-begin c = (begin_same _ _ c.extent_size-long.ensures, end_short _ _ _ c.extent_size-long.ensures c.if-n-begin.true)
 
-pub overflow_add-result : goal.overflow_add-result
-overflow_add-result c = omega (arith, extent_starts _ _ _ c.extent_size-long.ensures c.requires)
-
 pub returns : goal.returns
 returns c = (begin_same _ _ c.extent_size-long.ensures, end_long _ _ _ c.extent_size-long.ensures (extent_starts _ _ _ c.extent_size-long.ensures c.requires) c.if-n-begin.false)
