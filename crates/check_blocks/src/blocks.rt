@@ -1,5 +1,5 @@
 // The cells of a partial's blocks: whether they are an image's and in range, and how many are requested, being written and finished.
-ghost use Rattle.std.specs.Prelude.{◌≡◌, ◌&&◌, ◌+◌, ◌-◌, ◌<◌, ◌≤◌, length, eqb};
+ghost use Rattle.std.specs.Prelude.{◌≡◌, ◌&&◌, ◌+◌, ◌<◌, ◌≤◌, length, eqb};
 ghost use Rattle.model.specs.Lists.{bit};
 ghost use Rattle.memory_layout.specs.Bounds.{CellsSpan};
 ghost use Rattle.check_blocks.specs.Below.{all_below};
@@ -28,13 +28,6 @@ struct Joined {
     flags: u16,
 }
 
-// How far a number is beyond the most that it may be.
-fn over(x: u16, most: u16) -> u16
-    ensures { result ≡ x - most }
-{
-    if most < x { x - most } else { 0 }
-}
-
 // One block's cells joined to those before it. There is no branch: a bit that is wrong stays in the joined cells, which are tested once
 // at the end. So the compiled loop takes many blocks at once.
 fn join(sum: Joined, state: u16, num_peers: u16, has: u16) -> Joined
@@ -42,7 +35,7 @@ fn join(sum: Joined, state: u16, num_peers: u16, has: u16) -> Joined
 {
     Joined {
         states: sum.states | state,
-        beyond: sum.beyond | over(num_peers, 1000),
+        beyond: sum.beyond | num_peers.saturating_sub(1000),
         flags: sum.flags | has,
     }
 }
@@ -58,7 +51,7 @@ pub fn one_if(t: bool) -> u16
     ensures is { result ≡ bit t }
     ensures most { result ≤ 1 }
 {
-    if t { 1 } else { 0 }
+    u16::from(t)
 }
 
 // One block more.
@@ -92,16 +85,14 @@ fn rows_pass(states: &[u16], num_peers: &[u16], has: &[u16], many: usize) -> Cou
         writing: 0,
         finished: 0,
     };
-    let mut j = 0;
-    while j < many {
+    for j in 0..many {
         let state = states[j];
         sum = join(sum, state, num_peers[j], has[j]);
         counts = count_block(counts, state);
-        j += 1;
     }
     Counted {
         ok: joined_ok(sum),
-        counts: counts,
+        counts,
     }
 }
 

@@ -15,12 +15,10 @@ fn ranked(ranks: &[u16], n: usize) -> usize
     ensures { result ≡ ranked_in ranks.now n }
 {
     let mut many: u16 = 0;
-    let mut i = 0;
-    while i < n {
+    for i in 0..n {
         if 0 < ranks[i] {
             many += 1;
         }
-        i += 1;
     }
     u16_to_usize(many)
 }
@@ -76,13 +74,11 @@ fn rest_ok(list: &[u64], n: usize, start: usize, many: usize, least: u64, ranks:
     ensures { RestPassed n list.now start many least ranks.old result }
 {
     let mut last = least;
-    let mut k = start;
-    while k < many {
+    for k in start..many {
         last = step(ranks, n, last, list[k]);
         if last == 0 {
             return false;
         }
-        k += 1;
     }
     true
 }
@@ -96,15 +92,14 @@ fn places_ok(words: &[u64], s: Shape, many: usize, ranks: &mut [u16]) -> bool
     let list = list_column(words, s);
     let n = s.pieces;
     let mut last: u64 = 1;
-    let mut k = 0;
-    while k + 4 <= many {
-        last = four(list, n, k, last, ranks);
+    let fours = many / 4;
+    for k in 0..fours {
+        last = four(list, n, 4 * k, last, ranks);
         if last == 0 {
             return false;
         }
-        k += 4;
     }
-    rest_ok(list, n, k, many, last, ranks)
+    rest_ok(list, n, 4 * fours, many, last, ranks)
 }
 
 // The ranks do not last: what was passed is 0.

@@ -1,4 +1,5 @@
 -- What each return of the whole test says of the definition's refusal. Assumes nothing.
+use Rattle.std.specs.Prelude.{Ok, Err}
 use Prim.Native.Nat.{ℕ, ◌≤◌, ◌<◌}
 use mathlib.Core.Path.{◌≡◌, refl, sym, ap, subst, ◌∙◌}
 use mathlib.Core.Bool.{Bool, true, false}
@@ -21,7 +22,6 @@ use Rattle.memory_layout.specs.Good.{short, or_else, good_head, good_body, memor
 use Rattle.check_pieces.specs.Parts.{HeadTest, HeadPassed}
 use Rattle.check_pieces.proofs.HeadLaws.{headed}
 use Rattle.check_partials.specs.Records.{CountsHeld}
-use Rattle.check_memory.specs.declared.verdict.Verdict.TheVariants.{Good, Short, IllFormed}
 use Rattle.check_memory.specs.Verdicts.{refusal_of, good_rows, Begun, RowTest, Checked}
 use Rattle.check_memory.proofs.LengthLaws.{spanned}
 
@@ -67,31 +67,31 @@ module _ (s : Shape) (lent : ℕ) (words cells : List ℕ) (g : ShapeOf s words)
 -- ---- refusals
 module _ (lent : ℕ) (rows words cells counts : List ℕ) (long : length counts ≡ 1536) where
   is_short : some ShortMemory ≡ memory_refusal lent (records_in (live_records words) rows) words cells
-      → Checked Short lent rows words cells counts
+      → Checked (Err ShortMemory) lent rows words cells counts
   unfolding refusal_of
   is_short e = record { is = e; counted = λ h. absurd (none-ne-some ShortMemory (sym (ap refusal_of h))); long = long }
 
   is_ill : some IllFormedMemory ≡ memory_refusal lent (records_in (live_records words) rows) words cells
-      → Checked IllFormed lent rows words cells counts
+      → Checked (Err IllFormedMemory) lent rows words cells counts
   unfolding refusal_of
   is_ill e = record { is = e; counted = λ h. absurd (none-ne-some IllFormedMemory (sym (ap refusal_of h))); long = long }
 
-  pub no_head : length words < 16 → Checked Short lent rows words cells counts
+  pub no_head : length words < 16 → Checked (Err ShortMemory) lent rows words cells counts
   no_head h = is_short (unfold memory_refusal or_else in rw (lt-ltb (length words) 16 h))
 
   module _ (h : 16 ≤ length words) where
-    pub no_geometry : valid_geometry (head_word words 0) (head_word words 1) ≡ false → Checked IllFormed lent rows words cells counts
+    pub no_geometry : valid_geometry (head_word words 0) (head_word words 1) ≡ false → Checked (Err IllFormedMemory) lent rows words cells counts
     no_geometry v = is_ill (unfold memory_refusal or_else in rw (le-ltb (length words) 16 h, v))
 
     module _ (v : valid_geometry (head_word words 0) (head_word words 1) ≡ true) where
-      pub too_short : short lent words cells ≡ true → Checked Short lent rows words cells counts
+      pub too_short : short lent words cells ≡ true → Checked (Err ShortMemory) lent rows words cells counts
       too_short t = is_short (unfold memory_refusal or_else in rw (le-ltb (length words) 16 h, v, t))
 
       module _ (t : short lent words cells ≡ false) where
-        bad_body : good_body (records_in (live_records words) rows) words cells ≡ false → Checked IllFormed lent rows words cells counts
+        bad_body : good_body (records_in (live_records words) rows) words cells ≡ false → Checked (Err IllFormedMemory) lent rows words cells counts
         bad_body b = is_ill (unfold memory_refusal or_else in rw (le-ltb (length words) 16 h, v, t, b))
 
-        pub bad_head : HeadTest false words → Checked IllFormed lent rows words cells counts
+        pub bad_head : HeadTest false words → Checked (Err IllFormedMemory) lent rows words cells counts
         bad_head a = bad_body (unfold good_body in rw (← (a (records_in (live_records words) rows) cells)))
 
         module _ (a : HeadTest true words) where
@@ -100,13 +100,13 @@ module _ (lent : ℕ) (rows words cells counts : List ℕ) (long : length counts
           body_is = rw (← (a (records_in (live_records words) rows) cells))
 
           pub bad_rows : (live : ℕ) → live ≡ live_records words → (r : Bool) → r ≡ false → RowTest r live rows words cells counts
-              → Checked IllFormed lent rows words cells counts
+              → Checked (Err IllFormedMemory) lent rows words cells counts
           bad_rows live e r f q =
               let w = subst (λ (k : ℕ). RowTest r k rows words cells counts) e q in
               bad_body (body_is ∙ sym w.is ∙ f)
 
           pub good_rows_lem : (s : Shape) → ShapeOf s words → (live : ℕ) → live ≡ live_records words → (r : Bool) → r ≡ true
-              → RowTest r live rows words cells counts → Checked Good lent rows words cells counts
+              → RowTest r live rows words cells counts → Checked (Ok tt) lent rows words cells counts
           unfolding memory_refusal or_else refusal_of
           good_rows_lem s g live e r f q =
               let w = subst (λ (k : ℕ). RowTest r k rows words cells counts) e q in

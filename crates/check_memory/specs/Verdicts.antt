@@ -1,8 +1,7 @@
 -- What the test of the memory says, as the definition's refusal, and what stands before and after its parts. Assumes nothing.
-use Rattle.std.specs.Prelude.{ℕ, ◌≡◌, Bool, true, ◌&&◌, List, length}
+use Rattle.std.specs.Prelude.{ℕ, ◌≡◌, Bool, true, ◌&&◌, List, length, Result, Ok, Err, ⊤}
 use Rattle.std.proofs.Math.Option.{Option, none, some}
 use Rattle.types.specs.declared.refusal.Refusal.{Refusal}
-use Rattle.types.specs.declared.refusal.Refusal.TheVariants.{ShortMemory, IllFormedMemory}
 use Rattle.memory_records.specs.declared.record.DownloadingPiece.{DownloadingPiece as Record}
 use Rattle.memory_records.specs.Rows.{live_records, records_in}
 use Rattle.memory_layout.specs.declared.shape.Shape.{Shape}
@@ -11,14 +10,11 @@ use Rattle.memory_layout.specs.Bounds.{ShapeOf, Spans}
 use Rattle.memory_layout.specs.Good.{good_pieces, good_places, good_partials, good_extents, good_list, memory_refusal}
 use Rattle.check_pieces.specs.Parts.{HeadPassed}
 use Rattle.check_partials.specs.Records.{CountsHeld}
-use Rattle.check_memory.specs.declared.verdict.Verdict.{Verdict}
-use Rattle.check_memory.specs.declared.verdict.Verdict.TheVariants.{Good, Short, IllFormed}
 
 -- the refusal that a verdict is
-unfoldable pub refusal_of : (v : Verdict) → Option Refusal
-refusal_of Good = none
-refusal_of Short = some ShortMemory
-refusal_of IllFormed = some IllFormedMemory
+unfoldable pub refusal_of : (v : Result ⊤ Refusal) → Option Refusal
+refusal_of (Ok _) = none
+refusal_of (Err why) = some why
 
 -- ---- behind the head
 -- the parts of the test
@@ -42,7 +38,7 @@ pub record RowTest (r : Bool) (live : ℕ) (rows words cells counts : List ℕ) 
   pub long : length counts ≡ 1536
 
 -- ---- the whole test
-pub record Checked (v : Verdict) (lent : ℕ) (rows words cells counts : List ℕ) : Type 0 where
+pub record Checked (v : Result ⊤ Refusal) (lent : ℕ) (rows words cells counts : List ℕ) : Type 0 where
   pub is : refusal_of v ≡ memory_refusal lent (records_in (live_records words) rows) words cells
-  pub counted : v ≡ Good → CountsHeld (decode (records_in (live_records words) rows) words cells) (head_word words 7) counts
+  pub counted : v ≡ Ok tt → CountsHeld (decode (records_in (live_records words) rows) words cells) (head_word words 7) counts
   pub long : length counts ≡ 1536

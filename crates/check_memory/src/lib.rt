@@ -4,7 +4,5 @@
 mod lengths;
 mod memory;
 mod rows;
-mod verdict;
 
 pub use memory::check_memory;
-pub use verdict::Verdict;

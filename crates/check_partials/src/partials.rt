@@ -23,10 +23,8 @@ fn pieces_at_work(cells: &[u16], s: Shape) -> usize
 {
     let states = piece_column(cells, s, 1);
     let mut many = 0;
-    let mut i = 0;
-    while i < s.pieces {
+    for i in 0..s.pieces {
         many += one_if(states[i] != 4);
-        i += 1;
     }
     u16_to_usize(many)
 }
@@ -141,8 +139,7 @@ fn records_pass(
         counts.new }
 {
     let mut lo = 0;
-    let mut k = 0;
-    while k < live {
+    for k in 0..live {
         let r = row(rows, k);
         if r.index < lo {
             return false;
@@ -153,7 +150,6 @@ fn records_pass(
         }
         set_counts(counts, k, x.counts);
         lo = r.index + 1;
-        k += 1;
     }
     true
 }

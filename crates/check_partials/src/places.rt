@@ -17,8 +17,7 @@ pub fn places_ok(words: &[u64], rows: &[u32], live: usize, s: Shape) -> bool
 {
     let many = s.places;
     let mut marks = [false; 512];
-    let mut k = 0;
-    while k < live {
+    for k in 0..live {
         let record = row(rows, k);
         let place = u32_to_usize(record.info_idx);
         if many <= place {
@@ -28,7 +27,6 @@ pub fn places_ok(words: &[u64], rows: &[u32], live: usize, s: Shape) -> bool
             return false;
         }
         marks[place] = true;
-        k += 1;
     }
     true
 }

@@ -13,12 +13,10 @@ fn among(words: &[u64], k: usize, e: u64) -> bool
     requires k_bound { k ≤ 5 }
     ensures { result ≡ member e (extents_before words.now k) }
 {
-    let mut j = 0;
-    while j < k {
+    for j in 0..k {
         if e == head_word(words, 9 + j) {
             return true;
         }
-        j += 1;
     }
     false
 }
@@ -30,8 +28,7 @@ pub fn extents_ok(words: &[u64], s: Shape) -> bool
 {
     let limit = num_extents(usize_to_u64(s.pieces), usize_to_u64(s.blocks));
     let many = u64_to_usize(head_word(words, 8));
-    let mut k = 0;
-    while k < many {
+    for k in 0..many {
         let e = head_word(words, 9 + k);
         if limit <= e {
             return false;
@@ -39,7 +36,6 @@ pub fn extents_ok(words: &[u64], s: Shape) -> bool
         if among(words, k, e) {
             return false;
         }
-        k += 1;
     }
     true
 }

@@ -7,13 +7,10 @@ fn pads_one_by_one(pads: &[u64], size: u64) -> bool
     requires { length pads.now ≤ 4096 }
     ensures { result ≡ pads_below size pads.now }
 {
-    let n = pads.len();
-    let mut i = 0;
-    while i < n {
-        if size < pads[i] {
+    for pad in pads {
+        if size < *pad {
             return false;
         }
-        i += 1;
     }
     true
 }
@@ -23,12 +20,9 @@ fn joined(pads: &[u64]) -> u64
     requires { length pads.now ≤ 4096 }
     ensures { NoneAbove result pads.now }
 {
-    let n = pads.len();
     let mut all: u64 = 0;
-    let mut i = 0;
-    while i < n {
-        all = all | pads[i];
-        i += 1;
+    for pad in pads {
+        all |= *pad;
     }
     all
 }

@@ -32,15 +32,13 @@ pub fn rows_pass(
         priorities: 0,
         flushed: 0,
     };
-    let mut i = 0;
-    while i < n {
+    for i in 0..n {
         let count = counts[i];
         let state = states[i];
         let priority = priorities[i];
         let flush = flushed[i];
         sum = join(sum, seeds, count, state, priority, flush);
         ranks[i] = rank_in(seeds, count, state, priority, flush);
-        i += 1;
     }
     joined_ok(sum)
 }

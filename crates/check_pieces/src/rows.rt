@@ -1,6 +1,6 @@
 // The cells of one piece: what is wrong with them, and its rank. Neither has a way out in the middle of its caller's loop, and no
 // cell makes a number wrap.
-ghost use Rattle.std.specs.Prelude.{◌≡◌, not, ◌&&◌, ◌||◌, ◌-◌, ◌≤◌, min, eqb};
+ghost use Rattle.std.specs.Prelude.{◌≡◌, not, ◌&&◌, ◌||◌, ◌≤◌, eqb};
 ghost use Rattle.check_pieces.specs.Rows.{cells_ok, wrongless, joined_ok, rank_from, Ranked};
 
 // The cells of pieces joined by `|`: what is wrong with them, and the cells whose limit is a power of two less one.
@@ -9,16 +9,6 @@ pub struct Joined {
     pub wrong: u16,
     pub priorities: u16,
     pub flushed: u16,
-}
-
-// By how much x is above the most that it may be.
-fn over(x: u16, most: u16) -> u16
-    ensures { result ≡ x - most }
-{
-    if most < x {
-        return x - most;
-    }
-    0
 }
 
 // 0 unless the piece is flushed and not Open.
@@ -39,7 +29,7 @@ fn wrong_in(seeds: u16, count: u16, state: u16, flushed: u16) -> u16
     ensures { eqb result 0 ≡ wrongless seeds count state flushed }
 {
     let limit = 1000 - seeds;
-    over(count, limit) | over(state, 6) | flushed_at_work(state, flushed)
+    count.saturating_sub(limit) | state.saturating_sub(6) | flushed_at_work(state, flushed)
 }
 
 // One piece's cells joined to those before it.
@@ -61,17 +51,6 @@ pub fn joined_ok(sum: Joined) -> bool
     (sum.wrong == 0) & (sum.priorities < 8) & (sum.flushed < 2)
 }
 
-// What the state takes off the rank.
-fn taken_off(state: u16) -> u16
-    ensures { result ≡ min (5 - state) 2 }
-{
-    let below = over(5, state);
-    if below < 2 {
-        return below;
-    }
-    2
-}
-
 // The rank of a piece with these cells, if they are in their ranges.
 pub fn rank_in(seeds: u16, count: u16, state: u16, priority: u16, flushed: u16) -> u16
     ensures { Ranked count state priority → result ≡ rank_from seeds count state priority flushed }
@@ -81,7 +60,8 @@ pub fn rank_in(seeds: u16, count: u16, state: u16, priority: u16, flushed: u16) 
         | ((count == 0) & (seeds == 0))
         | (state == 1)
         | (state == 2);
-    let full = (count % 1024 + 1) * (24 - 3 * (priority % 8)) - taken_off(state);
+    let taken_off = 5u16.saturating_sub(state).min(2);
+    let full = (count % 1024 + 1) * (24 - 3 * (priority % 8)) - taken_off;
     if unlisted {
         return 0;
     }

@@ -4,16 +4,15 @@
 ghost use Rattle.std.specs.Prelude.{◌≡◌, length};
 ghost use Rattle.link_memory.specs.Answers.{verdict_as, Answered};
 
-use check_memory::Verdict;
+use types::Refusal;
 
 // The number of the refusal, 0 for none.
-fn number(v: Verdict) -> u8
+fn number(v: Result<(), Refusal>) -> u8
     ensures { result ≡ verdict_as v }
 {
     match v {
-        Verdict::Good => 0,
-        Verdict::Short => 2,
-        Verdict::IllFormed => 3,
+        Ok(()) => 0,
+        Err(why) => why.number(),
     }
 }
 

@@ -3,7 +3,7 @@ ghost use Rattle.std.specs.Prelude.{◌<◌, ◌≤◌};
 ghost use Rattle.memory_layout.specs.Bounds.{CellsSpan, Spans};
 ghost use Rattle.memory_blocks.specs.Blocks.{BlockRead, BlockStored, BlockFresh};
 
-use crate::info::{BlockInfo, bit_of, state_number};
+use crate::info::{BlockInfo, state_number};
 use memory_layout::{Shape, block_cell, peer_word, set_block_cell, set_peer_word};
 
 pub fn get_block(words: &[u64], cells: &[u16], s: Shape, p: usize, j: usize) -> BlockInfo
@@ -16,10 +16,10 @@ pub fn get_block(words: &[u64], cells: &[u16], s: Shape, p: usize, j: usize) -> 
     let has_peer = block_cell(cells, s, 2, p, j) == 1;
     let peer = peer_word(words, s, p, j);
     BlockInfo {
-        state: state,
-        num_peers: num_peers,
-        has_peer: has_peer,
-        peer: peer,
+        state,
+        num_peers,
+        has_peer,
+        peer,
     }
 }
 
@@ -29,7 +29,7 @@ pub fn put_block(words: &mut [u64], cells: &mut [u16], s: Shape, p: usize, j: us
     requires state_bound { x.state ≤ 3 }
     ensures { BlockStored s words.old cells.old words.new cells.new p j x }
 {
-    let has = bit_of(x.has_peer);
+    let has = u16::from(x.has_peer);
     set_block_cell(cells, s, 0, p, j, x.state);
     set_block_cell(cells, s, 1, p, j, x.num_peers);
     set_block_cell(cells, s, 2, p, j, has);

@@ -1,7 +1,6 @@
 // The numbers of a block, by value.
 ghost use Rattle.std.specs.Prelude.{◌≡◌};
 ghost use Rattle.types.specs.Block.{block_state_number};
-ghost use Rattle.model.specs.Lists.{bit};
 ghost use Rattle.memory_layout.specs.Decode.{state_from};
 
 // A block's state by its number, how many peers asked for it, and the peer that asked last, where there is one.
@@ -18,10 +17,4 @@ pub fn state_number(v: u16) -> u16
     ensures { result ≡ block_state_number (state_from v) }
 {
     if v < 4 { v } else { 0 }
-}
-
-pub fn bit_of(has_peer: bool) -> u16
-    ensures { result ≡ bit has_peer }
-{
-    if has_peer { 1 } else { 0 }
 }

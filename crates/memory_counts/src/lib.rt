@@ -1,4 +1,5 @@
 // How many blocks of partial k are requested, being written and finished: three columns of 512, as the memory test leaves them.
+// They are three and not one with the column as a number, so that a caller names a state.
 #![tactic(auto)]
 
 ghost use Rattle.std.specs.Prelude.{◌≡◌, ◌<◌, length};

@@ -28,12 +28,7 @@ pub fn remove_recent_extent(words: &mut [u64], s: Shape, p: usize)
     ensures { WordsStored s (λ d. with_recent_extents (remove_nth p d.recent_extents) d) words.old words.new }
 {
     let n = u64_to_usize(head_word(words, 8));
-    let mut j = p;
-    while j + 1 < n {
-        let v = head_word(words, 10 + j);
-        set_head_word(words, 9 + j, v);
-        j += 1;
-    }
+    words.copy_within(10 + p..9 + n, 9 + p);
     let w = usize_to_u64(n - 1);
     set_head_word(words, 8, w);
 }

@@ -3,6 +3,8 @@ use mathlib.Core.Path.{◌≡◌, refl, ap, ◌∙◌}
 use Prim.Native.Nat.{ℕ, zero, suc, ◌+◌, ◌-◌, ◌≤◌, ◌<◌}
 use native.Mathlib.Omega.{arith}
 use lib.ListN.{get_or-eq_default}
+use mathlib.Core.Bool.{Bool, true, false}
+use Rattle.std.specs.Int.{from_bool}
 use Rattle.types.specs.declared.queue.DownloadQueue.{DownloadQueue}
 use Rattle.types.specs.declared.queue.DownloadQueue.TheVariants.{Downloading, Full, Finished, ZeroPrio, Open, DownloadingReverse}
 use Rattle.types.specs.declared.queue.DownloadQueue.TheVariants.{FullReverse}
@@ -10,7 +12,7 @@ use Rattle.types.specs.declared.block.BlockState.{BlockState}
 use Rattle.types.specs.declared.block.BlockState.TheVariants.{None, Requested, Writing, Finished as FinishedBlock}
 use Rattle.types.specs.Queue.{queue_number, unreverse, queues}
 use Rattle.types.specs.Block.{block_state_number, block_states}
-use Rattle.model.specs.Lists.{nth}
+use Rattle.model.specs.Lists.{nth, bit}
 use Rattle.memory_layout.specs.Decode.{queue_from, state_from}
 
 -- ---- of pieces
@@ -83,3 +85,9 @@ number_state None = refl
 number_state Requested = refl
 number_state Writing = refl
 number_state FinishedBlock = refl
+
+-- ---- a flag as a number
+-- by the language it is the model's bit
+pub flag_bit : (t : Bool) (n : ℕ) → n ≡ from_bool t → n ≡ bit t
+flag_bit true n e = e
+flag_bit false n e = e

@@ -1,5 +1,5 @@
 // The shape of a picker's buffers: the number of pieces, of blocks in a whole piece, and of places for partials.
-ghost use Rattle.std.specs.Prelude.{◌≡◌, true, ◌≤◌, min, length};
+ghost use Rattle.std.specs.Prelude.{◌≡◌, true, ◌≤◌, length};
 ghost use Rattle.model.specs.State.{valid_geometry};
 ghost use Rattle.memory_layout.specs.Decode.{head_word};
 ghost use Rattle.memory_layout.specs.Bounds.{ShapeOf};
@@ -14,15 +14,6 @@ pub struct Shape {
     pub places: usize,
 }
 
-fn lesser(a: usize, b: usize) -> usize
-    ensures { result ≡ min a b }
-{
-    if a < b {
-        return a;
-    }
-    b
-}
-
 // The shape that the head gives.
 pub fn shape_of(words: &[u64]) -> Shape
     requires in_bounds { 16 ≤ length words.now }
@@ -31,10 +22,10 @@ pub fn shape_of(words: &[u64]) -> Shape
 {
     let pieces = u64_to_usize(num_pieces(words[0], words[1]));
     let blocks = u64_to_usize(blocks_per_piece(words[1]));
-    let places = lesser(pieces, 512);
+    let places = pieces.min(512);
     Shape {
-        pieces: pieces,
-        blocks: blocks,
-        places: places,
+        pieces,
+        blocks,
+        places,
     }
 }

@@ -4,7 +4,7 @@
 
 ghost use Rattle.std.specs.Prelude.{◌≡◌, true, ◌++◌, ◌*◌, ◌≤◌, length, drop};
 ghost use Rattle.model.specs.State.{valid_geometry};
-ghost use Rattle.memory_new.specs.Fresh.{Filled, fresh_head, FreshCells, Room, MadeNew};
+ghost use Rattle.memory_new.specs.Fresh.{fresh_head, FreshCells, Room, MadeNew};
 
 use geometry::num_pieces;
 use memory_layout::{Shape, shape_of};
@@ -14,28 +14,6 @@ use types::u64_to_usize;
 const OPEN: u16 = 4;
 
 const DEFAULT_PRIORITY: u16 = 4;
-
-fn fill_words(words: &mut [u64], start: usize, end: usize, v: u64)
-    requires { (start ≤ end) × (end ≤ length words.old) }
-    ensures { Filled start end v words.old words.new }
-{
-    let mut k = start;
-    while k < end {
-        words[k] = v;
-        k += 1;
-    }
-}
-
-fn fill_cells(cells: &mut [u16], start: usize, end: usize, v: u16)
-    requires { (start ≤ end) × (end ≤ length cells.old) }
-    ensures { Filled start end v cells.old cells.new }
-{
-    let mut k = start;
-    while k < end {
-        cells[k] = v;
-        k += 1;
-    }
-}
 
 // The words of the head that are read.
 fn fresh_head(words: &mut [u64], total: u64, size: u64, n: u64)
@@ -58,10 +36,10 @@ fn fresh_cells(cells: &mut [u16], n: usize)
     requires { (n ≤ 4096) × (4 * n ≤ length cells.old) }
     ensures { FreshCells n cells.old cells.new }
 {
-    fill_cells(cells, 0, n, 0);
-    fill_cells(cells, n, 2 * n, OPEN);
-    fill_cells(cells, 2 * n, 3 * n, DEFAULT_PRIORITY);
-    fill_cells(cells, 3 * n, 4 * n, 0);
+    cells[0..n].fill(0);
+    cells[n..2 * n].fill(OPEN);
+    cells[2 * n..3 * n].fill(DEFAULT_PRIORITY);
+    cells[3 * n..4 * n].fill(0);
 }
 
 // The new picker of a geometry. The answer is its shape.
@@ -73,7 +51,7 @@ pub fn make(words: &mut [u64], cells: &mut [u16], total: u64, size: u64) -> Shap
     fresh_head(words, total, size, num_pieces(total, size));
     let s = shape_of(words);
     let n = s.pieces;
-    fill_words(words, 16, 16 + n, 0);
+    words[16..16 + n].fill(0);
     fresh_cells(cells, n);
     s
 }

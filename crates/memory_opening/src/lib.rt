@@ -30,11 +30,9 @@ fn fresh_blocks(cells: &mut [u16], s: Shape, p: usize, many: usize, payload: usi
     requires p_lt_places { (p < s.places) × (many ≤ s.blocks) }
     ensures { Fresh s cells.old cells.new p many payload }
 {
-    let mut j = 0;
-    while j < many {
+    for j in 0..many {
         let state = fresh_state(payload, j);
         fresh_block(cells, s, p, j, state);
-        j += 1;
     }
 }
 

@@ -15,12 +15,10 @@ fn mark_places(marks: &mut [bool; 512], rows: &[u32], live: usize)
     requires places_below { PlacesBelow 512 live rows.now }
     ensures { Marked (places_taken live rows.now) marks.new }
 {
-    let mut k = 0;
-    while k < live {
+    for k in 0..live {
         let record = row(rows, k);
         let place = u32_to_usize(record.info_idx);
         marks[place] = true;
-        k += 1;
     }
 }
 
@@ -30,10 +28,8 @@ fn stretch_marked(marks: &[bool; 512], p: usize) -> bool
     ensures { result ≡ marked_through marks.now 32 p }
 {
     let mut all = true;
-    let mut k = 0;
-    while k < 32 {
+    for k in 0..32 {
         all = all & marks[p + k];
-        k += 1;
     }
     all
 }
@@ -43,14 +39,14 @@ fn first_stretch(marks: &[bool; 512], places: usize) -> usize
     requires { (places ≤ 512) × (length marks.now ≡ 512) }
     ensures { (result ≤ places) × (unmarked_from marks.now (places - result) result ≡ unmarked_from marks.now places 0) }
 {
-    let mut p = 0;
-    while p + 32 <= places {
+    let stretches = places / 32;
+    for k in 0..stretches {
+        let p = 32 * k;
         if !stretch_marked(marks, p) {
             return p;
         }
-        p += 32;
     }
-    p
+    32 * stretches
 }
 
 // The first of so many places without a mark, or their number.
@@ -58,14 +54,13 @@ fn first_unmarked(marks: &[bool; 512], places: usize) -> usize
     requires { (places ≤ 512) × (length marks.now ≡ 512) }
     ensures { result ≡ unmarked_from marks.now places 0 }
 {
-    let mut p = first_stretch(marks, places);
-    while p < places {
+    let start = first_stretch(marks, places);
+    for p in start..places {
         if !marks[p] {
             return p;
         }
-        p += 1;
     }
-    p
+    places
 }
 
 // Whether the first `live` rows have places below their number: different places add up to as much as 0 to live - 1 only where they are
@@ -76,10 +71,8 @@ fn places_low(rows: &[u32], live: usize) -> bool
     ensures { result ≡ eqb (2 * places_sum live rows.now + live) (live * live) }
 {
     let mut sum: u32 = 0;
-    let mut k = 0;
-    while k < live {
+    for k in 0..live {
         sum += rows[512 + k];
-        k += 1;
     }
     2 * u32_to_usize(sum) + live == live * live
 }

@@ -53,11 +53,9 @@ pub fn download_queues(
     ensures { Filled s live rows.now cells.now queues.new sizes.new }
 {
     *sizes = [0; 4];
-    let mut k = 0;
-    while k < live {
+    for k in 0..live {
         let q = queue_of(cells, rows, s, k);
         enter(queues, sizes, q, k);
-        k += 1;
     }
 }
 

@@ -53,9 +53,7 @@ pub fn rank_pieces(words: &[u64], cells: &[u16], s: Shape, ranks: &mut [u16])
     ensures { RanksFilled s words.now cells.now s.pieces ranks.old ranks.new }
 {
     let n = s.pieces;
-    let mut i = 0;
-    while i < n {
+    for i in 0..n {
         ranks[i] = rank_at(words, cells, s, i);
-        i += 1;
     }
 }

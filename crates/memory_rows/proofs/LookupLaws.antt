@@ -1,4 +1,5 @@
 -- What the end of the search by halving says of the records and of the picker. Assumes nothing.
+use Rattle.std.specs.Prelude.{None, Some}
 use mathlib.Core.Path.{◌≡◌, sym, ap, ◌∙◌}
 use mathlib.Core.Logic.{◌≢◌, ◌⊎◌, ⊎_elim}
 use mathlib.Core.Bool.{Bool, true, false}
@@ -14,7 +15,6 @@ use Rattle.model.specs.State.{DownloadingPiece}
 use Rattle.model.specs.pick.Pick.{no_partial}
 use Rattle.model.specs.change.Partials.{find_dl_piece, partial_of}
 use Rattle.model.proofs.sound.PartialLaws.{found_or_none, find_dl_piece-piece, find_dl_piece_at, find_dl_piece_place}
-use Rattle.memory_records.specs.declared.search.Found.TheVariants.{At, Nothing}
 use Rattle.memory_records.specs.Records.{no_record, place_of, first_from, seek_from, answer_of, rising_from}
 use Rattle.memory_records.specs.Rows.{row_at, records_in}
 use Rattle.memory_records.proofs.laws.SearchLaws.{at_hit, at_miss}
@@ -48,14 +48,14 @@ module _ (live : ℕ) (rows : List ℕ) (i : ℕ) where
 
   -- row k is the piece's
   module _ (k : ℕ) (g : Halves live rows i k k) (r : rising_from 0 (records_in live rows) ≡ true) (h : k < live) (e : get_or rows k 0 ≡ i) where
-    pub found_there : At k ≡ answer_of (seek_from live 0 (records_in live rows) i) live
+    pub found_there : Some k ≡ answer_of (seek_from live 0 (records_in live rows) i) live
     unfolding is_of
     found_there =
         let f = first_at is_of live 0 k (omega arith) (omega arith) (eq-eqb _ i (row_index live rows k h ∙ e)) (λ j a b.
         ne_eqb _ i (λ q. omega (arith, g.below j b, row_index live rows j (omega arith)))) in
         sym (ap (λ (p : ℕ). answer_of p live) f ∙ at_hit k live h)
 
-    pub found_partial : FoundIn live rows i (At k)
+    pub found_partial : FoundIn live rows i (Some k)
     unfolding row_at partial_of partial_in
     found_partial = record {
       row = (h, e);
@@ -71,14 +71,14 @@ module _ (live : ℕ) (rows : List ℕ) (i : ℕ) where
 
   -- no row is
   module _ (n : (j : ℕ) → j < live → get_or rows j 0 ≢ i) where
-    pub none_there : Nothing ≡ answer_of (seek_from live 0 (records_in live rows) i) live
+    pub none_there : None ≡ answer_of (seek_from live 0 (records_in live rows) i) live
     unfolding is_of
     none_there =
         let f = first_none is_of live 0 (λ j a b.
         ne_eqb _ i (λ q. n j (omega arith) (sym (row_index live rows j (omega arith)) ∙ q))) in
         sym (ap (λ (p : ℕ). answer_of p live) f ∙ at_miss (0 + live) live (omega arith))
 
-    pub no_partial_lem : FoundIn live rows i Nothing
+    pub no_partial_lem : FoundIn live rows i None
     unfolding row_at partial_of partial_in
     no_partial_lem = record {
       row = n;

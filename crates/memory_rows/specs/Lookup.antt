@@ -1,11 +1,9 @@
 -- The rows as the live records of a picker, and what a lookup by piece answers. Assumes nothing.
-use Rattle.std.specs.Prelude.{◌≡◌, ◌≢◌, List, ℕ, ◌<◌}
+use Rattle.std.specs.Prelude.{◌≡◌, ◌≢◌, List, ℕ, ◌<◌, None, Option, Some}
 use Rattle.std.proofs.Math.Option.{none, some}
 use Rattle.model.specs.Lists.{len}
 use Rattle.model.specs.State.{Picker}
 use Rattle.model.specs.change.Partials.{partial_of}
-use Rattle.memory_records.specs.declared.search.Found.{Found}
-use Rattle.memory_records.specs.declared.search.Found.TheVariants.{At, Nothing}
 use Rattle.memory_records.specs.Rows.{row_at, records_in}
 use Rattle.memory_layout.specs.declared.shape.Shape.{Shape}
 use Rattle.memory_layout.specs.Decode.{head_word, decode}
@@ -23,16 +21,16 @@ picker_in live rows words cells = decode (records_in live rows) words cells
 
 -- ---- the answer
 -- it names the row of piece i, or there is none
-abbrev pub RowFound : (live : ℕ) (rows : List ℕ) (i : ℕ) (r : Found) → Type 0
-RowFound live rows i (At k) = (k < live) × ((row_at rows k).index ≡ i)
-RowFound live rows i Nothing = (k : ℕ) → k < live → (row_at rows k).index ≢ i
+abbrev pub RowFound : (live : ℕ) (rows : List ℕ) (i : ℕ) (r : Option ℕ) → Type 0
+RowFound live rows i (Some k) = (k < live) × ((row_at rows k).index ≡ i)
+RowFound live rows i None = (k : ℕ) → k < live → (row_at rows k).index ≢ i
 
 -- it names the partial of piece i, or there is none
-abbrev pub Looked : (d : Picker) (i : ℕ) (r : Found) → Type 0
-Looked d i (At k) = (k < len d.partials) × (partial_of d i ≡ some (partial_in d k))
-Looked d i Nothing = partial_of d i ≡ none
+abbrev pub Looked : (d : Picker) (i : ℕ) (r : Option ℕ) → Type 0
+Looked d i (Some k) = (k < len d.partials) × (partial_of d i ≡ some (partial_in d k))
+Looked d i None = partial_of d i ≡ none
 
 -- in the rows, and in the picker beside any words and cells
-pub record FoundIn (live : ℕ) (rows : List ℕ) (i : ℕ) (r : Found) : Type 0 where
+pub record FoundIn (live : ℕ) (rows : List ℕ) (i : ℕ) (r : Option ℕ) : Type 0 where
   pub row : RowFound live rows i r
   pub is : (s : Shape) (words cells : List ℕ) → LiveRows s live rows words cells → Looked (picker_in live rows words cells) i r

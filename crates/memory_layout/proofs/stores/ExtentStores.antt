@@ -4,9 +4,9 @@ use mathlib.Core.Logic.{◌≢◌}
 use mathlib.Core.List.{List, [], ◌∷◌, ◌++◌}
 use Prim.Native.Nat.{ℕ, suc, ◌+◌, ◌-◌, ◌≤◌, ◌<◌}
 use native.Mathlib.Omega.{arith}
-use native.Mathlib.Decide.{ℕ_discrete}
 use native.Mathlib.Numerals.{add-one}
-use lib.ListN.{length, set, length-set}
+use lib.ListN.{length, get_or, set, length-set}
+use Rattle.std.specs.List.{CopiedTo, SameBelow, SameFrom as Kept}
 use Rattle.model.specs.Lists.{remove_nth}
 use Rattle.model.specs.State.{with_recent_extents, max_extents}
 use Rattle.memory_records.specs.declared.record.DownloadingPiece.{DownloadingPiece as Record}
@@ -20,7 +20,7 @@ use Rattle.memory_layout.proofs.OffsetLaws.{head_in}
 use Rattle.memory_layout.proofs.Same.{head_other, head_stored}
 use Rattle.memory_layout.proofs.Parts.{listing_same}
 use Rattle.memory_layout.proofs.BoundsLaws.{words_became}
-use Rattle.memory_layout.proofs.stores.HeadStores.{Behind, behind_none, behind_store, behind_kept, behind_pieces, behind_partials}
+use Rattle.memory_layout.proofs.stores.HeadStores.{Behind, behind_none, behind_same, behind_store, behind_kept, behind_pieces, behind_partials}
 use Rattle.memory_layout.proofs.stores.HeadStores.{behind_list}
 
 -- a word of the head reads as it was stored
@@ -110,54 +110,24 @@ pub record Closing (words : List ℕ) (p n j : ℕ) (words' : List ℕ) : Type 0
   pub moved : (k : ℕ) → p ≤ k → k < j → head_word words' (9 + k) ≡ head_word words (9 + suc k)
   pub after : (k : ℕ) → j ≤ k → head_word words' (9 + k) ≡ head_word words (9 + k)
 
--- before the first move
-pub closing_start : (s : Shape) (words : List ℕ) (p n : ℕ) → WordsSpan s words → n ≤ max_extents → p < n → Closing words p n p words
-closing_start s words p n r few h =
+-- after a move of all of them at once
+pub closing_moved : (s : Shape) (words : List ℕ) (p n : ℕ) (words' : List ℕ) → WordsSpan s words → n ≤ max_extents → p < n
+    → length words' ≡ length words → CopiedTo words words' (10 + p) (9 + p) (9 + n - (10 + p)) → SameBelow words words' (9 + p)
+    → Kept words words' (9 + p + (9 + n - (10 + p))) → Closing words p n (n - 1) words'
+unfolding head_word
+closing_moved s words p n words' r few h long moved below behind =
     record {
-      behind = λ t. behind_none t words;
-      room = head_in s words r;
+      behind = λ t. behind_same t words words' long (λ k l. behind k 0 (omega arith));
+      room = omega (arith, long, head_in s words r);
       few = few;
       from = omega arith;
-      within = h;
-      before = λ g l. refl;
-      moved = λ k l m. absurd (omega arith);
-      after = λ k l. refl;
+      within = omega arith;
+      before = λ g l. below g 0 l;
+      moved = λ k l m.
+          let e : 10 + p + (9 + k - (9 + p)) ≡ 9 + suc k = omega arith in
+          moved (9 + k) 0 (omega arith) (omega arith) ∙ ap (λ (g : ℕ). get_or words g 0) e;
+      after = λ k l. behind (9 + k) 0 (omega arith);
     }
-
-module _ (words : List ℕ) (p n j : ℕ) (words' : List ℕ) (c : Closing words p n j words') (more : j + 1 < n) where
-  abbrev closed : List ℕ
-  closed = set words' (9 + j) (head_word words' (10 + j))
-
-  low : j < 5
-  low = omega (arith, c.few)
-
-  here : head_word closed (9 + j) ≡ head_word words (9 + suc j)
-  here =
-      head_read words' (9 + j) (head_word words' (10 + j)) (omega (arith, c.room, low))
-      ∙ ap (head_word words') (omega arith) ∙ c.after (suc j) (omega arith)
-
-  next : Closing words p n (j + 1) closed
-  next =
-      let f = c.from in
-      let q = low in
-      record {
-        behind = λ t. behind_store t words words' (9 + j) (head_word words' (10 + j)) (omega arith) (c.behind t);
-        room = simp length-set c.room;
-        few = c.few;
-        from = omega arith;
-        within = omega arith;
-        before = λ g h. head_other words' (9 + j) (head_word words' (10 + j)) g (λ e. omega arith) ∙ c.before g h;
-        moved = λ k h l. elim (ℕ_discrete k j) [
-          | yes e ↦ rw e here
-          | no m ↦ head_other words' (9 + j) (head_word words' (10 + j)) (9 + k) (λ e. m (omega arith)) ∙ c.moved k h (omega arith)
-        ];
-        after = λ k h. head_other words' (9 + j) (head_word words' (10 + j)) (9 + k) (λ e. omega arith) ∙ c.after k (omega arith);
-      }
-
-  -- one move
-  pub closing_next : (v : ℕ) (words'' : List ℕ) → v ≡ head_word words' (10 + j) → words'' ≡ set words' (9 + j) v
-      → Closing words p n (j + 1) words''
-  closing_next v words'' e q = rw (q, e) next
 
 module _ (s : Shape) (words : List ℕ) (r : WordsSpan s words) (p n j : ℕ) (words' : List ℕ) (c : Closing words p n j words')
     (number : n ≡ head_word words 8) (end : n ≤ j + 1) where

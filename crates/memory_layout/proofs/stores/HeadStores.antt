@@ -2,15 +2,15 @@
 use mathlib.Core.Path.{◌≡◌, refl, sym, ◌∙◌}
 use mathlib.Core.Logic.{◌≢◌}
 use mathlib.Core.List.{List}
-use Prim.Native.Nat.{ℕ, ◌+◌, ◌≤◌, ◌<◌}
+use Prim.Native.Nat.{ℕ, ◌+◌, ◌*◌, ◌≤◌, ◌<◌}
 use native.Mathlib.Omega.{arith}
-use lib.ListN.{length, set, length-set}
+use lib.ListN.{length, get_or, set, length-set}
 use Rattle.model.specs.State.{with_seeds, with_cursors}
 use Rattle.memory_records.specs.declared.record.DownloadingPiece.{DownloadingPiece as Record}
 use Rattle.memory_layout.specs.declared.shape.Shape.{Shape}
 use Rattle.memory_layout.specs.Tables.{choose}
-use Rattle.memory_layout.specs.Offsets.{words_for}
-use Rattle.memory_layout.specs.Decode.{head_word, pieces_held, partials_held, list_held, decode_at}
+use Rattle.memory_layout.specs.Offsets.{cell, piece_word_at, peer_at, words_for}
+use Rattle.memory_layout.specs.Decode.{head_word, piece_word, peer_word, pieces_held, partials_held, list_held, decode_at}
 use Rattle.memory_layout.specs.Changes.{with_head}
 use Rattle.memory_layout.specs.Bounds.{WordsSpan, InBounds}
 use Rattle.memory_layout.specs.Stores.{WordsKept, WordsBecame}
@@ -27,6 +27,17 @@ pub record Behind (s : Shape) (words words' : List ℕ) : Type 0 where
   pub columns : (f : ℕ) → f < 2 → SameColumn s.pieces f words words'
   pub peers : SamePeers s.pieces s.blocks words words'
   pub beyond : SameFrom (words_for s.pieces s.blocks) words words'
+
+-- where all behind the head is
+pub behind_same : (s : Shape) (words words' : List ℕ) → length words' ≡ length words
+    → ((k : ℕ) → 16 ≤ k → get_or words' k 0 ≡ get_or words k 0) → Behind s words words'
+unfolding piece_word piece_word_at peer_word peer_at cell
+behind_same s words words' long h = record {
+  long = long;
+  columns = λ f l i m. h (16 + (f * s.pieces + i)) (omega arith);
+  peers = λ p j l m. h (16 + 2 * s.pieces + (p * s.blocks + j)) (omega arith);
+  beyond = λ k l. h k (omega (arith, words_from s.pieces s.blocks));
+}
 
 -- before any store
 pub behind_none : (s : Shape) (words : List ℕ) → Behind s words words

@@ -3,7 +3,6 @@ use mathlib.Core.List.{[], ◌∷◌}
 use lib.ListN.{length-set}
 use lib.Seq.{sets-eq}
 use Rattle.memory_new.specs.Fresh.{fresh_head}
-use borrow.Author.Rules.{rules}
 use native.Mathlib.Omega.{arith}
 use Rattle.memory_new.proofs.fresh_head.Goals as goal
 

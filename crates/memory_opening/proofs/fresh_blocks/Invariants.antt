@@ -8,6 +8,3 @@ use Rattle.memory_opening.proofs.fresh_blocks.Given as goal
 
 abbrev pub invariant-loop-j : goal.invariant-loop-j
 invariant-loop-j l = (l.j ≤ l.many) × Fresh l.s l.initial.cells l.cells l.p l.j l.payload
-
-abbrev pub decreases-loop-j : goal.decreases-loop-j
-decreases-loop-j l = l.many - l.j

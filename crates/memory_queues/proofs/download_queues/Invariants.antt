@@ -12,6 +12,3 @@ use Rattle.memory_queues.proofs.download_queues.Given as goal
 
 abbrev pub invariant-loop-k : goal.invariant-loop-k
 invariant-loop-k l = (l.k ≤ l.live) × Entered (queue_held l.cells l.rows l.s.pieces) l.k l.queues l.sizes
-
-abbrev pub decreases-loop-k : goal.decreases-loop-k
-decreases-loop-k l = l.live - l.k

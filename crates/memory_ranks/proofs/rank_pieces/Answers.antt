@@ -21,9 +21,6 @@ offset_bounds-ranks-i c = omega (arith, c.requires.spans.in_words.sizes.many)
 pub bounds-ranks-i : goal.bounds-ranks-i
 bounds-ranks-i c = omega (arith, c.requires.pieces_in_bounds, c.loop-i.invariant.filled.long)
 
-pub overflow_add-i : goal.overflow_add-i
-overflow_add-i c = omega (arith, c.requires.spans.in_words.sizes.many)
-
 pub loop-i-preserved : goal.loop-i-preserved
 loop-i-preserved c = filling_next _ _ _ _ _ _ c.loop-i.invariant c.requires.pieces_in_bounds c.loop-i-test.true _ c.rank_at.ensures
 
@@ -31,4 +28,4 @@ pub shape_of-ranks : goal.shape_of-ranks
 shape_of-ranks c = c.loop-i.invariant.filled.long
 
 pub returns : goal.returns
-returns c = filling_end _ _ _ _ _ _ c.loop-i.invariant c.loop-i-test.false
+returns c = filling_end _ _ _ _ _ _ c.loop-i.invariant (omega arith)

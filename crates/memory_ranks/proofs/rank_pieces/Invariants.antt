@@ -7,6 +7,3 @@ use Rattle.memory_ranks.proofs.rank_pieces.Given as goal
 
 abbrev pub invariant-loop-i : goal.invariant-loop-i
 invariant-loop-i l = Filling l.s l.words l.cells l.i l.initial.ranks l.ranks
-
-abbrev pub decreases-loop-i : goal.decreases-loop-i
-decreases-loop-i l = l.s.pieces - l.i

@@ -6,4 +6,4 @@ use Rattle.check_blocks.proofs.blocks.join.Goals as goal
 
 pub returns : goal.returns
 returns c = join_row c.args.sum c.args.state c.args.num_peers c.args.has
-    c.over.result c.over.ensures
+    c.saturating_sub.result c.saturating_sub.ensures

@@ -9,6 +9,3 @@ use Rattle.check_blocks.proofs.blocks.rows_pass.Given as goal
 
 abbrev pub invariant-loop-j : goal.invariant-loop-j
 invariant-loop-j l = (l.j ≤ l.many) × Counting l.states l.num_peers l.has l.sum l.counts l.j
-
-abbrev pub decreases-loop-j : goal.decreases-loop-j
-decreases-loop-j l = l.many - l.j

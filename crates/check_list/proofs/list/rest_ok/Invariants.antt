@@ -7,6 +7,3 @@ use Rattle.check_list.proofs.list.rest_ok.Given as goal
 
 abbrev pub invariant-loop-k : goal.invariant-loop-k
 invariant-loop-k l = Walking l.n l.list l.start l.many l.least l.initial.ranks l.ranks l.last l.k
-
-abbrev pub decreases-loop-k : goal.decreases-loop-k
-decreases-loop-k l = l.many - l.k

@@ -6,7 +6,4 @@ use borrow.Author.Rules.{rules}
 use Rattle.check_partials.proofs.partials.pieces_at_work.Given as goal
 
 abbrev pub invariant-loop-i : goal.invariant-loop-i
-invariant-loop-i l = (l.i ≤ l.s.pieces) × Working l.states l.many l.i
-
-abbrev pub decreases-loop-i : goal.decreases-loop-i
-decreases-loop-i l = l.s.pieces - l.i
+invariant-loop-i l = (l.i ≤ l.fn.s.pieces) × Working l.states l.many l.i

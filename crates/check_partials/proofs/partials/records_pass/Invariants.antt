@@ -19,6 +19,3 @@ abbrev pub invariant-loop-k : goal.invariant-loop-k
 invariant-loop-k l = (l.k ≤ l.live)
     × Passing (records_in l.live l.rows) l.words l.cells l.s.pieces l.s.blocks l.lo l.k × (length l.counts ≡ 1536)
     × Columns (records_in l.live l.rows) l.words l.cells l.s.pieces l.s.blocks l.k l.counts
-
-abbrev pub decreases-loop-k : goal.decreases-loop-k
-decreases-loop-k l = l.live - l.k

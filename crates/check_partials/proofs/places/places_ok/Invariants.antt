@@ -14,6 +14,3 @@ use Rattle.check_partials.proofs.places.places_ok.Given as goal
 abbrev pub invariant-loop-k : goal.invariant-loop-k
 invariant-loop-k l = (l.k ≤ l.live) × (l.many ≡ places_for (pieces_on l.words)) × (l.many ≤ 512)
     × Marked (records_in l.live l.rows) (pieces_on l.words) l.marks l.k
-
-abbrev pub decreases-loop-k : goal.decreases-loop-k
-decreases-loop-k l = l.live - l.k

@@ -41,9 +41,6 @@ returns-then-among c = twice_extent _ _ c.requires c.loop-k.k c.loop-k.invariant
     c.num_extents-limit.ensures c.usize_to_u64.ensures c.usize_to_u64-2.ensures c.head_word-e.ensures
     (omega arith) (sym c.among.ensures ∙ c.if-among.true)
 
-pub overflow_add-k-in-loop-k : goal.overflow_add-k-in-loop-k
-overflow_add-k-in-loop-k c = omega (arith, (headed _ _ c.requires).recent_extents)
-
 pub loop-k-preserved : goal.loop-k-preserved
 loop-k-preserved c = next_extent _ _ c.requires c.loop-k.k c.loop-k.invariant (omega arith) _ c.usize_to_u64.result c.usize_to_u64-2.result _
     c.num_extents-limit.ensures c.usize_to_u64.ensures c.usize_to_u64-2.ensures c.head_word-e.ensures

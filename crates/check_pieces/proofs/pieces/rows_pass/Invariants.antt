@@ -12,6 +12,3 @@ use Rattle.check_pieces.proofs.pieces.rows_pass.Given as goal
 abbrev pub invariant-loop-i : goal.invariant-loop-i
 invariant-loop-i l = Passing (row_in l.seeds l.counts l.states l.priorities l.flushed) (rank_in l.seeds l.counts l.states l.priorities l.flushed) (length l.counts) (length l.initial.ranks)
     l.ranks (joined_ok l.sum) l.i
-
-abbrev pub decreases-loop-i : goal.decreases-loop-i
-decreases-loop-i l = l.n - l.i

@@ -4,4 +4,4 @@ use borrow.Author.Rules.{rules}
 use Rattle.check_pieces.proofs.rows.wrong_in.Goals as goal
 
 pub returns : goal.returns
-returns c = wrong_is _ _ _ _ _ _ _ c.requires c.over.ensures c.over-2.ensures c.flushed_at_work.ensures
+returns c = wrong_is _ _ _ _ _ _ _ c.requires c.saturating_sub.ensures c.saturating_sub-2.ensures c.flushed_at_work.ensures

@@ -10,4 +10,4 @@ unfolding head_word
 returns c = shape_is _ _ c.requires.words_value
     (c.u64_to_usize-pieces.ensures ∙ c.num_pieces.ensures)
     (c.u64_to_usize-blocks.ensures ∙ c.blocks_per_piece.ensures)
-    c.lesser-places.ensures
+    c.min-places.ensures

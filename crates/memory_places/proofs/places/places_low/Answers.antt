@@ -1,13 +1,11 @@
 -- `places_low` meets its contract: the places of the first k rows are added up. Assumes nothing.
-use Prim.Native.Nat.{ℕ, ◌+◌, ◌-◌, ◌*◌, ◌≤◌}
-use mathlib.Core.Path.{◌≡◌, ap, ◌∙◌}
+use Prim.Native.Nat.{ℕ, ◌+◌, ◌*◌}
+use mathlib.Core.Path.{ap, ◌∙◌}
 use native.Mathlib.Nat.{mul-le-mul}
 use native.Mathlib.Omega.{arith}
 use lib.Dec.{eqb}
 use lib.ListN.{get_or}
-use borrow.Author.Rules.{rules}
 use Rattle.memory_records.specs.Rows.{row_at}
-use Rattle.memory_places.specs.Places.{places_sum}
 use Rattle.memory_places.proofs.LowLaws.{sum_start, sum_more, sum_end}
 use Rattle.memory_places.proofs.places.places_low.Goals as goal
 

@@ -1,12 +1,10 @@
 -- `stretch_marked` meets its contract: the first k places of the stretch are joined. Assumes nothing.
-use Prim.Native.Nat.{◌+◌, ◌-◌, ◌≤◌}
-use mathlib.Core.Path.{◌≡◌, ap, ◌∙◌}
+use Prim.Native.Nat.{◌+◌}
+use mathlib.Core.Path.{ap, ◌∙◌}
 use mathlib.Core.Bool.{Bool, false, ◌&&◌}
 use native.Mathlib.Omega.{arith}
 use lib.ListN.{get_or}
-use Rattle.memory_places.specs.Places.{marked_through}
 use Rattle.memory_places.proofs.PlaceLaws.{through_start, through_more, through_end}
-use borrow.Author.Rules.{rules}
 use Rattle.memory_places.proofs.places.stretch_marked.Goals as goal
 
 pub loop-k-init : goal.loop-k-init

