@@ -1,18 +1,12 @@
 // The number in 1, 2, 4 or 8 bytes from a place on.
-ghost use Rattle.std.specs.Prelude.{◌≡◌, ◌+◌, ◌≤◌, ◌<◌, length};
+ghost use Rattle.std.specs.Prelude.{◌+◌, ◌≤◌, length};
 ghost use Rattle.image_bytes.specs.Put.{FieldRead};
-
-fn wide(b: u8) -> u64
-    ensures { (result ≡ b) × (result < 256) }
-{
-    b as u64
-}
 
 pub fn read1(bytes: &[u8], at: usize) -> u64
     requires { at + 1 ≤ length bytes.now }
     ensures { FieldRead at 1 bytes.now result }
 {
-    wide(bytes[at])
+    u64::from(bytes[at])
 }
 
 pub fn read2(bytes: &[u8], at: usize) -> u64

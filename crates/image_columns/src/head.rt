@@ -8,7 +8,7 @@ use image_pieces::Head;
 fn one_if(t: bool) -> u64
     ensures { result ≡ bit t }
 {
-    if t { 1 } else { 0 }
+    u64::from(t)
 }
 
 // The first six words. How many list places, partials and extents there are is told behind them, once they are stored.

@@ -1,11 +1,12 @@
 -- The parts of an image one after another. Assumes nothing.
+use Rattle.std.specs.Prelude.{Err, Ok, Result}
 use mathlib.Core.Path.{◌≡◌, sym, ap, ap₂, ◌∙◌, subst}
 use mathlib.Core.List.{List, []}
 use Prim.Native.Nat.{ℕ, ◌≤◌}
 use native.Mathlib.Omega.{arith}
 use lib.ListN.{length, drop}
 use Rattle.model.specs.Bep3.{num_pieces, whole_piece_blocks}
-use Rattle.model.specs.State.{Piece, DownloadingPiece, Picker, dirty, max_extents, no_piece, with_pieces, with_partials}
+use Rattle.model.specs.State.{Piece, DownloadingPiece, Picker, max_extents, no_piece, with_pieces, with_partials}
 use Rattle.model.specs.State.{with_recent_extents}
 use Rattle.model.specs.State.{with_listing, piece_at, pieces_in, blocks_per_piece, num_extents}
 use Rattle.model.specs.list.Order.{bucket, rank_of, rank}
@@ -13,8 +14,6 @@ use Rattle.model.specs.image.Image.{head_kind, Got, fault, ret, next, judged, re
 use Rattle.model.specs.image.Image.{get_picker}
 use Rattle.memory_layout.proofs.TableLaws.{tabulate-len, tabulate-nth}
 use Rattle.image_pieces.specs.declared.head.Head.{Head}
-use Rattle.image_pieces.specs.declared.place.Place.{Place}
-use Rattle.image_pieces.specs.declared.place.Place.TheVariants.{At, Fault}
 use Rattle.image_pieces.specs.Places.{Ended, Went}
 use Rattle.image_pieces.specs.Heads.{head_picker}
 use Rattle.image_pieces.specs.Pieces.{piece_place, piece_in, first_pieces, PiecesStand, PiecesRead}
@@ -50,8 +49,8 @@ module _ (head : Head) (n : ℕ) (bytes : List ℕ) (ds : List DownloadingPiece)
 
 -- ---- extents and list
 module _ (at : ℕ) (head : Head) (n : ℕ) (bytes : List ℕ) (limit many blocks : ℕ) (el : limit ≡ num_extents many blocks) (em : many ≡ n)
-    (eb : blocks ≡ whole_piece_blocks head.size) (read : Place) (h : ExtentsJudged at limit bytes read) where
-  pub extents_fail : (k : ℕ) → read ≡ Fault k → TailRead at head n bytes (Fault k)
+    (eb : blocks ≡ whole_piece_blocks head.size) (read : Result ℕ ℕ) (h : ExtentsJudged at limit bytes read) where
+  pub extents_fail : (k : ℕ) → read ≡ Err k → TailRead at head n bytes (Err k)
   unfolding Went get_tail
   extents_fail k e ds =
       let s = body_picker head n bytes ds in
@@ -65,7 +64,7 @@ module _ (at : ℕ) (head : Head) (n : ℕ) (bytes : List ℕ) (limit many block
         within = w.within;
       }
 
-  module _ (ranks : List ℕ) (p : PiecesStand head n bytes ranks) (k : ℕ) (e : read ≡ At k) where
+  module _ (ranks : List ℕ) (p : PiecesStand head n bytes ranks) (k : ℕ) (e : read ≡ Ok k) where
     extents_end : (ds : List DownloadingPiece) → Ended (get_extents (body_picker head n bytes ds) max_extents [] (drop at bytes)) bytes k
     unfolding Went
     extents_end ds =
@@ -75,7 +74,7 @@ module _ (at : ℕ) (head : Head) (n : ℕ) (bytes : List ℕ) (limit many block
     pub extents_within : k ≤ length bytes
     extents_within = (extents_end []).within
 
-    pub tail_read : (to : Place) → ListingJudged k head.dirty n ranks bytes to → TailRead at head n bytes to
+    pub tail_read : (to : Result ℕ ℕ) → ListingJudged k head.dirty n ranks bytes to → TailRead at head n bytes to
     unfolding get_tail head_picker
     tail_read to l ds =
         let s = body_picker head n bytes ds in
@@ -88,8 +87,8 @@ module _ (at : ℕ) (head : Head) (n : ℕ) (bytes : List ℕ) (limit many block
         (l s (ranks_of head n bytes ds ranks p)))
 
 -- ---- all behind the pieces
-module _ (head : Head) (n : ℕ) (bytes : List ℕ) (read : Place) (h : PartialsRead head n bytes read) where
-  pub partials_fail : (k : ℕ) → read ≡ Fault k → BodyRead head n bytes (Fault k)
+module _ (head : Head) (n : ℕ) (bytes : List ℕ) (read : Result ℕ ℕ) (h : PartialsRead head n bytes read) where
+  pub partials_fail : (k : ℕ) → read ≡ Err k → BodyRead head n bytes (Err k)
   unfolding Went get_body
   partials_fail k e =
       let w = subst (Went (get_partials (head_picker head) 0 0 (first_pieces bytes n) (drop (piece_place n) bytes)) bytes) e h in
@@ -101,7 +100,7 @@ module _ (head : Head) (n : ℕ) (bytes : List ℕ) (read : Place) (h : Partials
         within = w.within;
       }
 
-  module _ (k : ℕ) (e : read ≡ At k) where
+  module _ (k : ℕ) (e : read ≡ Ok k) where
     partials_end : Ended (get_partials (head_picker head) 0 0 (first_pieces bytes n) (drop (piece_place n) bytes)) bytes k
     unfolding Went
     partials_end = subst (Went (get_partials (head_picker head) 0 0 (first_pieces bytes n) (drop (piece_place n) bytes)) bytes) e h
@@ -109,7 +108,7 @@ module _ (head : Head) (n : ℕ) (bytes : List ℕ) (read : Place) (h : Partials
     pub partials_within : k ≤ length bytes
     partials_within = partials_end.within
 
-    pub body_read : (to : Place) → TailRead k head n bytes to → BodyRead head n bytes to
+    pub body_read : (to : Result ℕ ℕ) → TailRead k head n bytes to → BodyRead head n bytes to
     unfolding get_body body_picker
     body_read to t =
         let w = partials_end in
@@ -120,7 +119,7 @@ module _ (head : Head) (n : ℕ) (bytes : List ℕ) (read : Place) (h : Partials
         (t w.value)
 
 -- ---- the whole
-pub head_fails : (bytes : List ℕ) → judged head_kind read_head bytes ≡ fault (drop 0 bytes) → Went (get_picker bytes) bytes (Fault 0)
+pub head_fails : (bytes : List ℕ) → judged head_kind read_head bytes ≡ fault (drop 0 bytes) → Went (get_picker bytes) bytes (Err 0)
 unfolding Went get_picker get_body get_tail
 head_fails bytes e = record {
   is =
@@ -138,8 +137,8 @@ module _ (bytes : List ℕ) (head : Head) (g : HeadGot bytes head) (n : ℕ) (en
       g.is
       ∙ ap (λ (m : ℕ). next (get_pieces (head_picker head) 0 m (drop 24 bytes)) (λ ps. get_body (head_picker head) ps)) (sym en)
 
-  module _ (ranks : List ℕ) (read : Place) (h : PiecesRead head n bytes ranks read) where
-    pub pieces_fail : (k : ℕ) → read ≡ Fault k → Went (get_picker bytes) bytes (Fault k)
+  module _ (ranks : List ℕ) (read : Result ℕ ℕ) (h : PiecesRead head n bytes ranks read) where
+    pub pieces_fail : (k : ℕ) → read ≡ Err k → Went (get_picker bytes) bytes (Err k)
     unfolding Went PiecesRead
     pieces_fail k e =
         let w = subst (PiecesRead head n bytes ranks) e h in
@@ -149,11 +148,11 @@ module _ (bytes : List ℕ) (head : Head) (g : HeadGot bytes head) (n : ℕ) (en
           within = w.within;
         }
 
-    pub pieces_stand : (k : ℕ) → read ≡ At k → PiecesStand head n bytes ranks
+    pub pieces_stand : (k : ℕ) → read ≡ Ok k → PiecesStand head n bytes ranks
     unfolding PiecesRead
     pieces_stand k e = (subst (PiecesRead head n bytes ranks) e h).1
 
-    pub front_read : (k : ℕ) → read ≡ At k → (to : Place) → BodyRead head n bytes to → Went (get_picker bytes) bytes to
+    pub front_read : (k : ℕ) → read ≡ Ok k → (to : Result ℕ ℕ) → BodyRead head n bytes to → Went (get_picker bytes) bytes to
     front_read k e to b =
         let p = pieces_stand k e in
         subst (λ (x : Got Picker). Went x bytes to)

@@ -10,47 +10,47 @@ ghost use Rattle.image_judge.specs.Fronts.{TailRead, BodyRead};
 use geometry::{blocks_per_piece, num_pieces};
 use geometry_needs::num_extents;
 use image_partials::read_partials;
-use image_pieces::{Head, HeadRead, Place, read_head, read_pieces};
+use image_pieces::{Head, read_head, read_pieces};
 use image_tail::{read_extents, read_listing};
 use types::{u64_to_usize, usize_to_u64};
 
 // Extents and list, behind partials that end at `at`.
-fn read_tail(bytes: &[u8], at: usize, head: Head, n: usize, ranks: &mut [u16]) -> Place
+fn read_tail(
+    bytes: &[u8],
+    at: usize,
+    head: Head,
+    n: usize,
+    ranks: &mut [u16],
+) -> Result<usize, usize>
     requires pieces_stand { PiecesStand head n bytes.now ranks.old }
     requires n_bound { (n ≤ 4096) × (n ≤ length ranks.old) }
     requires at_in_bounds { at ≤ length bytes.now }
     ensures { TailRead at head n bytes.now result }
 {
     let limit = num_extents(usize_to_u64(n), blocks_per_piece(head.size));
-    match read_extents(bytes, at, limit) {
-        Place::At(k) => read_listing(bytes, k, head.dirty, n, ranks),
-        Place::Fault(k) => Place::Fault(k),
-    }
+    let end = read_extents(bytes, at, limit)?;
+    read_listing(bytes, end, head.dirty, n, ranks)
 }
 
 // All behind the pieces.
-fn read_body(bytes: &[u8], head: Head, n: usize, ranks: &mut [u16]) -> Place
+fn read_body(bytes: &[u8], head: Head, n: usize, ranks: &mut [u16]) -> Result<usize, usize>
     requires headed { (Headed head bytes.now) × (PiecesStand head n bytes.now ranks.old) }
     requires n_value { (n ≡ num_pieces head.total head.size) × (n ≤ length ranks.old) }
     ensures { BodyRead head n bytes.now result }
 {
-    match read_partials(bytes, head, n) {
-        Place::At(k) => read_tail(bytes, k, head, n, ranks),
-        Place::Fault(k) => Place::Fault(k),
-    }
+    let end = read_partials(bytes, head, n)?;
+    read_tail(bytes, end, head, n, ranks)
 }
 
 // The whole, up to where it ends.
-pub fn read_front(bytes: &[u8]) -> Place
+pub fn read_front(bytes: &[u8]) -> Result<usize, usize>
     ensures { Went (get_picker bytes.now) bytes.now result }
 {
-    let HeadRead::Found(head) = read_head(bytes) else {
-        return Place::Fault(0);
+    let Some(head) = read_head(bytes) else {
+        return Err(0);
     };
     let n = u64_to_usize(num_pieces(head.total, head.size));
     let mut ranks = [0u16; 4096];
-    match read_pieces(bytes, head, n, &mut ranks) {
-        Place::At(_) => read_body(bytes, head, n, &mut ranks),
-        Place::Fault(k) => Place::Fault(k),
-    }
+    read_pieces(bytes, head, n, &mut ranks)?;
+    read_body(bytes, head, n, &mut ranks)
 }

@@ -5,4 +5,4 @@ mod front;
 mod whole;
 
 pub use front::read_front;
-pub use whole::{JobRead, Verdict, judge_image, judge_job};
+pub use whole::{judge_image, judge_job};

@@ -6,57 +6,37 @@ ghost use Rattle.model.specs.image.Program.{get_job};
 ghost use Rattle.image_judge.specs.Verdicts.{verdict_of, job_verdict, PickTold};
 
 use crate::front::read_front;
-use image_pieces::Place;
-use image_records::{Pick, PickRead, read_pick};
-
-#[derive(Drop)]
-pub enum Verdict {
-    Accepted,
-    Fault(usize),
-}
-
-// What a pick program's input holds: the numbers of its pick, or the place of the first fault.
-#[derive(Drop)]
-pub enum JobRead {
-    Found(Pick),
-    Fault(usize),
-}
+use image_records::{Pick, read_pick};
 
 // Left-over bytes count as a record.
-pub fn judge_image(bytes: &[u8]) -> Verdict
+pub fn judge_image(bytes: &[u8]) -> Result<(), usize>
     ensures { result ≡ verdict_of (read_image bytes.now) }
 {
-    match read_front(bytes) {
-        Place::At(k) => {
-            if k < bytes.len() {
-                return Verdict::Fault(k);
-            }
-            Verdict::Accepted
-        }
-        Place::Fault(k) => Verdict::Fault(k),
+    let k = read_front(bytes)?;
+    if k < bytes.len() {
+        return Err(k);
     }
+    Ok(())
 }
 
 // The pick record behind an image that ends at `at`.
-fn judge_pick(bytes: &[u8], at: usize) -> JobRead
+fn judge_pick(bytes: &[u8], at: usize) -> Result<Pick, usize>
     requires { at ≤ length bytes.now }
     ensures { PickTold at bytes.now result }
 {
-    let PickRead::Found(p) = read_pick(bytes, at) else {
-        return JobRead::Fault(at);
+    let Some(p) = read_pick(bytes, at) else {
+        return Err(at);
     };
     let end = at + 18;
     if end < bytes.len() {
-        return JobRead::Fault(end);
+        return Err(end);
     }
-    JobRead::Found(p)
+    Ok(p)
 }
 
-pub fn judge_job(bytes: &[u8]) -> JobRead
+pub fn judge_job(bytes: &[u8]) -> Result<Pick, usize>
     ensures { result ≡ job_verdict (whole_of (len bytes.now) (get_job bytes.now)) }
 {
-    match read_front(bytes) {
-        Place::At(k) => judge_pick(bytes, k),
-        Place::Fault(k) => JobRead::Fault(k),
-    }
+    let end = read_front(bytes)?;
+    judge_pick(bytes, end)
 }

@@ -15,9 +15,7 @@ pub fn lay4(bytes: &[u8], first: usize, step: usize, many: usize, words: &mut [u
     requires many_in_bounds { start + many ≤ length words.old }
     ensures { Laid start many (fields_at first step 4 bytes.now) words.old words.new }
 {
-    let mut j = 0;
-    while j < many {
+    for j in 0..many {
         words[start + j] = read4(bytes, first + step * j);
-        j += 1;
     }
 }

@@ -16,9 +16,7 @@ pub fn lay_part(quads: &[u32], many: usize, below: u32, size: u32, cells: &mut [
     requires many_in_bounds { (many ≤ length quads.now) × (start + many ≤ length cells.old) }
     ensures { Laid start many (part_of below size quads.now) cells.old cells.new }
 {
-    let mut j = 0;
-    while j < many {
+    for j in 0..many {
         cells[start + j] = part(quads[j], below, size);
-        j += 1;
     }
 }

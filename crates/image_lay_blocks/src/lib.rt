@@ -29,14 +29,12 @@ fn lay_each(
         (fields_at (start + 2) 13 2 bytes.now) (fields_at (start + 4) 13 1 bytes.now)
         cells.old cells.new }
 {
-    let mut j = 0;
-    while j < many {
+    for j in 0..many {
         let at = start + 13 * j;
         words[v + j] = read8(bytes, at + 5);
         cells[x + j] = u64_to_u16(read1(bytes, at + 1));
         cells[y + j] = u64_to_u16(read2(bytes, at + 2));
         cells[z + j] = u64_to_u16(read1(bytes, at + 4));
-        j += 1;
     }
 }
 

@@ -31,12 +31,10 @@ fn take_blocks(
     ensures peers { Laid v many (fields_at (start + 5) 13 8 bytes.now) words.old words.new }
     ensures others { Filled many (BlockQuads start bytes.now) quads.old quads.new }
 {
-    let mut j = 0;
-    while j < many {
+    for j in 0..many {
         let at = start + 13 * j;
         words[v + j] = read8(bytes, at + 5);
         quads[j] = block_quad(bytes, at);
-        j += 1;
     }
 }
 

@@ -36,13 +36,11 @@ fn take_pieces(
     ensures counts { Laid x many (fields_at (start + 1) 10 2 bytes.now) cells.old cells.new }
     ensures others { Filled many (PieceQuads start bytes.now) quads.old quads.new }
 {
-    let mut j = 0;
-    while j < many {
+    for j in 0..many {
         let at = start + 10 * j;
         words[v + j] = read4(bytes, at + 6);
         cells[x + j] = u64_to_u16(read2(bytes, at + 1));
         quads[j] = piece_quad(bytes, at);
-        j += 1;
     }
 }
 
@@ -93,15 +91,13 @@ fn lay_each(
         (fields_at (start + 3) 10 1 bytes.now) (fields_at (start + 4) 10 1 bytes.now)
         (fields_at (start + 5) 10 1 bytes.now) cells.old cells.new }
 {
-    let mut j = 0;
-    while j < many {
+    for j in 0..many {
         let at = start + 10 * j;
         words[v + j] = read4(bytes, at + 6);
         cells[x + j] = u64_to_u16(read2(bytes, at + 1));
         cells[y + j] = u64_to_u16(read1(bytes, at + 3));
         cells[z + j] = u64_to_u16(read1(bytes, at + 4));
         cells[t + j] = u64_to_u16(read1(bytes, at + 5));
-        j += 1;
     }
 }
 
@@ -126,8 +122,9 @@ pub fn lay_pieces(
         (fields_at (start + 5) 10 1 bytes.now) cells.old cells.new }
 {
     let mut quads = [0u32; 128];
-    let mut j = 0;
-    while 128 <= many - j {
+    let stretches = many / 128;
+    for k in 0..stretches {
+        let j = 128 * k;
         let at = start + 10 * j;
         lay_stretch(
             bytes,
@@ -141,8 +138,8 @@ pub fn lay_pieces(
             t + j,
             &mut quads,
         );
-        j += 128;
     }
+    let j = 128 * stretches;
     let at = start + 10 * j;
     lay_each(
         bytes,

@@ -1,4 +1,5 @@
 -- One partial: its state by the numbers of its blocks, and where its reader comes to. Assumes nothing.
+use Rattle.std.specs.Prelude.{Err, Ok}
 use mathlib.Core.Path.{◌≡◌, sym, ap, ◌∙◌}
 use mathlib.Core.Bool.{Bool, true, false}
 use mathlib.Core.List.{List, []}
@@ -20,7 +21,6 @@ use Rattle.model.specs.image.Image.{get_partial}
 use Rattle.memory_layout.specs.Decode.{queue_from}
 use Rattle.check_partials.specs.States.{due_by, state_by}
 use Rattle.image_records.proofs.FoundLaws.{NumberGot, flags_most}
-use Rattle.image_pieces.specs.declared.place.Place.TheVariants.{At, Fault}
 use Rattle.image_pieces.specs.Places.{Went}
 use Rattle.image_pieces.proofs.NextLaws.{next-got, next-fault}
 use Rattle.image_pass.specs.declared.tally.Tally.{Tally}
@@ -59,7 +59,7 @@ module _ (s : Picker) (i n at : ℕ) (p : Piece) (bytes : List ℕ) where
 
   -- its own record is at fault
   pub record_fails : judged partial_kind (read_partial i n) (drop at bytes) ≡ fault (drop at bytes) → at ≤ length bytes
-      → Went (get_partial s i n p (drop at bytes)) bytes (Fault at)
+      → Went (get_partial s i n p (drop at bytes)) bytes (Err at)
   unfolding get_partial Went
   record_fails e h = record {
     is =
@@ -84,7 +84,7 @@ module _ (s : Picker) (i n at : ℕ) (p : Piece) (bytes : List ℕ) where
         (λ blocks. ret (partial_with i flags blocks))) em
 
     -- a block of it is
-    pub block_fails : (k : ℕ) → BlockFails (at + 6) many bytes k → Went (get_partial s i n p (drop at bytes)) bytes (Fault k)
+    pub block_fails : (k : ℕ) → BlockFails (at + 6) many bytes k → Went (get_partial s i n p (drop at bytes)) bytes (Err k)
     unfolding Went
     block_fails k f =
         let e = f (λ blocks. state_ok p (partial_with i flags blocks)) in
@@ -108,7 +108,7 @@ module _ (s : Picker) (i n at : ℕ) (p : Piece) (bytes : List ℕ) where
 
         -- the state fits
         pub partial_ends : state_by state priority t.requested (many - t.free) many (leb 4 flags) ≡ true
-            → Went (get_partial s i n p (drop at bytes)) bytes (At (at + 6 + 13 * many))
+            → Went (get_partial s i n p (drop at bytes)) bytes (Ok (at + 6 + 13 * many))
         unfolding Went left_blocks
         partial_ends f =
             let e : state_ok p (partial_with i flags b.blocks) ≡ true = fits_is ∙ f in
@@ -120,7 +120,7 @@ module _ (s : Picker) (i n at : ℕ) (p : Piece) (bytes : List ℕ) where
 
         -- it does not: the last block is at fault
         pub partial_stops : state_by state priority t.requested (many - t.free) many (leb 4 flags) ≡ false
-            → Went (get_partial s i n p (drop at bytes)) bytes (Fault (at + 6 + 13 * many - 13))
+            → Went (get_partial s i n p (drop at bytes)) bytes (Err (at + 6 + 13 * many - 13))
         unfolding Went left_blocks
         partial_stops f =
             let e : state_ok p (partial_with i flags b.blocks) ≡ false = fits_is ∙ f in

@@ -1,8 +1,9 @@
 -- The walk over the pieces, each with its partial if it is not Open. Assumes nothing.
+use Rattle.std.specs.Prelude.{Err, Ok, Result}
 use mathlib.Core.Path.{◌≡◌, refl, sym, ap, ◌∙◌, subst}
 use mathlib.Core.Bool.{true, false}
 use mathlib.Core.List.{List, [], ◌∷◌, ◌++◌, append_assoc, append-nil}
-use Prim.Native.Nat.{ℕ, suc, ◌+◌, ◌-◌, ◌≤◌, ◌<◌}
+use Prim.Native.Nat.{ℕ, suc, ◌+◌, ◌≤◌, ◌<◌}
 use native.Mathlib.Omega.{arith}
 use lib.Dec.{eqb}
 use lib.ListN.{length, take, drop}
@@ -23,8 +24,6 @@ use Rattle.image_bytes.specs.Put.{FieldRead}
 use Rattle.image_bytes.proofs.FieldLaws.{field_inside}
 use Rattle.image_records.specs.Records.{body_at}
 use Rattle.image_pieces.specs.declared.head.Head.{Head}
-use Rattle.image_pieces.specs.declared.place.Place.{Place}
-use Rattle.image_pieces.specs.declared.place.Place.TheVariants.{At, Fault}
 use Rattle.image_pieces.specs.Places.{Went}
 use Rattle.image_pieces.specs.Heads.{head_picker, Headed}
 use Rattle.image_pieces.specs.Pieces.{piece_place, piece_body, piece_in, first_pieces}
@@ -84,7 +83,7 @@ module _ (head : Head) (i : ℕ) (w : Walk) (bytes : List ℕ) (few : w.many ≤
   }
 
   module _ (o : is_open (piece_in bytes i).state ≡ false) where
-    pub pass_fails : (k : ℕ) → Went (get_partial (head_picker head) i w.many (piece_in bytes i) (drop w.at bytes)) bytes (Fault k)
+    pub pass_fails : (k : ℕ) → Went (get_partial (head_picker head) i w.many (piece_in bytes i) (drop w.at bytes)) bytes (Err k)
         → StepFails head i w bytes k
     unfolding Went
     pass_fails k f ps = record {
@@ -95,7 +94,7 @@ module _ (head : Head) (i : ℕ) (w : Walk) (bytes : List ℕ) (few : w.many ≤
       within = f.within;
     }
 
-    pub pass_next : (k : ℕ) → Went (get_partial (head_picker head) i w.many (piece_in bytes i) (drop w.at bytes)) bytes (At k)
+    pub pass_next : (k : ℕ) → Went (get_partial (head_picker head) i w.many (piece_in bytes i) (drop w.at bytes)) bytes (Ok k)
         → Passed head i w bytes (record { at = k; many = w.many + 1 })
     unfolding Went
     pass_next k f =
@@ -112,7 +111,7 @@ module _ (head : Head) (i : ℕ) (w : Walk) (bytes : List ℕ) (few : w.many ≤
         }
 
 -- the reader of one partial, on the picker of the head and piece i
-pub whole_at : (head : Head) (i at n number many state priority : ℕ) (bytes : List ℕ) (r to : Place)
+pub whole_at : (head : Head) (i at n number many state priority : ℕ) (bytes : List ℕ) (r to : Result ℕ ℕ)
     → PartialJudged at number n many state priority bytes r → number ≡ i → many ≡ piece_blocks head.total head.size i
     → (piece_in bytes i).state ≡ queue_from state → (piece_in bytes i).priority ≡ priority → r ≡ to
     → Went (get_partial (head_picker head) i n (piece_in bytes i) (drop at bytes)) bytes to
@@ -177,13 +176,13 @@ module _ (head : Head) (n : ℕ) (bytes : List ℕ) (w : Walk) (i : ℕ) (p : Wa
         }
 
     pub walking_fault : (k : ℕ) → StepFails head i w bytes k
-        → Went (get_partials (head_picker head) 0 0 (first_pieces bytes n) (drop (piece_place n) bytes)) bytes (Fault k)
+        → Went (get_partials (head_picker head) 0 0 (first_pieces bytes n) (drop (piece_place n) bytes)) bytes (Err k)
     unfolding Went
     walking_fault k f =
         let g = f (tail (piece_in bytes) (i + 1) n) in
         record { is = step_left ∙ next-fault _ (λ ds. ret (p.before ++ ds)) (drop k bytes) g.is; within = g.within }
 
-  pub walking_end : n ≤ i → Went (get_partials (head_picker head) 0 0 (first_pieces bytes n) (drop (piece_place n) bytes)) bytes (At w.at)
+  pub walking_end : n ≤ i → Went (get_partials (head_picker head) 0 0 (first_pieces bytes n) (drop (piece_place n) bytes)) bytes (Ok w.at)
   unfolding Went get_partials next
   walking_end h = record {
     value = p.before;

@@ -3,20 +3,14 @@ ghost use Rattle.std.specs.Prelude.{◌≡◌, ◌+◌, ◌≤◌, ◌<◌, leng
 ghost use Rattle.model.specs.Lists.{bit};
 ghost use Rattle.image_partials.specs.Blocks.{BlocksJudged};
 
-use image_pass::{BlocksPassed, Tally, pass_blocks};
-use image_records::{BlockRead, read_block};
-
-#[derive(Drop)]
-pub enum BlocksRead {
-    Found(Tally),
-    Fault(usize),
-}
+use image_pass::{Tally, pass_blocks};
+use image_records::{Block, read_block};
 
 fn one_if(t: bool) -> u64
     ensures is { result ≡ bit t }
     ensures most { result ≤ 1 }
 {
-    if t { 1 } else { 0 }
+    u64::from(t)
 }
 
 // One block more.
@@ -31,7 +25,7 @@ fn count_block(t: Tally, state: u64) -> Tally
 }
 
 // Block by block, up to the first fault.
-fn read_each(bytes: &[u8], start: usize, many: usize) -> BlocksRead
+fn read_each(bytes: &[u8], start: usize, many: usize) -> Result<Tally, usize>
     requires { (start ≤ length bytes.now) × (1 ≤ many) × (many ≤ 256) }
     ensures { BlocksJudged start many bytes.now result }
 {
@@ -40,26 +34,24 @@ fn read_each(bytes: &[u8], start: usize, many: usize) -> BlocksRead
         requested: 0,
     };
     let mut at = start;
-    let mut j = 0;
-    while j < many {
-        let BlockRead::Found(b) = read_block(bytes, at) else {
-            return BlocksRead::Fault(at);
+    for j in 0..many {
+        let Some(b) = read_block(bytes, at) else {
+            return Err(at);
         };
         t = count_block(t, b.state);
         at += 13;
-        j += 1;
     }
-    BlocksRead::Found(t)
+    Ok(t)
 }
 
 // `many` blocks from `start` on. What they give together is judged behind the last one. A pass that only tells whether all are well goes
 // first, since that is what an image mostly has.
-pub fn read_blocks(bytes: &[u8], start: usize, many: usize) -> BlocksRead
+pub fn read_blocks(bytes: &[u8], start: usize, many: usize) -> Result<Tally, usize>
     requires { (start ≤ length bytes.now) × (1 ≤ many) × (many ≤ 256) }
     ensures { BlocksJudged start many bytes.now result }
 {
     match pass_blocks(bytes, start, many) {
-        BlocksPassed::Well(t) => BlocksRead::Found(t),
-        BlocksPassed::Unclear => read_each(bytes, start, many),
+        Some(t) => Ok(t),
+        None => read_each(bytes, start, many),
     }
 }

@@ -3,11 +3,10 @@ ghost use Rattle.std.specs.Prelude.{◌≡◌, ◌+◌, ◌-◌, ◌≤◌, ◌<
 ghost use Rattle.check_partials.specs.States.{state_by};
 ghost use Rattle.image_partials.specs.Partials.{PartialJudged};
 
-use crate::blocks::{BlocksRead, read_blocks};
+use crate::blocks::read_blocks;
 use check_partials::state_ok;
 use image_pass::Tally;
-use image_pieces::Place;
-use image_records::{NumberRead, read_partial};
+use image_records::read_partial;
 use types::{u64_to_u16, usize_to_u64};
 
 // The state of a piece fits its blocks.
@@ -34,23 +33,19 @@ pub fn read_whole(
     many: usize,
     state: u64,
     priority: u64,
-) -> Place
+) -> Result<usize, usize>
     requires le_many { (1 ≤ many) × (many ≤ 256) × (state ≤ 6) × (priority < 65536) }
     requires at_in_bounds { at ≤ length bytes.now }
     ensures { PartialJudged at i n many state priority bytes.now result }
 {
-    let NumberRead::Found(flags) = read_partial(bytes, at, i, n) else {
-        return Place::Fault(at);
+    let Some(flags) = read_partial(bytes, at, i, n) else {
+        return Err(at);
     };
     let start = at + 6;
-    match read_blocks(bytes, start, many) {
-        BlocksRead::Found(t) => {
-            let end = start + 13 * many;
-            if state_fits(state, priority, t, usize_to_u64(many), flags) {
-                return Place::At(end);
-            }
-            Place::Fault(end - 13)
-        }
-        BlocksRead::Fault(k) => Place::Fault(k),
+    let t = read_blocks(bytes, start, many)?;
+    let end = start + 13 * many;
+    if !state_fits(state, priority, t, usize_to_u64(many), flags) {
+        return Err(end - 13);
     }
+    Ok(end)
 }

@@ -7,7 +7,7 @@ ghost use Rattle.image_partials.specs.Partials.{StatesStand, Stepped, PartialsRe
 use crate::partial::read_whole;
 use geometry::blocks_at;
 use image_bytes::read1;
-use image_pieces::{Head, Place};
+use image_pieces::Head;
 use types::{u64_to_usize, usize_to_u64};
 
 // The place of the next record, and how many partials stand before it.
@@ -17,14 +17,8 @@ pub struct Walk {
     pub many: u64,
 }
 
-#[derive(Drop)]
-pub enum Step {
-    Next(Walk),
-    Fault(usize),
-}
-
 // Piece i: where it is not Open, its partial comes next.
-fn pass_piece(bytes: &[u8], head: Head, n: usize, i: usize, w: Walk) -> Step
+fn pass_piece(bytes: &[u8], head: Head, n: usize, i: usize, w: Walk) -> Result<Walk, usize>
     requires headed { (Headed head bytes.now) × (StatesStand n bytes.now) }
     requires n_value { (n ≡ num_pieces head.total head.size) × (i < n) }
     requires at_in_bounds { (w.at ≤ length bytes.now) × (w.many ≤ i) }
@@ -33,22 +27,20 @@ fn pass_piece(bytes: &[u8], head: Head, n: usize, i: usize, w: Walk) -> Step
     let place = 24 + 10 * i;
     let state = read1(bytes, place + 3);
     if state == 4 {
-        return Step::Next(w);
+        return Ok(w);
     }
     let priority = read1(bytes, place + 4);
     let number = usize_to_u64(i);
     let many = u64_to_usize(blocks_at(head.total, head.size, number));
-    match read_whole(bytes, w.at, number, w.many, many, state, priority) {
-        Place::At(k) => Step::Next(Walk {
-            at: k,
-            many: w.many + 1,
-        }),
-        Place::Fault(k) => Step::Fault(k),
-    }
+    let at = read_whole(bytes, w.at, number, w.many, many, state, priority)?;
+    Ok(Walk {
+        at: at,
+        many: w.many + 1,
+    })
 }
 
 // The partials of n pieces that were judged before.
-pub fn read_partials(bytes: &[u8], head: Head, n: usize) -> Place
+pub fn read_partials(bytes: &[u8], head: Head, n: usize) -> Result<usize, usize>
     requires headed { (Headed head bytes.now) × (StatesStand n bytes.now) }
     requires n_value { n ≡ num_pieces head.total head.size }
     ensures { PartialsRead head n bytes.now result }
@@ -57,17 +49,8 @@ pub fn read_partials(bytes: &[u8], head: Head, n: usize) -> Place
         at: 24 + 10 * n,
         many: 0,
     };
-    let mut i = 0;
-    while i < n {
-        match pass_piece(bytes, head, n, i, w) {
-            Step::Next(next) => {
-                w = next;
-            }
-            Step::Fault(k) => {
-                return Place::Fault(k);
-            }
-        }
-        i += 1;
+    for i in 0..n {
+        w = pass_piece(bytes, head, n, i, w)?;
     }
-    Place::At(w.at)
+    Ok(w.at)
 }

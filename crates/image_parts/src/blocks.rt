@@ -62,11 +62,9 @@ pub fn put_blocks(
 {
     let step = 1 + body_length(4);
     let mut next = at;
-    let mut j = 0;
-    while j < many {
+    for j in 0..many {
         put_block_at(words, cells, s, p, j, bytes, next);
         next += step;
-        j += 1;
     }
     next
 }

@@ -20,11 +20,9 @@ pub fn put_extents(words: &[u64], bytes: &mut [u8], at: usize) -> usize
     let step = 1 + body_length(5);
     let many = u64_to_usize(head_word(words, 8));
     let mut next = at;
-    let mut k = 0;
-    while k < many {
+    for k in 0..many {
         put_number(bytes, next, 5, head_word(words, 9 + k));
         next += step;
-        k += 1;
     }
     next
 }
@@ -38,11 +36,9 @@ pub fn put_list(words: &[u64], s: Shape, bytes: &mut [u8], at: usize) -> usize
     let step = 1 + body_length(6);
     let many = u64_to_usize(head_word(words, 6));
     let mut next = at;
-    let mut k = 0;
-    while k < many {
+    for k in 0..many {
         put_number(bytes, next, 6, piece_word(words, s, 1, k) % 65536);
         next += step;
-        k += 1;
     }
     next
 }

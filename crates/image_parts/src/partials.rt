@@ -66,10 +66,8 @@ pub fn put_partials(
         bytes.old bytes.new result }
 {
     let mut next = at;
-    let mut k = 0;
-    while k < live {
+    for k in 0..live {
         next = put_partial_at(words, cells, s, row(rows, k), bytes, next);
-        k += 1;
     }
     next
 }

@@ -35,11 +35,9 @@ pub fn put_pieces(words: &[u64], cells: &[u16], s: Shape, bytes: &mut [u8], at: 
 {
     let step = 1 + body_length(2);
     let mut next = at;
-    let mut i = 0;
-    while i < s.pieces {
+    for i in 0..s.pieces {
         put_piece_at(words, cells, s, i, bytes, next);
         next += step;
-        i += 1;
     }
     next
 }

@@ -1,4 +1,5 @@
 -- Blocks by numbers of three fields: gathered, told, and what that comes to. Assumes nothing.
+use Rattle.std.specs.Prelude.{None, Option, Some}
 use mathlib.Core.Path.{◌≡◌, refl, sym, ap, ap₂, subst, ◌∙◌}
 use mathlib.Core.Bool.{Bool, true, false, cond, not}
 use mathlib.Core.List.{List}
@@ -19,8 +20,6 @@ use Rattle.image_bytes.specs.Put.{FieldRead}
 use Rattle.image_records.proofs.FrontLaws.{Small}
 use Rattle.image_records.proofs.FoundLaws.{BlockGot}
 use Rattle.image_pass.specs.declared.tally.Tally.{Tally}
-use Rattle.image_pass.specs.declared.pass.BlocksPassed.{BlocksPassed}
-use Rattle.image_pass.specs.declared.pass.BlocksPassed.TheVariants.{Well, Unclear}
 use Rattle.image_pass.specs.Blocks.{BlocksStand, BlocksWell, in_range}
 use Rattle.image_pass.specs.Quads.{quad_ok, BlockQuad, Gathered, count_to, free_in, requested_in, QuadsWell, QuadsTold}
 use Rattle.image_pass.proofs.BlockLaws.{Reading, reading_start, reading_next, reading_end}
@@ -203,8 +202,8 @@ module _ (start many : ℕ) (bytes quads before : List ℕ) (small : Small bytes
       (reading_end start many bytes _ (start + 13 * many) many (up_to many (omega arith)) (omega arith))
 
 pub told_well : (start many : ℕ) (bytes quads before : List ℕ) → Small bytes → start + 13 * many ≤ length bytes → 1 ≤ many
-    → Gathered start many bytes before quads 0 → (r : BlocksPassed) → QuadsTold many quads r → BlocksWell start many bytes r
+    → Gathered start many bytes before quads 0 → (r : Option Tally) → QuadsTold many quads r → BlocksWell start many bytes r
 unfolding QuadsTold BlocksWell
-told_well start many bytes quads before small room some g (Well t) w =
+told_well start many bytes quads before small room some g (Some t) w =
     all_well start many bytes quads before small room some g w.fine t w.free w.requested
-told_well start many bytes quads before small room some g Unclear w = tt
+told_well start many bytes quads before small room some g None w = tt

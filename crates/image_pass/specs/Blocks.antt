@@ -1,5 +1,5 @@
 -- The blocks of a partial as they were read. Assumes nothing.
-use Rattle.std.specs.Prelude.{ℕ, zero, suc, ◌+◌, ◌-◌, ◌*◌, ◌≤◌, ◌≡◌, Bool, cond, ◌&&◌, List, [], length, drop, eqb, leb}
+use Rattle.std.specs.Prelude.{ℕ, zero, suc, ◌+◌, ◌-◌, ◌*◌, ◌≤◌, ◌≡◌, Bool, cond, ◌&&◌, List, [], length, drop, eqb, leb, None, Option, Some}
 use Rattle.types.specs.declared.block.BlockState.{BlockState}
 use Rattle.types.specs.declared.block.BlockState.TheVariants.{None, Requested}
 use Rattle.model.specs.Lists.{len, count}
@@ -7,8 +7,6 @@ use Rattle.model.specs.State.{Block, same_block_state, max_peers}
 use Rattle.model.specs.image.Image.{block_kind, last_block_state, Got, got, fault, get_blocks}
 use Rattle.image_pieces.specs.Places.{Failed}
 use Rattle.image_pass.specs.declared.tally.Tally.{Tally}
-use Rattle.image_pass.specs.declared.pass.BlocksPassed.{BlocksPassed}
-use Rattle.image_pass.specs.declared.pass.BlocksPassed.TheVariants.{Well, Unclear}
 
 -- blocks in one state
 unfoldable pub in_state : (k : BlockState) (bs : List Block) → ℕ
@@ -41,6 +39,6 @@ BlockFails start many bytes k = (fits : List Block → Bool) → Failed (get_blo
 unfoldable pub in_range : (kind state num_peers has : ℕ) → Bool
 in_range kind state num_peers has = eqb kind block_kind && (leb state last_block_state && (leb has 1 && leb num_peers max_peers))
 
-unfoldable pub BlocksWell : (start many : ℕ) (bytes : List ℕ) (r : BlocksPassed) → Type 0
-BlocksWell start many bytes (Well t) = BlocksStand start many bytes t
-BlocksWell start many bytes Unclear = Unit
+unfoldable pub BlocksWell : (start many : ℕ) (bytes : List ℕ) (r : Option Tally) → Type 0
+BlocksWell start many bytes (Some t) = BlocksStand start many bytes t
+BlocksWell start many bytes None = Unit

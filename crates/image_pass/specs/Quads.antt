@@ -1,10 +1,8 @@
 -- Kind, state and num_peers of a block in one number. Assumes nothing.
-use Rattle.std.specs.Prelude.{ℕ, zero, suc, ◌+◌, ◌*◌, ◌/◌, ◌%◌, ◌≤◌, ◌<◌, ◌≡◌, Bool, true, cond, ◌&&◌, List, length, get_or, eqb, leb}
+use Rattle.std.specs.Prelude.{ℕ, zero, suc, ◌+◌, ◌*◌, ◌/◌, ◌%◌, ◌≤◌, ◌<◌, ◌≡◌, Bool, true, cond, ◌&&◌, List, length, get_or, eqb, leb, None, Option, Some}
 use Rattle.model.specs.Lists.{bit}
 use Rattle.image_bytes.specs.Put.{FieldRead}
 use Rattle.image_pass.specs.declared.tally.Tally.{Tally}
-use Rattle.image_pass.specs.declared.pass.BlocksPassed.{BlocksPassed}
-use Rattle.image_pass.specs.declared.pass.BlocksPassed.TheVariants.{Well, Unclear}
 
 -- a block, one of the four states, and not too many peers
 unfoldable pub quad_ok : (q : ℕ) → Bool
@@ -48,6 +46,6 @@ pub record QuadsWell (many : ℕ) (quads : List ℕ) (t : Tally) : Type 0 where
   pub free : t.free ≡ count_to many (free_in quads)
   pub requested : t.requested ≡ count_to many (requested_in quads)
 
-unfoldable pub QuadsTold : (many : ℕ) (quads : List ℕ) (r : BlocksPassed) → Type 0
-QuadsTold many quads (Well t) = QuadsWell many quads t
-QuadsTold many quads Unclear = Unit
+unfoldable pub QuadsTold : (many : ℕ) (quads : List ℕ) (r : Option Tally) → Type 0
+QuadsTold many quads (Some t) = QuadsWell many quads t
+QuadsTold many quads None = Unit

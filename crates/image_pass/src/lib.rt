@@ -5,5 +5,5 @@ mod pass;
 mod quads;
 mod tally;
 
-pub use pass::{BlocksPassed, pass_blocks};
+pub use pass::pass_blocks;
 pub use tally::Tally;

@@ -7,12 +7,6 @@ use crate::tally::Tally;
 use image_bytes::{read1, read2, read8};
 use types::u64_to_usize;
 
-#[derive(Drop)]
-pub enum BlocksPassed {
-    Well(Tally),
-    Unclear,
-}
-
 // All numbers but the peer are as they may be.
 fn in_range(kind: u64, state: u64, num_peers: u64, has: u64) -> bool
     ensures { result ≡ in_range kind state num_peers has }
@@ -27,7 +21,7 @@ pub fn only_if(t: bool, n: u64) -> u64
 }
 
 // A block a turn. Peers without the flag are joined, and have to be 0; free and requested blocks are counted in one sum.
-fn pass_whole(bytes: &[u8], start: usize, many: usize) -> BlocksPassed
+fn pass_whole(bytes: &[u8], start: usize, many: usize) -> Option<Tally>
     requires { (start + 13 * many ≤ length bytes.now) × (1 ≤ many) × (many ≤ 256) }
     ensures { BlocksWell start many bytes.now result }
 {
@@ -35,37 +29,35 @@ fn pass_whole(bytes: &[u8], start: usize, many: usize) -> BlocksPassed
     let mut lone = 0;
     let mut sum = 0;
     let mut at = start;
-    let mut j = 0;
-    while j < many {
+    for j in 0..many {
         let kind = read1(bytes, at);
         let state = read1(bytes, at + 1);
         let num_peers = read2(bytes, at + 2);
         let has = read1(bytes, at + 4);
         let peer = read8(bytes, at + 5);
         if !in_range(kind, state, num_peers, has) {
-            return BlocksPassed::Unclear;
+            return None;
         }
         lone = lone | only_if(has == 0, peer);
         sum += counts[u64_to_usize(state)];
         at += 13;
-        j += 1;
     }
     if lone != 0 {
-        return BlocksPassed::Unclear;
+        return None;
     }
-    BlocksPassed::Well(Tally {
+    Some(Tally {
         free: sum % 65536,
         requested: sum / 65536,
     })
 }
 
 // `many` blocks from `start` on.
-pub fn pass_blocks(bytes: &[u8], start: usize, many: usize) -> BlocksPassed
+pub fn pass_blocks(bytes: &[u8], start: usize, many: usize) -> Option<Tally>
     requires { (start ≤ length bytes.now) × (1 ≤ many) × (many ≤ 256) }
     ensures { BlocksWell start many bytes.now result }
 {
     if bytes.len() - start < 13 * many {
-        return BlocksPassed::Unclear;
+        return None;
     }
     if many < 64 {
         return pass_whole(bytes, start, many);

@@ -1,4 +1,5 @@
 -- The head of an image by its numbers: its rule, what its reader answers, and the picker of head fields that was read. Assumes nothing.
+use Rattle.std.specs.Prelude.{None, Some}
 use mathlib.Core.Path.{◌≡◌, refl, sym, ap, ◌∙◌}
 use mathlib.Core.Bool.{Bool, true, false, cond, ◌&&◌}
 use mathlib.Core.List.{List, []}
@@ -18,7 +19,6 @@ use Rattle.image_records.specs.Records.{body_at, Body}
 use Rattle.image_records.proofs.FrontLaws.{judged_none, judged_found, judged-fault, judged_cases}
 use Rattle.image_records.proofs.RecordLaws.{obeys, breaks}
 use Rattle.image_pieces.specs.declared.head.Head.{Head}
-use Rattle.image_pieces.specs.declared.head.HeadRead.TheVariants.{Found, Fault}
 use Rattle.image_pieces.specs.Heads.{head_test, head_numbers, head_step, head_picker, Headed}
 
 -- ---- the tests in another order
@@ -43,7 +43,7 @@ flag_dirty true = refl
 flag_dirty false = refl
 
 module _ (bytes : List ℕ) where
-  pub head_none : starts_with head_kind (drop 0 bytes) ≡ false → Fault ≡ head_step (judged head_kind read_head bytes)
+  pub head_none : starts_with head_kind (drop 0 bytes) ≡ false → None ≡ head_step (judged head_kind read_head bytes)
   unfolding head_step
   head_none e = sym (ap head_step (judged_none head_kind read_head bytes e))
 
@@ -54,7 +54,7 @@ module _ (bytes : List ℕ) where
     unfolding read_head head_test head_ok head_of
     head_read = rw (et, ez, es, ec, er, ef)
 
-    pub head_fault : head_test total size seeds cursor reverse flag ≡ false → Fault ≡ head_step (judged head_kind read_head bytes)
+    pub head_fault : head_test total size seeds cursor reverse flag ≡ false → None ≡ head_step (judged head_kind read_head bytes)
     unfolding head_step
     head_fault t = sym (ap head_step (judged-fault head_kind read_head 0 bytes e body b (head_read ∙ breaks _ (head_of body) t)))
 
@@ -71,13 +71,13 @@ module _ (bytes : List ℕ) where
     head_numbers_lem = rw (← et, ← ez, ← es, ← ec, ← er, ← ef, flag_dirty (eqb flag 1))
 
     pub head_found : head_test total size seeds cursor reverse flag ≡ true
-        → Found (record { total = total; size = size; seeds = seeds; cursor = cursor; reverse_cursor = reverse; dirty = eqb flag 1 })
+        → Some (record { total = total; size = size; seeds = seeds; cursor = cursor; reverse_cursor = reverse; dirty = eqb flag 1 })
         ≡ head_step (judged head_kind read_head bytes)
     unfolding head_step
     head_found t =
         sym
         (ap head_step (judged_found head_kind read_head 0 bytes e body b (head_of body) (head_read ∙ obeys _ (head_of body) t))
-        ∙ ap Found head_numbers_lem)
+        ∙ ap Some head_numbers_lem)
 
 -- ---- for a caller
 -- the head is the picker of its numbers
@@ -90,18 +90,18 @@ pub record HeadGot (bytes : List ℕ) (x : Head) : Type 0 where
   pub is : judged head_kind read_head bytes ≡ got (head_picker x) (drop 24 bytes)
   pub headed : Headed x bytes
 
-found_numbers : (s : Picker) (rest : List ℕ) (g : Got Picker) (x : Head) → g ≡ got s rest → Found x ≡ head_step g → head_numbers s ≡ x
+found_numbers : (s : Picker) (rest : List ℕ) (g : Got Picker) (x : Head) → g ≡ got s rest → Some x ≡ head_step g → head_numbers s ≡ x
 unfolding head_step
-found_numbers s rest g x e f = let z : Found x ≡ Found (head_numbers s) = f ∙ ap head_step e in cc
+found_numbers s rest g x e f = let z : Some x ≡ Some (head_numbers s) = f ∙ ap head_step e in cc
 
-never_found : {X : Type 0} (g : Got Picker) (rest : List ℕ) (x : Head) → g ≡ fault rest → Found x ≡ head_step g → X
+never_found : {X : Type 0} (g : Got Picker) (rest : List ℕ) (x : Head) → g ≡ fault rest → Some x ≡ head_step g → X
 unfolding head_step
 never_found g rest x e f =
-    let z : Found x ≡ Fault = f ∙ ap head_step e in
+    let z : Some x ≡ None = f ∙ ap head_step e in
     let y : ◌≡◌ {A = ℕ} 0 1 = cc in
     absurd (omega arith)
 
-pub head_got : (bytes : List ℕ) (x : Head) → Found x ≡ head_step (judged head_kind read_head bytes) → HeadGot bytes x
+pub head_got : (bytes : List ℕ) (x : Head) → Some x ≡ head_step (judged head_kind read_head bytes) → HeadGot bytes x
 unfolding read_head body_length nth
 head_got bytes x f =
     judged_cases head_kind read_head 0 bytes (λ e. never_found (judged head_kind read_head bytes) (drop 0 bytes) x e f)
@@ -119,12 +119,12 @@ head_got bytes x f =
       };
     })
 
-pub head_bad : (bytes : List ℕ) → Fault ≡ head_step (judged head_kind read_head bytes) → judged head_kind read_head bytes ≡ fault (drop 0 bytes)
+pub head_bad : (bytes : List ℕ) → None ≡ head_step (judged head_kind read_head bytes) → judged head_kind read_head bytes ≡ fault (drop 0 bytes)
 unfolding head_step
 head_bad bytes f =
     judged_cases head_kind read_head 0 bytes (λ e. e)
     (λ s room r e.
-    let z : Fault ≡ Found (head_numbers s) = f ∙ ap head_step e in
+    let z : None ≡ Some (head_numbers s) = f ∙ ap head_step e in
     let y : ◌≡◌ {A = ℕ} 0 1 = cc in
     absurd (omega arith))
 

@@ -3,3 +3,4 @@ pub mod HeadLaws
 pub mod PieceLaws
 pub mod StretchLaws
 pub mod PassLaws
+pub mod PassedOn

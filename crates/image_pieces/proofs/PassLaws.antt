@@ -115,6 +115,11 @@ reading_start head n bytes ranks h l = record {
   wide = refl;
 }
 
+-- so many by another name
+pub reading_at : (head : Head) (n w : ℕ) (bytes ranks : List ℕ) (i j : ℕ) → Reading head n w bytes ranks i → i ≡ j
+    → Reading head n w bytes ranks j
+reading_at head n w bytes ranks i j p e = rw e at p
+
 -- of as many ranks as there are
 pub reading_on : (head : Head) (n w : ℕ) (bytes ranks : List ℕ) (i : ℕ) → Reading head n w bytes ranks i
     → Reading head n (length ranks) bytes ranks i

@@ -1,4 +1,5 @@
 -- A piece of an image by its numbers: its rule, and what its reader answers. Assumes nothing.
+use Rattle.std.specs.Prelude.{None, Some}
 use mathlib.Core.Path.{◌≡◌, refl, sym, ap, ◌∙◌}
 use mathlib.Core.Bool.{Bool, true, false, not, ◌&&◌, ◌||◌}
 use mathlib.Core.List.{List}
@@ -23,7 +24,6 @@ use Rattle.image_records.specs.Records.{body_at, Body}
 use Rattle.image_records.proofs.FrontLaws.{judged_none, judged_found, judged-fault, judged_cases}
 use Rattle.image_records.proofs.RecordLaws.{obeys, breaks}
 use Rattle.image_pieces.specs.declared.piece.Piece.{Piece}
-use Rattle.image_pieces.specs.declared.piece.PieceRead.TheVariants.{Found, Fault}
 use Rattle.image_pieces.specs.Pieces.{piece_test, piece_numbers, piece_step}
 
 -- ---- the tests in another order
@@ -51,7 +51,7 @@ unfolding is_open same_queue queue_from
 open_number w h = ap (λ (x : ℕ). eqb x 4) (queue_number_lem w (omega arith))
 
 module _ (s : Picker) (i at : ℕ) (bytes : List ℕ) where
-  pub piece_none : starts_with piece_kind (drop at bytes) ≡ false → Fault ≡ piece_step (judged piece_kind (read_piece s i) (drop at bytes))
+  pub piece_none : starts_with piece_kind (drop at bytes) ≡ false → None ≡ piece_step (judged piece_kind (read_piece s i) (drop at bytes))
   unfolding piece_step
   piece_none e = sym (ap piece_step (judged_none piece_kind (read_piece s i) (drop at bytes) e))
 
@@ -73,7 +73,7 @@ module _ (s : Picker) (i at : ℕ) (bytes : List ℕ) where
           rw (← es, ← ef) (ap (λ (t : Bool). obeying t (piece_of body)) test_same)
 
       pub piece_fault : piece_test count state priority flushed pad seeds long ≡ false
-          → Fault ≡ piece_step (judged piece_kind (read_piece s i) (drop at bytes))
+          → None ≡ piece_step (judged piece_kind (read_piece s i) (drop at bytes))
       unfolding piece_step
       piece_fault t =
           sym (ap piece_step (judged-fault piece_kind (read_piece s i) at bytes e body b (piece_read ∙ breaks _ (piece_of body) t)))
@@ -93,13 +93,13 @@ module _ (s : Picker) (i at : ℕ) (bytes : List ℕ) where
           rw (← ec, ← es, ← ep, ← ef, ← ed, q)
 
       pub piece_found : piece_test count state priority flushed pad seeds long ≡ true
-          → Found (record { peer_count = count; state = state; priority = priority; flushed = eqb flushed 1; pad_bytes = pad })
+          → Some (record { peer_count = count; state = state; priority = priority; flushed = eqb flushed 1; pad_bytes = pad })
           ≡ piece_step (judged piece_kind (read_piece s i) (drop at bytes))
       unfolding piece_step
       piece_found t =
           sym
           (ap piece_step (judged_found piece_kind (read_piece s i) at bytes e body b (piece_of body) (piece_read ∙ obeys _ (piece_of body) t))
-          ∙ ap Found (piece_numbers_lem t))
+          ∙ ap Some (piece_numbers_lem t))
 
 -- ---- for a caller
 -- read, a piece stands there, and the rest starts ten bytes on
@@ -111,15 +111,15 @@ pub record PieceGot (s : Picker) (i at : ℕ) (bytes : List ℕ) (x : Piece) : T
   pub count_most : x.peer_count ≤ max_peers
   pub priority_most : x.priority ≤ max_priority
 
-found_numbers : (p : PieceRecord) (rest : List ℕ) (g : Got PieceRecord) (x : Piece) → g ≡ got p rest → Found x ≡ piece_step g →
+found_numbers : (p : PieceRecord) (rest : List ℕ) (g : Got PieceRecord) (x : Piece) → g ≡ got p rest → Some x ≡ piece_step g →
     piece_numbers p ≡ x
 unfolding piece_step
-found_numbers p rest g x e f = let z : Found x ≡ Found (piece_numbers p) = f ∙ ap piece_step e in cc
+found_numbers p rest g x e f = let z : Some x ≡ Some (piece_numbers p) = f ∙ ap piece_step e in cc
 
-never_found : {X : Type 0} (g : Got PieceRecord) (rest : List ℕ) (x : Piece) → g ≡ fault rest → Found x ≡ piece_step g → X
+never_found : {X : Type 0} (g : Got PieceRecord) (rest : List ℕ) (x : Piece) → g ≡ fault rest → Some x ≡ piece_step g → X
 unfolding piece_step
 never_found g rest x e f =
-    let z : Found x ≡ Fault = f ∙ ap piece_step e in
+    let z : Some x ≡ None = f ∙ ap piece_step e in
     let y : ◌≡◌ {A = ℕ} 0 1 = cc in
     absurd (omega arith)
 
@@ -134,7 +134,7 @@ module _ (s : Picker) (i at : ℕ) (bytes : List ℕ) where
       let b : p.priority ≡ x.priority = ap (λ (y : Piece). y.priority) e in
       (omega (arith, leb-true (p.peer_count + s.seeds) max_peers t.0), omega (arith, leb-true p.priority max_priority u.0))
 
-  pub piece_got : (x : Piece) → Found x ≡ piece_step (judged piece_kind (read_piece s i) (drop at bytes)) → PieceGot s i at bytes x
+  pub piece_got : (x : Piece) → Some x ≡ piece_step (judged piece_kind (read_piece s i) (drop at bytes)) → PieceGot s i at bytes x
   unfolding read_piece body_length nth
   piece_got x f =
       judged_cases piece_kind (read_piece s i) at bytes (λ e. never_found (judged piece_kind (read_piece s i) (drop at bytes))
@@ -155,13 +155,13 @@ module _ (s : Picker) (i at : ℕ) (bytes : List ℕ) where
         priority_most = m.1;
       })
 
-  pub piece_bad : Fault ≡ piece_step (judged piece_kind (read_piece s i) (drop at bytes)) → judged piece_kind (read_piece s i) (drop at bytes)
+  pub piece_bad : None ≡ piece_step (judged piece_kind (read_piece s i) (drop at bytes)) → judged piece_kind (read_piece s i) (drop at bytes)
       ≡ fault (drop at bytes)
   unfolding piece_step
   piece_bad f =
       judged_cases piece_kind (read_piece s i) at bytes (λ e. e)
       (λ p room r e.
-      let z : Fault ≡ Found (piece_numbers p) = f ∙ ap piece_step e in
+      let z : None ≡ Some (piece_numbers p) = f ∙ ap piece_step e in
       let y : ◌≡◌ {A = ℕ} 0 1 = cc in
       absurd (omega arith))
 

@@ -1,12 +1,10 @@
 -- The head of an image by its numbers. Assumes nothing.
-use Rattle.std.specs.Prelude.{ℕ, ◌≤◌, ◌≡◌, Bool, true, cond, ◌&&◌, List, [], leb, length}
+use Rattle.std.specs.Prelude.{ℕ, ◌≤◌, ◌≡◌, Bool, true, cond, ◌&&◌, List, [], leb, length, None, Option, Some}
 use Rattle.model.specs.Bep3.{num_pieces}
 use Rattle.model.specs.State.{Picker, dirty, fresh, max_peers, is_dirty, valid_geometry}
 use Rattle.model.specs.image.WellFormed.{head_ok}
 use Rattle.model.specs.image.Image.{Got, got, fault}
 use Rattle.image_pieces.specs.declared.head.Head.{Head}
-use Rattle.image_pieces.specs.declared.head.HeadRead.{HeadRead}
-use Rattle.image_pieces.specs.declared.head.HeadRead.TheVariants.{Found, Fault}
 
 -- its rule
 unfoldable pub head_test : (total size seeds cursor reverse flag : ℕ) → Bool
@@ -27,9 +25,9 @@ head_numbers s =
     }
 
 -- the head found
-unfoldable pub head_step : (found : Got Picker) → HeadRead
-head_step (got s rest) = Found (head_numbers s)
-head_step (fault rest) = Fault
+unfoldable pub head_step : (found : Got Picker) → Option Head
+head_step (got s rest) = Some (head_numbers s)
+head_step (fault rest) = None
 
 -- a picker of head fields alone
 unfoldable pub head_picker : (head : Head) → Picker

@@ -1,5 +1,5 @@
 -- The pieces of an image by their numbers; piece i stands at 24 + 10 * i. Assumes nothing.
-use Rattle.std.specs.Prelude.{ℕ, ◌+◌, ◌*◌, ◌-◌, ◌≤◌, ◌<◌, ◌≡◌, Bool, not, ◌&&◌, ◌||◌, List, ◌++◌, eqb, leb, length, get_or, drop}
+use Rattle.std.specs.Prelude.{ℕ, ◌+◌, ◌*◌, ◌-◌, ◌≤◌, ◌<◌, ◌≡◌, Bool, not, ◌&&◌, ◌||◌, List, ◌++◌, eqb, leb, length, get_or, drop, Err, None, Ok, Option, Result, Some}
 use Rattle.types.specs.Queue.{queue_number}
 use Rattle.model.specs.State.{Piece as PieceRecord, Picker, max_peers, max_priority, piece_size_at}
 use Rattle.model.specs.list.Order.{bucket, rank_of}
@@ -8,10 +8,6 @@ use Rattle.memory_layout.specs.Tables.{tabulate}
 use Rattle.image_records.specs.Records.{body_at}
 use Rattle.image_pieces.specs.declared.head.Head.{Head}
 use Rattle.image_pieces.specs.declared.piece.Piece.{Piece}
-use Rattle.image_pieces.specs.declared.piece.PieceRead.{PieceRead}
-use Rattle.image_pieces.specs.declared.piece.PieceRead.TheVariants.{Found, Fault}
-use Rattle.image_pieces.specs.declared.place.Place.{Place}
-use Rattle.image_pieces.specs.declared.place.Place.TheVariants.{At, Fault as FaultAt}
 use Rattle.image_pieces.specs.Places.{Failed}
 use Rattle.image_pieces.specs.Heads.{head_picker}
 
@@ -36,12 +32,12 @@ piece_numbers p =
     }
 
 -- the piece found
-unfoldable pub piece_step : (found : Got PieceRecord) → PieceRead
-piece_step (got p rest) = Found (piece_numbers p)
-piece_step (fault rest) = Fault
+unfoldable pub piece_step : (found : Got PieceRecord) → Option Piece
+piece_step (got p rest) = Some (piece_numbers p)
+piece_step (fault rest) = None
 
 -- for every picker and piece of these numbers
-abbrev pub PieceJudged : (seeds long at : ℕ) (bytes : List ℕ) (r : PieceRead) → Type 0
+abbrev pub PieceJudged : (seeds long at : ℕ) (bytes : List ℕ) (r : Option Piece) → Type 0
 PieceJudged seeds long at bytes r =
     (s : Picker) (i : ℕ) → s.seeds ≡ seeds → piece_size_at s i ≡ long → r ≡ piece_step (judged piece_kind (read_piece s i) (drop at bytes))
 
@@ -93,6 +89,6 @@ pub record Reading (head : Head) (n w : ℕ) (bytes ranks : List ℕ) (i : ℕ) 
   pub wide : length ranks ≡ w
 
 -- they do, or one is at fault
-unfoldable pub PiecesRead : (head : Head) (n : ℕ) (bytes ranks : List ℕ) (r : Place) → Type 0
-PiecesRead head n bytes ranks (At k) = (k ≡ piece_place n) × PiecesStand head n bytes ranks
-PiecesRead head n bytes ranks (FaultAt k) = Failed (get_pieces (head_picker head) 0 n (drop 24 bytes)) bytes k
+unfoldable pub PiecesRead : (head : Head) (n : ℕ) (bytes ranks : List ℕ) (r : Result ℕ ℕ) → Type 0
+PiecesRead head n bytes ranks (Ok k) = (k ≡ piece_place n) × PiecesStand head n bytes ranks
+PiecesRead head n bytes ranks (Err k) = Failed (get_pieces (head_picker head) 0 n (drop 24 bytes)) bytes k

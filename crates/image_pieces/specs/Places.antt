@@ -1,8 +1,6 @@
 -- Where the reader of a part of an image comes to, by what the definition's reader finds. Assumes nothing.
-use Rattle.std.specs.Prelude.{ℕ, ◌≤◌, ◌≡◌, List, length, drop}
+use Rattle.std.specs.Prelude.{ℕ, ◌≤◌, ◌≡◌, List, length, drop, Err, Ok, Result}
 use Rattle.model.specs.image.Image.{Got, got, fault}
-use Rattle.image_pieces.specs.declared.place.Place.{Place}
-use Rattle.image_pieces.specs.declared.place.Place.TheVariants.{At, Fault}
 
 module _ {A : Type 0} where
   -- something was found, and the bytes from k on are left
@@ -17,6 +15,6 @@ module _ {A : Type 0} where
     pub within : k ≤ length bytes
 
   -- one or the other
-  unfoldable pub Went : (found : Got A) (bytes : List ℕ) (r : Place) → Type 0
-  Went found bytes (At k) = Ended found bytes k
-  Went found bytes (Fault k) = Failed found bytes k
+  unfoldable pub Went : (found : Got A) (bytes : List ℕ) (r : Result ℕ ℕ) → Type 0
+  Went found bytes (Ok k) = Ended found bytes k
+  Went found bytes (Err k) = Failed found bytes k

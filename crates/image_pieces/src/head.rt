@@ -17,12 +17,6 @@ pub struct Head {
     pub dirty: bool,
 }
 
-#[derive(Drop)]
-pub enum HeadRead {
-    Found(Head),
-    Fault,
-}
-
 // Geometry, seeds, each cursor from 0 to the number of pieces, and a flag of 0 or 1.
 fn head_ok(total: u64, size: u64, seeds: u64, cursor: u64, reverse: u64, dirty: u64) -> bool
     ensures { result ≡ head_test total size seeds cursor reverse dirty }
@@ -31,11 +25,11 @@ fn head_ok(total: u64, size: u64, seeds: u64, cursor: u64, reverse: u64, dirty: 
     (dirty <= 1) & valid_geometry(total, size) & (seeds <= 1000) & (cursor <= n) & (reverse <= n)
 }
 
-pub fn read_head(bytes: &[u8]) -> HeadRead
+pub fn read_head(bytes: &[u8]) -> Option<Head>
     ensures { result ≡ head_step (judged head_kind read_head bytes.now) }
 {
     if !stands(bytes, 0, 1) {
-        return HeadRead::Fault;
+        return None;
     }
     let body = body_of(bytes, 0, 1);
     let total = read8(body, 0);
@@ -45,7 +39,7 @@ pub fn read_head(bytes: &[u8]) -> HeadRead
     let reverse = read4(body, 18);
     let dirty = read1(body, 22);
     if head_ok(total, size, seeds, cursor, reverse, dirty) {
-        return HeadRead::Found(Head {
+        return Some(Head {
             total: total,
             size: size,
             seeds: seeds,
@@ -54,5 +48,5 @@ pub fn read_head(bytes: &[u8]) -> HeadRead
             dirty: dirty == 1,
         });
     }
-    HeadRead::Fault
+    None
 }

@@ -4,10 +4,8 @@
 mod head;
 mod piece;
 mod pieces;
-mod place;
 mod stretch;
 
-pub use head::{Head, HeadRead, read_head};
-pub use piece::{Piece, PieceRead, read_piece};
+pub use head::{Head, read_head};
+pub use piece::{Piece, read_piece};
 pub use pieces::read_pieces;
-pub use place::Place;

@@ -15,12 +15,6 @@ pub struct Piece {
     pub pad_bytes: u64,
 }
 
-#[derive(Drop)]
-pub enum PieceRead {
-    Found(Piece),
-    Fault,
-}
-
 // Each field in its range, where the piece has `long` bytes; a flushed piece is Open.
 fn piece_ok(
     count: u64,
@@ -43,12 +37,12 @@ fn piece_ok(
 }
 
 // A piece of `long` bytes.
-pub fn read_piece(bytes: &[u8], at: usize, seeds: u64, long: u64) -> PieceRead
+pub fn read_piece(bytes: &[u8], at: usize, seeds: u64, long: u64) -> Option<Piece>
     requires { seeds ≤ 1000 }
     ensures { PieceJudged seeds long at bytes.now result }
 {
     if !stands(bytes, at, 2) {
-        return PieceRead::Fault;
+        return None;
     }
     let body = body_of(bytes, at, 2);
     let count = read2(body, 0);
@@ -57,7 +51,7 @@ pub fn read_piece(bytes: &[u8], at: usize, seeds: u64, long: u64) -> PieceRead
     let flushed = read1(body, 4);
     let pad = read4(body, 5);
     if piece_ok(count, state, priority, flushed, pad, seeds, long) {
-        return PieceRead::Found(Piece {
+        return Some(Piece {
             peer_count: count,
             state: state,
             priority: priority,
@@ -65,5 +59,5 @@ pub fn read_piece(bytes: &[u8], at: usize, seeds: u64, long: u64) -> PieceRead
             pad_bytes: pad,
         });
     }
-    PieceRead::Fault
+    None
 }

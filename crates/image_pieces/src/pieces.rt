@@ -5,8 +5,7 @@ ghost use Rattle.image_pieces.specs.Heads.{Headed};
 ghost use Rattle.image_pieces.specs.Pieces.{RankBy, PiecesRead};
 
 use crate::head::Head;
-use crate::piece::{Piece, PieceRead, read_piece};
-use crate::place::Place;
+use crate::piece::{Piece, read_piece};
 use crate::stretch::pass_pieces;
 use geometry::piece_length;
 use list_rank::rank;
@@ -21,21 +20,19 @@ fn rank_of(seeds: u64, p: Piece) -> u16
 }
 
 // Piece by piece from the first one on that the quick pass leaves.
-pub fn read_pieces(bytes: &[u8], head: Head, n: usize, ranks: &mut [u16]) -> Place
+pub fn read_pieces(bytes: &[u8], head: Head, n: usize, ranks: &mut [u16]) -> Result<usize, usize>
     requires headed { Headed head bytes.now }
     requires n_value { (n ≡ num_pieces head.total head.size) × (n ≤ length ranks.old) }
     ensures pieces_read { PiecesRead head n bytes.now ranks.new result }
     ensures ranks_len_unchanged { length ranks.new ≡ length ranks.old }
 {
-    let mut i = pass_pieces(bytes, head, n, ranks);
-    while i < n {
+    for i in pass_pieces(bytes, head, n, ranks)..n {
         let at = 24 + 10 * i;
         let long = piece_length(head.total, head.size, usize_to_u64(i));
-        let PieceRead::Found(p) = read_piece(bytes, at, head.seeds, long) else {
-            return Place::Fault(at);
+        let Some(p) = read_piece(bytes, at, head.seeds, long) else {
+            return Err(at);
         };
         ranks[i] = rank_of(head.seeds, p);
-        i += 1;
     }
-    Place::At(24 + 10 * n)
+    Ok(24 + 10 * n)
 }

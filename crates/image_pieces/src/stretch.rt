@@ -26,8 +26,7 @@ fn gather(
     ensures { Gathered start 128 size bytes.now counts.new states.new priorities.new
         flushed.new result }
 {
-    let mut j = 0;
-    while j < 128 {
+    for j in 0..128 {
         let at = start + 10 * j;
         let kind = read1(bytes, at);
         let pad = read4(bytes, at + 6);
@@ -38,7 +37,6 @@ fn gather(
         states[j] = u64_to_u16(read1(bytes, at + 3));
         priorities[j] = u64_to_u16(read1(bytes, at + 4));
         flushed[j] = u64_to_u16(read1(bytes, at + 5));
-        j += 1;
     }
     true
 }
@@ -83,8 +81,9 @@ pub fn pass_pieces(bytes: &[u8], head: Head, n: usize, ranks: &mut [u16]) -> usi
     if bytes.len() - 24 < 10 * n {
         return 0;
     }
-    let mut i = 0;
-    while i + 128 < n {
+    let stretches = (n - 1) / 128;
+    for k in 0..stretches {
+        let i = 128 * k;
         if !pass_stretch(
             bytes,
             24 + 10 * i,
@@ -94,7 +93,6 @@ pub fn pass_pieces(bytes: &[u8], head: Head, n: usize, ranks: &mut [u16]) -> usi
         ) {
             return i;
         }
-        i += 128;
     }
-    i
+    128 * stretches
 }

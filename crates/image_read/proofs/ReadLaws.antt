@@ -1,4 +1,5 @@
 -- Bytes judged, lengths compared: what the definition makes of both. Assumes nothing.
+use Rattle.std.specs.Prelude.{Err, Ok}
 use mathlib.Core.Path.{◌≡◌, refl, sym, ap, ap₂, ◌∙◌}
 use mathlib.Core.Bool.{Bool, true, false, cond}
 use mathlib.Core.List.{List}
@@ -15,7 +16,6 @@ use Rattle.geometry_needs.specs.Needs.{no_memory, memory_of}
 use Rattle.memory_layout.specs.Good.{lengths}
 use Rattle.image_pieces.specs.declared.head.Head.{Head}
 use Rattle.image_pieces.proofs.HeadLaws.{HeadGot, head_valid}
-use Rattle.image_judge.specs.declared.whole.Verdict.TheVariants.{Accepted, Fault}
 use Rattle.image_judge.specs.Verdicts.{verdict_of}
 use Rattle.image_store.specs.Given.{Image}
 use Rattle.image_store.specs.Stored.{Room, ImageStored}
@@ -24,24 +24,24 @@ use Rattle.image_read.specs.Reading.{Made as Stood, NotMade}
 
 -- ---- the judge's verdict
 module _ (bytes : List ℕ) where
-  pub judged_image : Accepted ≡ verdict_of (read_image bytes) → Image bytes
+  pub judged_image : (Ok tt) ≡ verdict_of (read_image bytes) → Image bytes
   unfolding verdict_of
   judged_image e = go (read_image bytes) refl e
     where
-      go : (r : Read Picker) → read_image bytes ≡ r → Accepted ≡ verdict_of r → Image bytes
+      go : (r : Read Picker) → read_image bytes ≡ r → (Ok tt) ≡ verdict_of r → Image bytes
       go (accepted p) q f = record { picker = p; is = q }
       go (fault_at k) q f = let z : ◌≡◌ {A = ℕ} 0 1 = cc in absurd (omega arith)
 
-  fault_is : (k : ℕ) → Fault k ≡ verdict_of (read_image bytes) → read_image bytes ≡ fault_at k
+  fault_is : (k : ℕ) → Err k ≡ verdict_of (read_image bytes) → read_image bytes ≡ fault_at k
   unfolding verdict_of
   fault_is k e = go (read_image bytes) e
     where
-      go : (r : Read Picker) → Fault k ≡ verdict_of r → r ≡ fault_at k
+      go : (r : Read Picker) → Err k ≡ verdict_of r → r ≡ fault_at k
       go (accepted p) f = let z : ◌≡◌ {A = ℕ} 0 1 = cc in absurd (omega arith)
       go (fault_at m) f = let z : m ≡ k = cc in ap fault_at z
 
   -- a fault is refused with its place, whatever memory is lent
-  pub fault_told : (lent k : ℕ) (words cells rows : List ℕ) → Fault k ≡ verdict_of (read_image bytes)
+  pub fault_told : (lent k : ℕ) (words cells rows : List ℕ) → Err k ≡ verdict_of (read_image bytes)
       → NotMade lent bytes words cells rows words cells rows (IllFormedImage k)
   unfolding read_picker read_within
   fault_told lent k words cells rows e = record {

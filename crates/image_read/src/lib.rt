@@ -4,4 +4,4 @@
 mod lengths;
 mod whole;
 
-pub use whole::{ImageRead, read_image};
+pub use whole::read_image;

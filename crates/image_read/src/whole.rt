@@ -4,17 +4,10 @@ ghost use Rattle.image_store.specs.Given.{Image};
 ghost use Rattle.image_read.specs.Reading.{ImageTold};
 
 use crate::lengths::is_short;
-use image_judge::{Verdict, judge_image};
-use image_pieces::{HeadRead, read_head};
+use image_judge::judge_image;
+use image_pieces::read_head;
 use image_store::store_image;
 use types::Refusal;
-
-// How many rows are the picker's partials, or why nothing was read: 13 with the place of the first fault, and then 2.
-#[derive(Drop)]
-pub enum ImageRead {
-    Read(usize),
-    Refused(Refusal),
-}
 
 // The bytes are an image; `lent` records are lent.
 fn read_accepted(
@@ -23,19 +16,17 @@ fn read_accepted(
     cells: &mut [u16],
     rows: &mut [u32],
     lent: usize,
-) -> ImageRead
+) -> Result<usize, Refusal>
     requires { (Image bytes.now) × (length rows.old ≡ 1536) }
     ensures { ImageTold lent bytes.now words.old cells.old rows.old
         words.new cells.new rows.new result }
 {
-    let HeadRead::Found(head) = read_head(bytes) else {
-        return ImageRead::Refused(Refusal::ShortMemory);
-    };
+    let head = read_head(bytes).unwrap();
     if is_short(words.len(), cells.len(), lent, head.total, head.size) {
-        return ImageRead::Refused(Refusal::ShortMemory);
+        return Err(Refusal::ShortMemory);
     }
     let count = store_image(bytes, words, cells, rows);
-    ImageRead::Read(count)
+    Ok(count)
 }
 
 // Any bytes.
@@ -45,13 +36,13 @@ pub fn read_image(
     cells: &mut [u16],
     rows: &mut [u32],
     lent: usize,
-) -> ImageRead
+) -> Result<usize, Refusal>
     requires { length rows.old ≡ 1536 }
     ensures { ImageTold lent bytes.now words.old cells.old rows.old
         words.new cells.new rows.new result }
 {
     match judge_image(bytes) {
-        Verdict::Accepted => read_accepted(bytes, words, cells, rows, lent),
-        Verdict::Fault(k) => ImageRead::Refused(Refusal::IllFormedImage(k)),
+        Ok(()) => read_accepted(bytes, words, cells, rows, lent),
+        Err(k) => Err(Refusal::IllFormedImage(k)),
     }
 }

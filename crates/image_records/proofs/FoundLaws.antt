@@ -1,4 +1,5 @@
 -- What a caller learns from a reader's answer. Assumes nothing.
+use Rattle.std.specs.Prelude.{None, Some}
 use mathlib.Core.Path.{◌≡◌, refl, ap, ◌∙◌}
 use mathlib.Core.Bool.{Bool, true, false}
 use mathlib.Core.List.{List}
@@ -16,8 +17,6 @@ use Rattle.model.specs.image.Image.{read_partial}
 use Rattle.model.proofs.image.Codec.{obeying_back}
 use Rattle.model.proofs.base.Truths.{both_true}
 use Rattle.image_records.specs.declared.block.Block.{Block}
-use Rattle.image_records.specs.declared.block.BlockRead.TheVariants.{Found as FoundBlock, Fault as FaultBlock}
-use Rattle.image_records.specs.declared.number.NumberRead.TheVariants.{Found as FoundNumber, Fault as FaultNumber}
 use Rattle.image_records.specs.Records.{body_at, number_step, block_numbers, block_step}
 use Rattle.image_records.proofs.FrontLaws.{judged_cases}
 
@@ -29,18 +28,18 @@ pub record NumberGot (kind : ℕ) (read : List ℕ → Option ℕ) (at : ℕ) (b
   pub room : at + suc (body_length kind) ≤ length bytes
 
 module _ (kind : ℕ) (read : List ℕ → Option ℕ) (at : ℕ) (bytes : List ℕ) where
-  same_number : (n x : ℕ) (rest : List ℕ) (g : Got ℕ) → g ≡ got n rest → FoundNumber x ≡ number_step g → n ≡ x
+  same_number : (n x : ℕ) (rest : List ℕ) (g : Got ℕ) → g ≡ got n rest → Some x ≡ number_step g → n ≡ x
   unfolding number_step
-  same_number n x rest g e f = let z : FoundNumber x ≡ FoundNumber n = f ∙ ap number_step e in cc
+  same_number n x rest g e f = let z : Some x ≡ Some n = f ∙ ap number_step e in cc
 
-  no_number : {X : Type 0} (x : ℕ) (rest : List ℕ) (g : Got ℕ) → g ≡ fault rest → FoundNumber x ≡ number_step g → X
+  no_number : {X : Type 0} (x : ℕ) (rest : List ℕ) (g : Got ℕ) → g ≡ fault rest → Some x ≡ number_step g → X
   unfolding number_step
   no_number x rest g e f =
-      let z : FoundNumber x ≡ FaultNumber = f ∙ ap number_step e in
+      let z : Some x ≡ None = f ∙ ap number_step e in
       let y : ◌≡◌ {A = ℕ} 0 1 = cc in
       absurd (omega arith)
 
-  pub number_got : (x : ℕ) → FoundNumber x ≡ number_step (judged kind read (drop at bytes)) → NumberGot kind read at bytes x
+  pub number_got : (x : ℕ) → Some x ≡ number_step (judged kind read (drop at bytes)) → NumberGot kind read at bytes x
   number_got x f =
       judged_cases kind read at bytes (λ e. no_number x (drop at bytes) (judged kind read (drop at bytes)) e f)
       (λ n room r e.
@@ -51,12 +50,12 @@ module _ (kind : ℕ) (read : List ℕ → Option ℕ) (at : ℕ) (bytes : List 
         room = room;
       })
 
-  pub number_bad : FaultNumber ≡ number_step (judged kind read (drop at bytes)) → judged kind read (drop at bytes) ≡ fault (drop at bytes)
+  pub number_bad : None ≡ number_step (judged kind read (drop at bytes)) → judged kind read (drop at bytes) ≡ fault (drop at bytes)
   unfolding number_step
   number_bad f =
       judged_cases kind read at bytes (λ e. e)
       (λ n room r e.
-      let z : FaultNumber ≡ FoundNumber n = f ∙ ap number_step e in
+      let z : None ≡ Some n = f ∙ ap number_step e in
       let y : ◌≡◌ {A = ℕ} 0 1 = cc in
       absurd (omega arith))
 
@@ -79,32 +78,32 @@ pub record BlockGot (at : ℕ) (bytes : List ℕ) (x : Block) : Type 0 where
   pub numbers : block_numbers block ≡ x
 
 module _ (at : ℕ) (bytes : List ℕ) where
-  same_block : (b : BlockRecord) (x : Block) (rest : List ℕ) (g : Got BlockRecord) → g ≡ got b rest → FoundBlock x ≡ block_step g →
+  same_block : (b : BlockRecord) (x : Block) (rest : List ℕ) (g : Got BlockRecord) → g ≡ got b rest → Some x ≡ block_step g →
       block_numbers b ≡ x
   unfolding block_step
-  same_block b x rest g e f = let z : FoundBlock x ≡ FoundBlock (block_numbers b) = f ∙ ap block_step e in cc
+  same_block b x rest g e f = let z : Some x ≡ Some (block_numbers b) = f ∙ ap block_step e in cc
 
-  no_block : {X : Type 0} (x : Block) (rest : List ℕ) (g : Got BlockRecord) → g ≡ fault rest → FoundBlock x ≡ block_step g → X
+  no_block : {X : Type 0} (x : Block) (rest : List ℕ) (g : Got BlockRecord) → g ≡ fault rest → Some x ≡ block_step g → X
   unfolding block_step
   no_block x rest g e f =
-      let z : FoundBlock x ≡ FaultBlock = f ∙ ap block_step e in
+      let z : Some x ≡ None = f ∙ ap block_step e in
       let y : ◌≡◌ {A = ℕ} 0 1 = cc in
       absurd (omega arith)
 
-  pub block_got : (x : Block) → FoundBlock x ≡ block_step (judged block_kind read_block (drop at bytes)) → BlockGot at bytes x
+  pub block_got : (x : Block) → Some x ≡ block_step (judged block_kind read_block (drop at bytes)) → BlockGot at bytes x
   unfolding body_length nth
   block_got x f =
       judged_cases block_kind read_block at bytes (λ e. no_block x (drop at bytes) (judged block_kind read_block (drop at bytes)) e f)
       (λ b room r e.
       record { block = b; is = e; room = room; numbers = same_block b x _ (judged block_kind read_block (drop at bytes)) e f })
 
-  pub block_bad : FaultBlock ≡ block_step (judged block_kind read_block (drop at bytes)) → judged block_kind read_block (drop at bytes) ≡
+  pub block_bad : None ≡ block_step (judged block_kind read_block (drop at bytes)) → judged block_kind read_block (drop at bytes) ≡
       fault (drop at bytes)
   unfolding block_step
   block_bad f =
       judged_cases block_kind read_block at bytes (λ e. e)
       (λ b room r e.
-      let z : FaultBlock ≡ FoundBlock (block_numbers b) = f ∙ ap block_step e in
+      let z : None ≡ Some (block_numbers b) = f ∙ ap block_step e in
       let y : ◌≡◌ {A = ℕ} 0 1 = cc in
       absurd (omega arith))
 

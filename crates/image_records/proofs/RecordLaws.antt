@@ -1,4 +1,5 @@
 -- Each record by its numbers: its rule, and what its reader answers. Assumes nothing.
+use Rattle.std.specs.Prelude.{None, Some}
 use mathlib.Core.Path.{◌≡◌, refl, sym, ap, ◌∙◌}
 use mathlib.Core.Bool.{Bool, true, false, cond, ◌&&◌, and-true, and_assoc}
 use mathlib.Core.List.{List}
@@ -19,9 +20,6 @@ use Rattle.model.specs.image.Program.{request_of, read_request}
 use Rattle.model.proofs.base.Truths.{both_true}
 use Rattle.memory_layout.specs.Decode.{state_from}
 use Rattle.memory_layout.proofs.Numbers.{state_number}
-use Rattle.image_records.specs.declared.block.BlockRead.TheVariants.{Found as FoundBlock, Fault as FaultBlock}
-use Rattle.image_records.specs.declared.number.NumberRead.TheVariants.{Found as FoundNumber, Fault as FaultNumber}
-use Rattle.image_records.specs.declared.pick.PickRead.TheVariants.{Found as FoundPick, Fault as FaultPick}
 use Rattle.image_records.specs.Records.{Body, number_in, number_step, block_test, peer_number, block_numbers, block_step, pick_numbers}
 use Rattle.image_records.specs.Records.{pick_step, PickJudged}
 use Rattle.image_records.proofs.FrontLaws.{judged_none, judged_found, judged-fault}
@@ -37,19 +35,19 @@ breaks t a e = rw e
 
 -- ---- one number
 module _ (kind at : ℕ) (bytes : List ℕ) where
-  pub number_none : starts_with kind (drop at bytes) ≡ false → FaultNumber ≡ number_step (judged kind number_in (drop at bytes))
+  pub number_none : starts_with kind (drop at bytes) ≡ false → None ≡ number_step (judged kind number_in (drop at bytes))
   unfolding number_step
   number_none e = sym (ap number_step (judged_none kind number_in (drop at bytes) e))
 
   pub number_found : starts_with kind (drop at bytes) ≡ true → (body : List ℕ) → Body kind at bytes body → (n : ℕ) → n ≡ field 0 4 body
-      → FoundNumber n ≡ number_step (judged kind number_in (drop at bytes))
+      → Some n ≡ number_step (judged kind number_in (drop at bytes))
   unfolding number_step number_in
-  number_found e body b n f = ap FoundNumber f ∙ sym (ap number_step (judged_found kind number_in at bytes e body b (field 0 4 body) refl))
+  number_found e body b n f = ap Some f ∙ sym (ap number_step (judged_found kind number_in at bytes e body b (field 0 4 body) refl))
 
 -- ---- a partial
 module _ (i n at : ℕ) (bytes : List ℕ) where
   pub partial_none : starts_with partial_kind (drop at bytes) ≡ false
-      → FaultNumber ≡ number_step (judged partial_kind (read_partial i n) (drop at bytes))
+      → None ≡ number_step (judged partial_kind (read_partial i n) (drop at bytes))
   unfolding number_step
   partial_none e = sym (ap number_step (judged_none partial_kind (read_partial i n) (drop at bytes) e))
 
@@ -60,13 +58,13 @@ module _ (i n at : ℕ) (bytes : List ℕ) where
     partial_read = rw (ep, ef, and_assoc (eqb (field 0 4 body) i) (leb (field 4 1 body) all_flags) (ltb n max_partials))
 
     pub partial_found : (eqb piece i && leb flags all_flags && ltb n max_partials) ≡ true
-        → FoundNumber flags ≡ number_step (judged partial_kind (read_partial i n) (drop at bytes))
+        → Some flags ≡ number_step (judged partial_kind (read_partial i n) (drop at bytes))
     unfolding number_step
     partial_found t =
         sym (ap number_step (judged_found partial_kind (read_partial i n) at bytes e body b flags (partial_read ∙ obeys _ flags t)))
 
     pub partial_fault : (eqb piece i && leb flags all_flags && ltb n max_partials) ≡ false
-        → FaultNumber ≡ number_step (judged partial_kind (read_partial i n) (drop at bytes))
+        → None ≡ number_step (judged partial_kind (read_partial i n) (drop at bytes))
     unfolding number_step
     partial_fault t =
         sym (ap number_step (judged-fault partial_kind (read_partial i n) at bytes e body b (partial_read ∙ breaks _ flags t)))
@@ -103,7 +101,7 @@ peer_ok_lem has peer h = go (eqb has 1)
 
 -- ---- a block
 module _ (at : ℕ) (bytes : List ℕ) where
-  pub block_none : starts_with block_kind (drop at bytes) ≡ false → FaultBlock ≡ block_step (judged block_kind read_block (drop at bytes))
+  pub block_none : starts_with block_kind (drop at bytes) ≡ false → None ≡ block_step (judged block_kind read_block (drop at bytes))
   unfolding block_step
   block_none e = sym (ap block_step (judged_none block_kind read_block (drop at bytes) e))
 
@@ -116,7 +114,7 @@ module _ (at : ℕ) (bytes : List ℕ) where
         let o : peer_ok (peer_of (field 3 1 body) (field 4 8 body)) ≡ true = rw (eh, ep) at (peer_ok_lem has peer h) in
         rw (es, en, eh, ep, o, and-true (leb (field 1 2 body) max_peers))
 
-    pub block_fault : block_test state peers has peer ≡ false → FaultBlock ≡ block_step (judged block_kind read_block (drop at bytes))
+    pub block_fault : block_test state peers has peer ≡ false → None ≡ block_step (judged block_kind read_block (drop at bytes))
     unfolding block_step
     block_fault t = sym (ap block_step (judged-fault block_kind read_block at bytes e body b (block_read_lem ∙ breaks _ (block_of body) t)))
 
@@ -130,30 +128,30 @@ module _ (at : ℕ) (bytes : List ℕ) where
         rw (← es, ← en, ← eh, ← ep, s, peer_there has peer, peer_back has peer g.0)
 
     pub block_found : block_test state peers has peer ≡ true
-        → FoundBlock (record { state = state; num_peers = peers; has_peer = eqb has 1; peer = peer })
+        → Some (record { state = state; num_peers = peers; has_peer = eqb has 1; peer = peer })
         ≡ block_step (judged block_kind read_block (drop at bytes))
     unfolding block_step
     block_found t =
         sym
         (ap block_step (judged_found block_kind read_block at bytes e body b (block_of body) (block_read_lem ∙ obeys _ (block_of body) t))
-        ∙ ap FoundBlock (block_numbers_lem t))
+        ∙ ap Some (block_numbers_lem t))
 
 -- ---- a pick
 module _ (at : ℕ) (bytes : List ℕ) where
-  pub pick_none : starts_with pick_kind (drop at bytes) ≡ false → PickJudged at bytes FaultPick
+  pub pick_none : starts_with pick_kind (drop at bytes) ≡ false → PickJudged at bytes None
   unfolding pick_step
   pick_none e n = sym (ap pick_step (judged_none pick_kind (read_request n) (drop at bytes) e))
 
   module _ (e : starts_with pick_kind (drop at bytes) ≡ true) (body : List ℕ) (b : Body pick_kind at bytes body) (has peer : ℕ)
       (eh : has ≡ field 8 1 body) (ep : peer ≡ field 9 8 body) where
-    pub pick_fault : peer_fits has peer ≡ false → PickJudged at bytes FaultPick
+    pub pick_fault : peer_fits has peer ≡ false → PickJudged at bytes None
     unfolding pick_step read_request
     pick_fault t n =
         sym (ap pick_step (judged-fault pick_kind (read_request n) at bytes e body b (breaks _ (request_of n body) (rw (eh, ep) at t))))
 
     pub pick_found : peer_fits has peer ≡ true → (options wanted contiguous peers : ℕ) → options ≡ field 0 2 body → wanted ≡ field 2 2 body
         → contiguous ≡ field 4 2 body → peers ≡ field 6 2 body
-        → PickJudged at bytes (FoundPick (record {
+        → PickJudged at bytes (Some (record {
           options = options;
           wanted = wanted;
           contiguous = contiguous;
@@ -166,4 +164,4 @@ module _ (at : ℕ) (bytes : List ℕ) where
         sym
         (ap pick_step (judged_found pick_kind (read_request n) at bytes e body b (request_of n body)
         (obeys _ (request_of n body) (rw (eh, ep) at t)))
-        ∙ ap FoundPick (rw (← eo, ← ew, ← ec, ← en, ← eh, ← ep, peer_there has peer, peer_back has peer t)))
+        ∙ ap Some (rw (← eo, ← ew, ← ec, ← en, ← eh, ← ep, peer_there has peer, peer_back has peer t)))

@@ -1,5 +1,5 @@
 -- What the reader of each record answers: the numbers of what the definition's reader finds, or that it finds a fault. Assumes nothing.
-use Rattle.std.specs.Prelude.{ℕ, ◌≡◌, Bool, ◌&&◌, List, length, take, drop, leb}
+use Rattle.std.specs.Prelude.{ℕ, ◌≡◌, Bool, ◌&&◌, List, length, take, drop, leb, None, Option as Optional, Some}
 use Rattle.std.proofs.Math.Option.{Option, none, some}
 use Rattle.types.specs.Block.{block_state_number}
 use Rattle.model.specs.State.{Block as BlockRecord, max_peers, has_peer}
@@ -7,13 +7,7 @@ use Rattle.model.specs.pick.Blocks.{PickRequest}
 use Rattle.model.specs.image.Image.{body_length, pick_kind, Got, got, fault, field, last_block_state, peer_fits, judged}
 use Rattle.model.specs.image.Program.{read_request}
 use Rattle.image_records.specs.declared.block.Block.{Block}
-use Rattle.image_records.specs.declared.block.BlockRead.{BlockRead}
-use Rattle.image_records.specs.declared.block.BlockRead.TheVariants.{Found as FoundBlock, Fault as FaultBlock}
-use Rattle.image_records.specs.declared.number.NumberRead.{NumberRead}
-use Rattle.image_records.specs.declared.number.NumberRead.TheVariants.{Found as FoundNumber, Fault as FaultNumber}
 use Rattle.image_records.specs.declared.pick.Pick.{Pick}
-use Rattle.image_records.specs.declared.pick.PickRead.{PickRead}
-use Rattle.image_records.specs.declared.pick.PickRead.TheVariants.{Found as FoundPick, Fault as FaultPick}
 
 -- ---- the body of a record at a place
 unfoldable pub body_at : (kind at : ℕ) (bytes : List ℕ) → List ℕ
@@ -30,9 +24,9 @@ unfoldable pub number_in : (body : List ℕ) → Option ℕ
 number_in body = some (field 0 4 body)
 
 -- the number found
-unfoldable pub number_step : (found : Got ℕ) → NumberRead
-number_step (got n rest) = FoundNumber n
-number_step (fault rest) = FaultNumber
+unfoldable pub number_step : (found : Got ℕ) → Optional ℕ
+number_step (got n rest) = Some n
+number_step (fault rest) = None
 
 -- ---- a block
 -- its numbers are in range; a peer of 64 bits is
@@ -55,9 +49,9 @@ block_numbers b =
     }
 
 -- the block found
-unfoldable pub block_step : (found : Got BlockRecord) → BlockRead
-block_step (got b rest) = FoundBlock (block_numbers b)
-block_step (fault rest) = FaultBlock
+unfoldable pub block_step : (found : Got BlockRecord) → Optional Block
+block_step (got b rest) = Some (block_numbers b)
+block_step (fault rest) = None
 
 -- ---- a pick
 -- the numbers of a request
@@ -73,10 +67,10 @@ pick_numbers a =
     }
 
 -- the request found
-unfoldable pub pick_step : (found : Got PickRequest) → PickRead
-pick_step (got a rest) = FoundPick (pick_numbers a)
-pick_step (fault rest) = FaultPick
+unfoldable pub pick_step : (found : Got PickRequest) → Optional Pick
+pick_step (got a rest) = Some (pick_numbers a)
+pick_step (fault rest) = None
 
 -- the same for every number of pieces, which only the bitfield of ones knows
-abbrev pub PickJudged : (at : ℕ) (bytes : List ℕ) (r : PickRead) → Type 0
+abbrev pub PickJudged : (at : ℕ) (bytes : List ℕ) (r : Optional Pick) → Type 0
 PickJudged at bytes r = (n : ℕ) → r ≡ pick_step (judged pick_kind (read_request n) (drop at bytes))

@@ -15,12 +15,6 @@ pub struct Block {
     pub peer: u64,
 }
 
-#[derive(Drop)]
-pub enum BlockRead {
-    Found(Block),
-    Fault,
-}
-
 // A flag, and a number that is 0 without it.
 pub fn peer_fits(has: u64, peer: u64) -> bool
     ensures { result ≡ peer_fits has peer }
@@ -34,11 +28,11 @@ fn block_ok(state: u64, num_peers: u64, has: u64, peer: u64) -> bool
     (state <= 3) & peer_fits(has, peer) & (num_peers <= 1000)
 }
 
-pub fn read_block(bytes: &[u8], at: usize) -> BlockRead
+pub fn read_block(bytes: &[u8], at: usize) -> Option<Block>
     ensures { result ≡ block_step (judged block_kind read_block (drop at bytes.now)) }
 {
     if !stands(bytes, at, 4) {
-        return BlockRead::Fault;
+        return None;
     }
     let body = body_of(bytes, at, 4);
     let state = read1(body, 0);
@@ -46,12 +40,12 @@ pub fn read_block(bytes: &[u8], at: usize) -> BlockRead
     let has = read1(body, 3);
     let peer = read8(body, 4);
     if block_ok(state, num_peers, has, peer) {
-        return BlockRead::Found(Block {
+        return Some(Block {
             state: state,
             num_peers: num_peers,
             has_peer: has == 1,
             peer: peer,
         });
     }
-    BlockRead::Fault
+    None
 }

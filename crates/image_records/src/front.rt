@@ -5,12 +5,6 @@ ghost use Rattle.image_records.specs.Records.{Body};
 
 use image_bytes::body_length;
 
-fn wide(b: u8) -> usize
-    ensures { result ≡ b }
-{
-    b as usize
-}
-
 // A record of this kind would be next.
 pub fn comes(bytes: &[u8], at: usize, kind: usize) -> bool
     ensures { result ≡ comesIn kind (drop at bytes.now) }
@@ -18,7 +12,7 @@ pub fn comes(bytes: &[u8], at: usize, kind: usize) -> bool
     if bytes.len() <= at {
         return false;
     }
-    wide(bytes[at]) == kind
+    usize::from(bytes[at]) == kind
 }
 
 // A record of this kind stands there, whole.
@@ -30,7 +24,7 @@ pub fn stands(bytes: &[u8], at: usize, kind: usize) -> bool
     if n <= at {
         return false;
     }
-    if wide(bytes[at]) != kind {
+    if usize::from(bytes[at]) != kind {
         return false;
     }
     body_length(kind) < n - at

@@ -7,8 +7,8 @@ mod number;
 mod partial;
 mod pick;
 
-pub use block::{Block, BlockRead, read_block};
+pub use block::{Block, read_block};
 pub use front::{body_of, comes, stands};
-pub use number::{NumberRead, read_number};
+pub use number::read_number;
 pub use partial::read_partial;
-pub use pick::{Pick, PickRead, read_pick};
+pub use pick::{Pick, read_pick};

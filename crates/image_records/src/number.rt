@@ -6,19 +6,13 @@ ghost use Rattle.image_records.specs.Records.{number_in, number_step};
 use crate::front::{body_of, stands};
 use image_bytes::read4;
 
-#[derive(Drop)]
-pub enum NumberRead {
-    Found(u64),
-    Fault,
-}
-
-pub fn read_number(bytes: &[u8], at: usize, kind: usize) -> NumberRead
+pub fn read_number(bytes: &[u8], at: usize, kind: usize) -> Option<u64>
     requires { (5 ≤ kind) × (kind ≤ 6) }
     ensures { result ≡ number_step (judged kind number_in (drop at bytes.now)) }
 {
     if !stands(bytes, at, kind) {
-        return NumberRead::Fault;
+        return None;
     }
     let body = body_of(bytes, at, kind);
-    NumberRead::Found(read4(body, 0))
+    Some(read4(body, 0))
 }

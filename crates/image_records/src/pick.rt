@@ -16,25 +16,19 @@ pub struct Pick {
     pub peer: u64,
 }
 
-#[derive(Drop)]
-pub enum PickRead {
-    Found(Pick),
-    Fault,
-}
-
-pub fn read_pick(bytes: &[u8], at: usize) -> PickRead
+pub fn read_pick(bytes: &[u8], at: usize) -> Option<Pick>
     ensures { PickJudged at bytes.now result }
 {
     if !stands(bytes, at, 7) {
-        return PickRead::Fault;
+        return None;
     }
     let body = body_of(bytes, at, 7);
     let has = read1(body, 8);
     let peer = read8(body, 9);
     if !peer_fits(has, peer) {
-        return PickRead::Fault;
+        return None;
     }
-    PickRead::Found(Pick {
+    Some(Pick {
         options: read2(body, 0),
         wanted: read2(body, 2),
         contiguous: read2(body, 4),

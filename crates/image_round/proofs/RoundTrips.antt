@@ -1,5 +1,6 @@
 -- What the writer wrote the reader reads as the same picker; what the reader read the writer writes again, byte for byte.
 -- Assumes the contracts of `write_image` and `read_image`.
+use Rattle.std.specs.Prelude.{Err, Ok, Result}
 use mathlib.Core.Path.{◌≡◌, refl, sym, ap, ◌∙◌, subst}
 use mathlib.Core.Bool.{Bool, true, false, cond}
 use mathlib.Core.List.{List}
@@ -19,16 +20,14 @@ use Rattle.memory_rows.specs.Lookup.{picker_in}
 use Rattle.ask_picker.specs.Asked.{Asked}
 use Rattle.image_write.specs.Written.{ImageWritten}
 use Rattle.image_store.specs.Stored.{Standing}
-use Rattle.image_read.specs.declared.whole.ImageRead.{ImageRead}
-use Rattle.image_read.specs.declared.whole.ImageRead.TheVariants.{Read as ReadRows, Refused}
 use Rattle.image_read.specs.Reading.{Made as Stood, ImageTold}
 use Rattle.image_read.proofs.PackLaws.{own_stands, own_is, count_is}
 
 -- ---- written, then read
 -- the reader answers so many rows, and the picker stands in the buffers
-pub record ReadAgain (d : Picker) (words cells words' cells' rows' : List ℕ) (r : ImageRead) : Type 0 where
+pub record ReadAgain (d : Picker) (words cells words' cells' rows' : List ℕ) (r : Result ℕ Refusal) : Type 0 where
   pub count : ℕ
-  pub answer : r ≡ ReadRows count
+  pub answer : r ≡ Ok count
   pub standing : Standing d count words cells words' cells' rows'
 
 made_one : (p q : Picker) → made p ≡ made q → p ≡ q
@@ -47,10 +46,10 @@ module _ (d : Picker) (before after : List ℕ) (n : ℕ) (w : ImageWritten d be
   read_is = ap (read_within (lengths lent words cells)) w.read
 
   -- in buffers that are long enough
-  pub written_is_read : is_short (lengths lent words cells) (memory_needed d) ≡ false → (rows words' cells' rows' : List ℕ) (r : ImageRead)
+  pub written_is_read : is_short (lengths lent words cells) (memory_needed d) ≡ false → (rows words' cells' rows' : List ℕ) (r : Result ℕ Refusal)
       → ImageTold lent (take n after) words cells rows words' cells' rows' r → ReadAgain d words cells words' cells' rows' r
   unfolding ImageTold
-  written_is_read t rows words' cells' rows' (ReadRows count) m =
+  written_is_read t rows words' cells' rows' (Ok count) m =
       let e : made m.picker ≡ made d = sym m.is ∙ read_is ∙ ap (λ (b : Bool). cond b (not_made ShortMemory) (made d)) t in
       record {
         count = count;
@@ -58,18 +57,18 @@ module _ (d : Picker) (before after : List ℕ) (n : ℕ) (w : ImageWritten d be
         standing =
             subst (λ (p : Picker). Standing p count words cells words' cells' rows') (made_one m.picker d e) m.standing;
       }
-  written_is_read t rows words' cells' rows' (Refused why) m =
+  written_is_read t rows words' cells' rows' (Err why) m =
       made_none d why (sym (ap (λ (b : Bool). cond b (not_made ShortMemory) (made d)) t) ∙ sym read_is ∙ m.is)
 
   -- in shorter ones it is refused with 2
-  pub written_is_short : is_short (lengths lent words cells) (memory_needed d) ≡ true → (rows words' cells' rows' : List ℕ) (r : ImageRead)
-      → ImageTold lent (take n after) words cells rows words' cells' rows' r → r ≡ Refused ShortMemory
+  pub written_is_short : is_short (lengths lent words cells) (memory_needed d) ≡ true → (rows words' cells' rows' : List ℕ) (r : Result ℕ Refusal)
+      → ImageTold lent (take n after) words cells rows words' cells' rows' r → r ≡ Err ShortMemory
   unfolding ImageTold
-  written_is_short t rows words' cells' rows' (ReadRows count) m =
+  written_is_short t rows words' cells' rows' (Ok count) m =
       made_none m.picker ShortMemory
       (sym m.is ∙ read_is ∙ ap (λ (b : Bool). cond b (not_made ShortMemory) (made d)) t)
-  written_is_short t rows words' cells' rows' (Refused why) m =
-      ap Refused (why_one why ShortMemory
+  written_is_short t rows words' cells' rows' (Err why) m =
+      ap Err (why_one why ShortMemory
       (sym m.is ∙ read_is ∙ ap (λ (b : Bool). cond b (not_made ShortMemory) (made d)) t))
 
 -- ---- read, then written

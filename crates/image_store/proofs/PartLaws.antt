@@ -1,4 +1,5 @@
 -- An accepted image taken apart: its pieces, partials, extents and list by their places. Assumes nothing.
+use Rattle.std.specs.Prelude.{IsSome, None, Option as Optional, Some}
 use mathlib.Core.Path.{◌≡◌, refl, sym, ap, ap₂, ◌∙◌, subst}
 use mathlib.Core.Bool.{Bool, true, false, cond, true≢false}
 use mathlib.Core.List.{List, [], ◌∷◌}
@@ -19,7 +20,6 @@ use Rattle.model.proofs.image.Codec.{got_value, got_rest, next_back}
 use Rattle.memory_layout.specs.Tables.{tabulate}
 use Rattle.memory_layout.proofs.TableLaws.{tabulate-len, tabulate_ext}
 use Rattle.image_pieces.specs.declared.head.Head.{Head}
-use Rattle.image_pieces.specs.declared.head.HeadRead.TheVariants.{Fault}
 use Rattle.image_pieces.specs.Heads.{head_step, head_picker}
 use Rattle.image_pieces.specs.Pieces.{piece_place, piece_in, first_pieces}
 use Rattle.image_pieces.proofs.NextLaws.{next-got, next-fault}
@@ -41,7 +41,7 @@ unfolding read_image
 image_got bytes p e = accepted-got (len bytes) (get_picker bytes) p e
 
 -- a head stands in front
-pub head_there : {X : Type 0} (bytes : List ℕ) → Image bytes → Fault ≡ head_step (judged head_kind read_head bytes) → X
+pub head_there : {X : Type 0} (bytes : List ℕ) → Image bytes → None ≡ head_step (judged head_kind read_head bytes) → X
 unfolding get_picker
 head_there bytes image f =
     let e = next-fault (judged head_kind read_head bytes) (λ h. λ l. next (get_pieces h 0 (num_pieces h.total_size h.piece_size) l) _)
@@ -49,6 +49,10 @@ head_there bytes image f =
     let g = sym e ∙ image_got bytes image.picker image.is in
     let z : ◌≡◌ {A = ℕ} 0 1 = cc in
     absurd (omega arith)
+
+pub head_found : (bytes : List ℕ) → Image bytes → (r : Optional Head) → r ≡ head_step (judged head_kind read_head bytes) → IsSome r
+head_found bytes image None f = head_there bytes image f
+head_found bytes image (Some head) f = refl
 
 -- ---- its parts
 pub record Parts (head : Head) (n : ℕ) (bytes : List ℕ) (p : Picker) : Type 0 where

@@ -15,10 +15,8 @@ pub fn store_list(bytes: &[u8], at: usize, many: usize, ranks: &[u16], n: usize,
         words.old words.new }
 {
     let start = 16 + n;
-    let mut j = 0;
-    while j < many {
+    for j in 0..many {
         let piece = read4(bytes, at + 5 * j + 1);
         words[start + j] = list_word(ranks[u64_to_usize(piece)], piece);
-        j += 1;
     }
 }

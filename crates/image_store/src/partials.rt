@@ -64,10 +64,8 @@ pub fn store_partials(
         at: 24 + 10 * s.pieces,
         many: 0,
     };
-    let mut i = 0;
-    while i < s.pieces {
+    for i in 0..s.pieces {
         w = pass_piece(bytes, head, s, i, w, words, cells, rows);
-        i += 1;
     }
     w
 }

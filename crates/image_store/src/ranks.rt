@@ -25,10 +25,8 @@ fn rank_rows(
         ranks.old ranks.new }
 {
     let n = counts.len();
-    let mut i = 0;
-    while i < n {
+    for i in 0..n {
         ranks[i] = rank_in(seeds, counts[i], states[i], priorities[i], flushed[i]);
-        i += 1;
     }
 }
 

@@ -13,14 +13,12 @@ fn count_extents(bytes: &[u8], at: usize) -> usize
     requires { at ≤ length bytes.now }
     ensures { Extents at bytes.now result }
 {
-    let mut k = 0;
-    while k < 5 {
+    for k in 0..5 {
         if !stands(bytes, at + 5 * k, 5) {
             return k;
         }
-        k += 1;
     }
-    k
+    5
 }
 
 // Extents and list from `at` on, and how many there are of each, with `live` partials before them.

@@ -7,7 +7,7 @@ use crate::partials::store_partials;
 use crate::ranks::rank_pieces;
 use crate::tail::store_tail;
 use image_columns::{store_head, store_pieces};
-use image_pieces::{HeadRead, read_head};
+use image_pieces::read_head;
 use memory_layout::shape_of;
 
 // The picker of an accepted image, in buffers that are long enough for it. The answer is how many rows are its partials.
@@ -17,9 +17,7 @@ pub fn store_image(bytes: &[u8], words: &mut [u64], cells: &mut [u16], rows: &mu
     ensures { ImageStored bytes.now result words.old cells.old
         words.new cells.new rows.new }
 {
-    let HeadRead::Found(head) = read_head(bytes) else {
-        return 0;
-    };
+    let head = read_head(bytes).unwrap();
     store_head(words, head);
     let s = shape_of(words);
     store_pieces(bytes, s.pieces, words, cells);

@@ -1,4 +1,5 @@
 -- The extents of an image: a pass over those before, and one turn of the pass over all. Assumes nothing.
+use Rattle.std.specs.Prelude.{Err, Ok}
 use mathlib.Core.Path.{◌≡◌, refl, sym, ap, ◌∙◌}
 use mathlib.Core.Bool.{Bool, true, false, not, ◌&&◌, ◌||◌}
 use mathlib.Core.List.{List, [], ◌∷◌, ◌++◌}
@@ -23,7 +24,6 @@ use Rattle.image_bytes.specs.Put.{FieldRead}
 use Rattle.image_bytes.proofs.FieldLaws.{field_inside}
 use Rattle.image_records.specs.Records.{body_at, number_in}
 use Rattle.image_records.proofs.FoundLaws.{NumberGot, judged_under, judged_over}
-use Rattle.image_pieces.specs.declared.place.Place.TheVariants.{At, Fault}
 use Rattle.image_pieces.specs.Places.{Went}
 use Rattle.image_pieces.proofs.NextLaws.{next-got, next-fault}
 use Rattle.image_tail.specs.Extents.{extent_at, extents_before, ExtentsJudged}
@@ -121,7 +121,7 @@ number_at at bytes x g =
 
 module _ (start limit : ℕ) (bytes : List ℕ) (at k : ℕ) (p : Reading start limit bytes at k) where
   -- no record of that kind comes
-  pub reading_ends : comes extent_kind (drop at bytes) ≡ false → ExtentsJudged start limit bytes (At at)
+  pub reading_ends : comes extent_kind (drop at bytes) ≡ false → ExtentsJudged start limit bytes (Ok at)
   unfolding Went
   reading_ends e s l = record {
     value = extents_before start k bytes;
@@ -130,7 +130,7 @@ module _ (start limit : ℕ) (bytes : List ℕ) (at k : ℕ) (p : Reading start 
   }
 
   -- one more than are allowed
-  pub reading_full : max_extents ≤ k → comes extent_kind (drop at bytes) ≡ true → ExtentsJudged start limit bytes (Fault at)
+  pub reading_full : max_extents ≤ k → comes extent_kind (drop at bytes) ≡ true → ExtentsJudged start limit bytes (Err at)
   unfolding Went
   reading_full h e s l =
       let z : max_extents - k ≡ 0 = omega arith in
@@ -154,7 +154,7 @@ module _ (start limit : ℕ) (bytes : List ℕ) (at k : ℕ) (p : Reading start 
     -- a fault of its reader
     stops : ((s : Picker) → num_extents (pieces_in s) (blocks_per_piece s) ≡ limit
         → judged extent_kind (read_extent s (extents_before start k bytes)) (drop at bytes) ≡ fault (drop at bytes)) → ExtentsJudged start
-        limit bytes (Fault at)
+        limit bytes (Err at)
     unfolding Went
     stops f s l = record {
       is = step_left s l ∙ next-fault _ (λ e. get_extents s (max_extents - (k + 1)) (extents_before start k bytes ++ (e ∷ [])))
@@ -162,7 +162,7 @@ module _ (start limit : ℕ) (bytes : List ℕ) (at k : ℕ) (p : Reading start 
       within = p.room;
     }
 
-    pub reading_fault : judged extent_kind number_in (drop at bytes) ≡ fault (drop at bytes) → ExtentsJudged start limit bytes (Fault at)
+    pub reading_fault : judged extent_kind number_in (drop at bytes) ≡ fault (drop at bytes) → ExtentsJudged start limit bytes (Err at)
     unfolding read_extent ruled number_in
     reading_fault e = stops (λ s l. ruled-fault extent_kind at bytes (extent_ok s (extents_before start k bytes)) e)
 
@@ -188,7 +188,7 @@ module _ (start limit : ℕ) (bytes : List ℕ) (at k : ℕ) (p : Reading start 
       ]
 
       pub reading_breaks : (found : Bool) → found ≡ member x (extents_before start k bytes) → (leb limit x || found) ≡ true
-          → ExtentsJudged start limit bytes (Fault at)
+          → ExtentsJudged start limit bytes (Err at)
       unfolding read_extent ruled number_in
       reading_breaks found ef e =
           stops (λ s l.

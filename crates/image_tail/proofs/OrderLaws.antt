@@ -1,4 +1,5 @@
 -- One turn of the pass over the list places: the rank of a piece that was listed is 0, and any other is its own. Assumes nothing.
+use Rattle.std.specs.Prelude.{Err, None, Ok, Option as Optional, Result, Some}
 use mathlib.Core.Path.{◌≡◌, refl, sym, ap, ◌∙◌, subst}
 use mathlib.Core.Bool.{Bool, true, false, cond, not, ◌&&◌, and-false, or-true, or-false}
 use mathlib.Core.List.{List, [], ◌∷◌, ◌++◌}
@@ -22,12 +23,8 @@ use Rattle.model.proofs.base.Truths.{both_true}
 use Rattle.check_pieces.proofs.Tails.{member_behind, last_behind, count_below}
 use Rattle.check_list.specs.Places.{ranked_in}
 use Rattle.check_list.proofs.ListTests.{left_of}
-use Rattle.image_pieces.specs.declared.place.Place.{Place}
-use Rattle.image_pieces.specs.declared.place.Place.TheVariants.{At, Fault}
 use Rattle.image_pieces.specs.Places.{Went}
 use Rattle.image_pieces.proofs.NextLaws.{next-got, next-fault}
-use Rattle.image_tail.specs.declared.order.PlaceRank.{PlaceRank}
-use Rattle.image_tail.specs.declared.order.PlaceRank.TheVariants.{Rank, Fault as NoPlace}
 use Rattle.image_tail.specs.Order.{place_in, place_by, Found, Taken, RanksOf, OrderJudged, ListingJudged}
 
 -- a reader of bodies that gives the same is judged the same
@@ -159,7 +156,7 @@ module _ (n w start many : ℕ) (bytes first ranks : List ℕ) (last at k : ℕ)
         ∙ ap (λ (g : Got ℕ). next g (λ i. get_order s (many - (k + 1)) (q.before ++ (i ∷ []))))
         (read_same s n ranks last q.before q.placed p.least (drop at bytes))
 
-    stops : (exit : List ℕ) → Taken n last at bytes ranks exit NoPlace → OrderJudged start many n first bytes (Fault at)
+    stops : (exit : List ℕ) → Taken n last at bytes ranks exit None → OrderJudged start many n first bytes (Err at)
     unfolding Went Found
     stops exit t s r = record {
       is = step_left s (p.of s r) ∙ next-fault _ (λ i. get_order s (many - (k + 1)) ((p.of s r).before ++ (i ∷ []))) (drop at bytes)
@@ -167,7 +164,7 @@ module _ (n w start many : ℕ) (bytes first ranks : List ℕ) (last at k : ℕ)
       within = p.room;
     }
 
-    goes_on : (exit : List ℕ) (x : ℕ) → Taken n last at bytes ranks exit (Rank x) → Reading n w start many bytes first exit x (at + 5)
+    goes_on : (exit : List ℕ) (x : ℕ) → Taken n last at bytes ranks exit (Some x) → Reading n w start many bytes first exit x (at + 5)
         (k + 1)
     unfolding Found
     goes_on exit x t =
@@ -192,15 +189,15 @@ module _ (n w start many : ℕ) (bytes first ranks : List ℕ) (last at k : ℕ)
               };
         }
 
-    pub reading_fault : (exit : List ℕ) (r : PlaceRank) → Taken n last at bytes ranks exit r → r ≡ NoPlace → OrderJudged start many n
-        first bytes (Fault at)
+    pub reading_fault : (exit : List ℕ) (r : Optional ℕ) → Taken n last at bytes ranks exit r → r ≡ None → OrderJudged start many n
+        first bytes (Err at)
     reading_fault exit r t e = stops exit (subst (Taken n last at bytes ranks exit) e t)
 
-    pub reading_next : (exit : List ℕ) (r : PlaceRank) → Taken n last at bytes ranks exit r → (x : ℕ) → r ≡ Rank x
+    pub reading_next : (exit : List ℕ) (r : Optional ℕ) → Taken n last at bytes ranks exit r → (x : ℕ) → r ≡ Some x
         → Reading n w start many bytes first exit x (at + 5) (k + 1)
     reading_next exit r t x e = goes_on exit x (subst (Taken n last at bytes ranks exit) e t)
 
-  pub reading_end : many ≤ k → OrderJudged start many n first bytes (At at)
+  pub reading_end : many ≤ k → OrderJudged start many n first bytes (Ok at)
   unfolding Went get_order
   reading_end h s r =
       let e : many - k ≡ 0 = omega arith in
@@ -211,17 +208,17 @@ module _ (n w start many : ℕ) (bytes first ranks : List ℕ) (last at k : ℕ)
       }
 
 -- ---- a reader that ends with what it found
-pub went_on : {A B : Type 0} (bytes : List ℕ) (g : Got A) (f : A → B) (to : Place) → Went g bytes to → Went (next g (λ x. ret (f x)))
+pub went_on : {A B : Type 0} (bytes : List ℕ) (g : Got A) (f : A → B) (to : Result ℕ ℕ) → Went g bytes to → Went (next g (λ x. ret (f x)))
     bytes to
 unfolding Went
-went_on bytes g f (At k) w =
+went_on bytes g f (Ok k) w =
     record { value = f w.value; is = next-got g (λ x. ret (f x)) w.value (drop k bytes) w.is; within = w.within }
-went_on bytes g f (Fault k) w = record { is = next-fault g (λ x. ret (f x)) (drop k bytes) w.is; within = w.within }
+went_on bytes g f (Err k) w = record { is = next-fault g (λ x. ret (f x)) (drop k bytes) w.is; within = w.within }
 
 -- ---- the list
 -- a dirty one has no place
 pub listing_dirty : (at n : ℕ) (is_dirty : Bool) (ranks bytes : List ℕ) → is_dirty ≡ true → at ≤ length bytes
-    → ListingJudged at is_dirty n ranks bytes (At at)
+    → ListingJudged at is_dirty n ranks bytes (Ok at)
 unfolding Went get_listing
 listing_dirty at n is_dirty ranks bytes e h s r = record {
   value = dirty;
@@ -243,6 +240,6 @@ module _ (at n : ℕ) (is_dirty : Bool) (ranks bytes : List ℕ) (e : is_dirty �
   listing_is s r many em =
       rw (e, many_is s r, em)
 
-  pub listing_fresh : (many : ℕ) → many ≡ ranked_in ranks n → (to : Place) → OrderJudged at many n ranks bytes to → ListingJudged at
+  pub listing_fresh : (many : ℕ) → many ≡ ranked_in ranks n → (to : Result ℕ ℕ) → OrderJudged at many n ranks bytes to → ListingJudged at
       is_dirty n ranks bytes to
   listing_fresh many em to o s r = rw (listing_is s r many em) (went_on bytes (get_order s many [] (drop at bytes)) fresh to (o s r))

@@ -1,9 +1,8 @@
 -- The extents of an image as they are read. Assumes nothing.
-use Rattle.std.specs.Prelude.{ℕ, ◌+◌, ◌*◌, ◌≡◌, List, [], drop}
+use Rattle.std.specs.Prelude.{ℕ, ◌+◌, ◌*◌, ◌≡◌, List, [], drop, Result}
 use Rattle.model.specs.State.{Picker, max_extents, pieces_in, blocks_per_piece, num_extents}
 use Rattle.model.specs.image.Image.{field, get_extents}
 use Rattle.memory_layout.specs.Tables.{tabulate}
-use Rattle.image_pieces.specs.declared.place.Place.{Place}
 use Rattle.image_pieces.specs.Places.{Went}
 
 -- extent j of those that stand from `start` on
@@ -15,6 +14,6 @@ unfoldable pub extents_before : (start k : ℕ) (bytes : List ℕ) → List ℕ
 extents_before start k bytes = tabulate k (extent_at start bytes)
 
 -- for every picker that has so many extents
-abbrev pub ExtentsJudged : (start limit : ℕ) (bytes : List ℕ) (r : Place) → Type 0
+abbrev pub ExtentsJudged : (start limit : ℕ) (bytes : List ℕ) (r : Result ℕ ℕ) → Type 0
 ExtentsJudged start limit bytes r =
     (s : Picker) → num_extents (pieces_in s) (blocks_per_piece s) ≡ limit → Went (get_extents s max_extents [] (drop start bytes)) bytes r

@@ -4,46 +4,41 @@ ghost use Rattle.model.specs.Lists.{member};
 ghost use Rattle.image_tail.specs.Extents.{extents_before, ExtentsJudged};
 
 use image_bytes::read4;
-use image_pieces::Place;
-use image_records::{NumberRead, comes, read_number};
+use image_records::{comes, read_number};
 
 // Whether one of the first k extents, which stand from `start` on, is e.
 fn among(bytes: &[u8], start: usize, k: usize, e: u64) -> bool
     requires { (k ≤ 5) × (start + 5 * k ≤ length bytes.now) }
     ensures { result ≡ member e (extents_before start k bytes.now) }
 {
-    let mut j = 0;
-    while j < k {
+    for j in 0..k {
         if e == read4(bytes, start + 5 * j + 1) {
             return true;
         }
-        j += 1;
     }
     false
 }
 
 // Extents from `start` on, as long as records of that kind come, where there are `limit` of them in the torrent.
-pub fn read_extents(bytes: &[u8], start: usize, limit: u64) -> Place
+pub fn read_extents(bytes: &[u8], start: usize, limit: u64) -> Result<usize, usize>
     requires { start ≤ length bytes.now }
     ensures { ExtentsJudged start limit bytes.now result }
 {
     let mut at = start;
-    let mut k = 0;
-    while k < 5 {
+    for k in 0..5 {
         if !comes(bytes, at, 5) {
-            return Place::At(at);
+            return Ok(at);
         }
-        let NumberRead::Found(e) = read_number(bytes, at, 5) else {
-            return Place::Fault(at);
+        let Some(e) = read_number(bytes, at, 5) else {
+            return Err(at);
         };
         if (limit <= e) | among(bytes, start, k, e) {
-            return Place::Fault(at);
+            return Err(at);
         }
         at += 5;
-        k += 1;
     }
     if comes(bytes, at, 5) {
-        return Place::Fault(at);
+        return Err(at);
     }
-    Place::At(at)
+    Ok(at)
 }

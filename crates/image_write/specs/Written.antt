@@ -1,5 +1,5 @@
 -- An image in a lent buffer, and how long it is. Assumes nothing.
-use Rattle.std.specs.Prelude.{ℕ, ◌<◌, ◌≡◌, List, length, take}
+use Rattle.std.specs.Prelude.{ℕ, ◌<◌, ◌≡◌, List, length, take, None, Option, Some}
 use Rattle.model.specs.Lists.{len}
 use Rattle.model.specs.State.{Picker}
 use Rattle.model.specs.image.Image.{image, accepted, read_image}
@@ -7,8 +7,6 @@ use Rattle.memory_layout.specs.declared.shape.Shape.{Shape}
 use Rattle.memory_rows.specs.Lookup.{picker_in}
 use Rattle.ask_picker.specs.Asked.{Asked}
 use Rattle.image_bytes.specs.Put.{Put}
-use Rattle.image_write.specs.declared.whole.Taken.{Taken}
-use Rattle.image_write.specs.declared.whole.Taken.TheVariants.{Bytes, Short}
 
 -- a well-formed picker stands with some cells beside these words and rows
 pub record AskedBeside (s : Shape) (live : ℕ) (rows words : List ℕ) : Type 0 where
@@ -26,6 +24,6 @@ pub record ImageWritten (d : Picker) (before after : List ℕ) (r : ℕ) : Type 
   pub read : read_image (take r after) ≡ accepted d
 
 -- it is written where it has room, and else nothing is
-abbrev pub ImageTaken : (d : Picker) (before after : List ℕ) (r : Taken) → Type 0
-ImageTaken d before after (Bytes n) = ImageWritten d before after n
-ImageTaken d before after Short = (length before < len (image d)) × (after ≡ before)
+abbrev pub ImageTaken : (d : Picker) (before after : List ℕ) (r : Option ℕ) → Type 0
+ImageTaken d before after (Some n) = ImageWritten d before after n
+ImageTaken d before after None = (length before < len (image d)) × (after ≡ before)

@@ -16,10 +16,8 @@ fn blocks_of_rows(words: &[u64], rows: &[u32], live: usize, s: Shape) -> u64
     let total = head_word(words, 0);
     let size = head_word(words, 1);
     let mut sum = 0;
-    let mut k = 0;
-    while k < live {
+    for k in 0..live {
         sum += blocks_at(total, size, usize_to_u64(u32_to_usize(rows[k])));
-        k += 1;
     }
     sum
 }

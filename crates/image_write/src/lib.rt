@@ -6,4 +6,4 @@ mod lengths;
 mod whole;
 
 pub use lengths::image_length;
-pub use whole::{Taken, take_image, write_image};
+pub use whole::{take_image, write_image};

@@ -33,13 +33,6 @@ pub fn write_image(
     put_list(words, s, bytes, extents)
 }
 
-// How many bytes were written, or that the buffer is shorter than the image.
-#[derive(Drop)]
-pub enum Taken {
-    Bytes(usize),
-    Short,
-}
-
 // The image where it has room; else nothing is written.
 pub fn take_image(
     words: &[u64],
@@ -48,14 +41,14 @@ pub fn take_image(
     live: usize,
     s: Shape,
     bytes: &mut [u8],
-) -> Taken
+) -> Option<usize>
     requires { Asked s live rows.now words.now cells.now }
     ensures { ImageTaken (picker_in live rows.now words.now cells.now) bytes.old
         bytes.new result }
 {
     let long = image_length(words, rows, live, s);
     if bytes.len() < long {
-        return Taken::Short;
+        return None;
     }
-    Taken::Bytes(write_image(words, cells, rows, live, s, bytes))
+    Some(write_image(words, cells, rows, live, s, bytes))
 }

@@ -8,8 +8,6 @@ ghost use Rattle.model.specs.image.Program.{get_job};
 ghost use Rattle.image_judge.specs.Verdicts.{verdict_of, job_verdict};
 ghost use Rattle.link_judge.specs.Places.{place_of, job_place};
 
-use image_judge::{JobRead, Verdict};
-
 // Where no fault is.
 const NO_FAULT: usize = 18446744073709551615;
 
@@ -19,8 +17,8 @@ pub extern "C" fn im_judge_image(bytes: &[u8]) -> usize
     ensures { result ≡ place_of (verdict_of (read_image bytes.now)) }
 {
     match image_judge::judge_image(bytes) {
-        Verdict::Accepted => NO_FAULT,
-        Verdict::Fault(k) => k,
+        Ok(()) => NO_FAULT,
+        Err(k) => k,
     }
 }
 
@@ -30,7 +28,7 @@ pub extern "C" fn im_judge_job(bytes: &[u8]) -> usize
     ensures { result ≡ job_place (job_verdict (whole (len bytes.now) (get_job bytes.now))) }
 {
     match image_judge::judge_job(bytes) {
-        JobRead::Found(_) => NO_FAULT,
-        JobRead::Fault(k) => k,
+        Ok(_) => NO_FAULT,
+        Err(k) => k,
     }
 }

@@ -4,8 +4,6 @@
 ghost use Rattle.std.specs.Prelude.{◌≡◌, length};
 ghost use Rattle.link_read.specs.Numbers.{Answered};
 
-use image_read::ImageRead;
-
 // Any bytes read into the buffers, where `lent` records are lent. Answers the number of the refusal, or 0: then the first rows are the
 // picker's partials, as many as word 7 says.
 #[unsafe(no_mangle)]
@@ -21,7 +19,7 @@ pub extern "C" fn im_read(
         words.new cells.new rows.new result }
 {
     match image_read::read_image(bytes, words, cells, rows, lent) {
-        ImageRead::Read(_) => 0,
-        ImageRead::Refused(why) => why.number(),
+        Ok(_) => 0,
+        Err(why) => why.number(),
     }
 }

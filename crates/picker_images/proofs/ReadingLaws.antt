@@ -1,5 +1,6 @@
 -- Reading an image, arm by arm: refused, or read. Assumes nothing.
-use mathlib.Core.Path.{◌≡◌, sym, ap, subst, ◌∙◌}
+use Rattle.std.specs.Prelude.{Err, Ok, Result}
+use mathlib.Core.Path.{◌≡◌, refl, sym, ap, subst, ◌∙◌}
 use mathlib.Core.List.{List}
 use mathlib.Core.Option.{none, some}
 use Prim.Native.Nat.{ℕ}
@@ -12,17 +13,16 @@ use Rattle.memory_records.specs.declared.record.DownloadingPiece.{DownloadingPie
 use Rattle.memory_records.specs.Rows.{packed}
 use Rattle.memory_records.proofs.laws.RowLaws.{length-packed}
 use Rattle.memory_layout.specs.Good.{lengths, memory_refusal}
-use Rattle.image_read.specs.declared.whole.ImageRead.{ImageRead}
-use Rattle.image_read.specs.declared.whole.ImageRead.TheVariants.{Read, Refused}
 use Rattle.image_read.specs.Reading.{Made as Told, ImageTold}
 use Rattle.image_read.proofs.PackLaws.{pack_fits, packed_is, packed_good, packed_beyond}
 use Rattle.picker_calls.specs.Calling.{picker_on, memory_on}
 use Rattle.picker_calls.specs.Cores.{lending}
 use Rattle.picker_calls.specs.Starting.{lengths_on, KeptBeyond}
 use Rattle.picker_calls.proofs.StartingLaws.{making_refused, making_done}
+use Rattle.picker_images.specs.Answers.{why_not_read, count_read}
 use Rattle.picker_images.specs.Making.{ReadDone}
 
-module _ (words cells rows : List ℕ) (lent : ℕ) (bytes words' cells' rows' : List ℕ) (v : ImageRead)
+module _ (words cells rows : List ℕ) (lent : ℕ) (bytes words' cells' rows' : List ℕ) (v : Result ℕ Refusal)
     (h : ImageTold lent bytes words cells rows words' cells' rows' v) where
   -- what is to be made, with any records
   abbrev asked : (partials : List Record) → Made
@@ -32,7 +32,7 @@ module _ (words cells rows : List ℕ) (lent : ℕ) (bytes words' cells' rows' :
   unfolding lengths_on
   named partials l = ap (λ (n : ℕ). read_picker (lengths n words cells) bytes) l
 
-  pub refused_read : (why : Refusal) → v ≡ Refused why → ReadDone words cells lent bytes words' cells' rows' (some why) 0
+  refused_read : (why : Refusal) → v ≡ Err why → ReadDone words cells lent bytes words' cells' rows' (some why) 0
   unfolding ImageTold packed
   refused_read why e =
       let n = subst (ImageTold lent bytes words cells rows words' cells' rows') e h in
@@ -43,7 +43,7 @@ module _ (words cells rows : List ℕ) (lent : ℕ) (bytes words' cells' rows' :
         done = λ partials l. making_refused (lending words cells partials) (asked partials) why (named partials l ∙ n.is);
       }))
 
-  module _ (count : ℕ) (e : v ≡ Read count) where
+  module _ (count : ℕ) (e : v ≡ Ok count) where
     m : Told lent count bytes words cells words' cells' rows'
     unfolding ImageTold
     m = subst (ImageTold lent bytes words cells rows words' cells' rows') e h
@@ -60,7 +60,7 @@ module _ (words cells rows : List ℕ) (lent : ℕ) (bytes words' cells' rows' :
       partials = packed_beyond lent count bytes words cells words' cells' rows' m partials l;
     }
 
-    pub done_read : ReadDone words cells lent bytes words' cells' rows' none count
+    done_read : ReadDone words cells lent bytes words' cells' rows' none count
     unfolding picker_on memory_on
     done_read = record {
       fits = λ partials l. pack_fits lent count bytes words cells words' cells' rows' m partials l;
@@ -71,3 +71,11 @@ module _ (words cells rows : List ℕ) (lent : ℕ) (bytes words' cells' rows' :
           (sym (length-packed count rows' partials ∙ l)) (packed_good lent count bytes words cells words' cells' rows' m partials l))
           (kept partials l);
     }
+
+  -- either way
+  pub read_done : ReadDone words cells lent bytes words' cells' rows' (why_not_read v) (count_read v)
+  read_done = either v refl
+    where
+      either : (r : Result ℕ Refusal) → v ≡ r → ReadDone words cells lent bytes words' cells' rows' (why_not_read r) (count_read r)
+      either (Err why) e = refused_read why e
+      either (Ok count) e = done_read count e

@@ -1,4 +1,6 @@
 -- Taking the image, arm by arm: the memory refused, the bytes refused, taken. Assumes nothing.
+use Rattle.std.specs.Prelude.{Err, None, Ok, Option as Optional, Result, Some}
+use Rattle.std.specs.Option.{ok_or}
 use mathlib.Core.Path.{◌≡◌, refl, sym, ap, subst, ◌∙◌}
 use mathlib.Core.Bool.{Bool, false, cond}
 use mathlib.Core.List.{List, ◌++◌}
@@ -26,11 +28,7 @@ use Rattle.memory_rows.specs.Lookup.{picker_in}
 use Rattle.check_pieces.proofs.ExtentTests.{pieces_in_lem}
 use Rattle.check_memory.proofs.Standing.{parts_pass}
 use Rattle.ask_picker.specs.Asked.{Asked}
-use Rattle.image_write.specs.declared.whole.Taken.{Taken as Wrote}
-use Rattle.image_write.specs.declared.whole.Taken.TheVariants.{Bytes, Short}
 use Rattle.image_write.specs.Written.{ImageTaken}
-use Rattle.picker_calls.specs.declared.admission.Admission.{Admission}
-use Rattle.picker_calls.specs.declared.admission.Admission.TheVariants.{Refused as Barred, At}
 use Rattle.picker_calls.specs.Calling.{Lent, picker_on, memory_on, of_memory, refusal_on}
 use Rattle.picker_calls.specs.Cores.{lending, Listless, Stood, Admitted}
 use Rattle.picker_calls.specs.Starting.{lengths_on, unless_ill, taken_on, wrote, not_written}
@@ -38,6 +36,7 @@ use Rattle.picker_calls.proofs.AdmissionLaws.{refused_memory, admitted_memory}
 use Rattle.picker_calls.proofs.CallLaws.{stood_picker, stood_memory}
 use Rattle.picker_calls.proofs.CoreLaws.{stood_at}
 use Rattle.picker_calls.proofs.StartingLaws.{image_refused, image_done}
+use Rattle.picker_images.specs.Answers.{image_answer}
 use Rattle.picker_images.specs.Making.{ImageDone}
 
 -- ---- the memory
@@ -70,9 +69,9 @@ front : (n : ℕ) → 0 + n ≡ n
 front n = omega arith
 
 module _ (words cells rows counts : List ℕ) (lent : ℕ) where
-  module _ (v : Admission) (g : Admitted words cells rows counts lent v) where
+  module _ (v : Result Shape Refusal) (g : Admitted words cells rows counts lent v) where
     -- what an admitted memory gives, with its live records as the code counts them
-    pub stood_live : (s : Shape) → v ≡ At s → (live : ℕ) → live ≡ live_records words → Stood s live lent rows counts words cells
+    pub stood_live : (s : Shape) → v ≡ Ok s → (live : ℕ) → live ≡ live_records words → Stood s live lent rows counts words cells
     stood_live s e live many =
         let t = stood_at words cells rows counts lent v g s e in
         subst (λ (n : ℕ). Stood s n lent rows counts words cells) (t.rowed ∙ sym many) t
@@ -81,8 +80,8 @@ module _ (words cells rows counts : List ℕ) (lent : ℕ) where
   asked s live t = record { stands = t.stands; many = t.many; wide = t.long_rows }
 
 module _ (words cells rows : List ℕ) (lent : ℕ) (before : List ℕ) where
-  module _ (counts : List ℕ) (v : Admission) (g : Admitted words cells rows counts lent v) where
-    pub barred : (why : Refusal) → v ≡ Barred why → ImageDone words cells rows lent before before (not_written why)
+  module _ (counts : List ℕ) (v : Result Shape Refusal) (g : Admitted words cells rows counts lent v) where
+    pub barred : (why : Refusal) → v ≡ Err why → ImageDone words cells rows lent before before (not_written why)
     unfolding Admitted taken_on unless_ill
     barred why e =
         let h = subst (Admitted words cells rows counts lent) e g in
@@ -114,8 +113,8 @@ module _ (words cells rows : List ℕ) (lent : ℕ) (before : List ℕ) where
           ∙ ap (λ (p : Picker). cond (ltb (length before) (len (image p))) (not_taken ShortMemory) (taken (image p)))
           (stood_picker s live lent rows counts words cells t partials l r))
 
-    module _ (after : List ℕ) (v : Wrote) (w : ImageTaken d before after v) where
-      pub too_short : v ≡ Short → ImageDone words cells rows lent before after (not_written ShortMemory)
+    module _ (after : List ℕ) (v : Optional ℕ) (w : ImageTaken d before after v) where
+      too_short : v ≡ None → ImageDone words cells rows lent before after (not_written ShortMemory)
       too_short e =
           let h = subst (ImageTaken d before after) e w in
           subst (λ (bs : List ℕ). ImageDone words cells rows lent before bs (not_written ShortMemory)) (sym h.1)
@@ -125,7 +124,7 @@ module _ (words cells rows : List ℕ) (lent : ℕ) (before : List ℕ) where
                 ∙ ap (λ (b : Bool). cond b (not_taken ShortMemory) (taken (image d))) (lt-ltb (length before) (len (image d)) h.0));
           })
 
-      pub taken_whole : (n : ℕ) → v ≡ Bytes n → ImageDone words cells rows lent before after (wrote n)
+      taken_whole : (n : ℕ) → v ≡ Some n → ImageDone words cells rows lent before after (wrote n)
       unfolding len
       taken_whole n e =
           let h = subst (ImageTaken d before after) e w in
@@ -137,3 +136,11 @@ module _ (words cells rows : List ℕ) (lent : ℕ) (before : List ℕ) where
                 (le-ltb (length before) (len (image d)) (omega (arith, h.put.fits))))
                 (h.put.is ∙ ap (λ (k : ℕ). image d ++ drop k before) (front (length (image d))));
           })
+
+      -- either way
+      pub taken_or_short : (r : Result ℕ Refusal) → r ≡ ok_or v ShortMemory → ImageDone words cells rows lent before after (image_answer r)
+      taken_or_short r e = rw e (either v refl)
+        where
+          either : (o : Optional ℕ) → v ≡ o → ImageDone words cells rows lent before after (image_answer (ok_or o ShortMemory))
+          either None e = too_short e
+          either (Some n) e = taken_whole n e

@@ -1,18 +1,25 @@
 -- What the answers of these calls are in the relations of `picker_calls`, specs/Starting. Assumes nothing.
+use Rattle.std.specs.Prelude.{ℕ, Err, Ok, Result, ⊤}
 use Rattle.std.proofs.Math.Option.{Option, none, some}
 use Rattle.types.specs.declared.refusal.Refusal.{Refusal}
 use Rattle.picker_calls.specs.Starting.{Written, wrote, not_written}
-use Rattle.picker_images.specs.declared.answers.Making.{Making}
-use Rattle.picker_images.specs.declared.answers.Making.TheVariants.{Refused as NotMade, Made}
-use Rattle.picker_images.specs.declared.answers.ImageTaken.{ImageTaken}
-use Rattle.picker_images.specs.declared.answers.ImageTaken.TheVariants.{Refused as NotTaken, Bytes}
 
 -- why there is no picker
-abbrev pub why_not : (r : Making) → Option Refusal
-why_not (NotMade why) = some why
-why_not Made = none
+abbrev pub why_not : (r : Result ⊤ Refusal) → Option Refusal
+why_not (Err why) = some why
+why_not (Ok tt) = none
+
+-- the same, where how many rows are records is told
+abbrev pub why_not_read : (r : Result ℕ Refusal) → Option Refusal
+why_not_read (Err why) = some why
+why_not_read (Ok n) = none
+
+-- how many rows are
+abbrev pub count_read : (r : Result ℕ Refusal) → ℕ
+count_read (Err why) = 0
+count_read (Ok n) = n
 
 -- how many bytes the image has
-abbrev pub image_answer : (r : ImageTaken) → Written
-image_answer (NotTaken why) = not_written why
-image_answer (Bytes n) = wrote n
+abbrev pub image_answer : (r : Result ℕ Refusal) → Written
+image_answer (Err why) = not_written why
+image_answer (Ok n) = wrote n

@@ -2,13 +2,11 @@
 // says, with every buffer as it was, or does what the definition does.
 #![tactic(auto, using(picker_calls::proofs::PublicLaws::public_calls))]
 
-mod answers;
 mod making;
 mod needs;
 mod reading;
 mod taking;
 
-pub use answers::{ImageTaken, Making};
 pub use making::new;
 pub use needs::{image_needed, memory_needed};
 pub use reading::read_image;

@@ -4,7 +4,6 @@ ghost use Rattle.picker_calls.specs.Starting.{NewCalled};
 ghost use Rattle.picker_images.specs.Answers.{why_not};
 ghost use Rattle.picker_images.specs.Making.{NewDone};
 
-use crate::answers::Making;
 use crate::needs::is_short;
 use geometry::valid_geometry;
 use memory_new::make;
@@ -18,20 +17,20 @@ fn new_core(
     lent: usize,
     total_size: i64,
     piece_size: i32,
-) -> Making
+) -> Result<(), Refusal>
     ensures { NewDone words.old cells.old lent total_size piece_size words.new
         cells.new (why_not result) }
 {
     let total = i64_to_u64(total_size);
     let size = usize_to_u64(i32_to_usize(piece_size));
     if !valid_geometry(total, size) {
-        return Making::Refused(Refusal::Geometry);
+        return Err(Refusal::Geometry);
     }
     if is_short(words, cells, lent, total, size) {
-        return Making::Refused(Refusal::ShortMemory);
+        return Err(Refusal::ShortMemory);
     }
     make(words, cells, total, size);
-    Making::Made
+    Ok(())
 }
 
 // A picker of this geometry, whatever the buffers held.
@@ -41,7 +40,7 @@ pub fn new(
     partials: &mut [DownloadingPiece],
     total_size: i64,
     piece_size: i32,
-) -> Making
+) -> Result<(), Refusal>
     ensures { NewCalled (lending words.old cells.old partials.old) total_size piece_size
         (lending words.new cells.new partials.new) (why_not result) }
 {

@@ -5,10 +5,8 @@ ghost use Rattle.picker_calls.specs.Starting.{ImageCalled};
 ghost use Rattle.picker_images.specs.Answers.{image_answer};
 ghost use Rattle.picker_images.specs.Making.{ImageDone};
 
-use crate::answers::ImageTaken;
-use image_write::Taken;
 use memory_records::{DownloadingPiece, live_records, unpack};
-use picker_calls::{Admission, admit};
+use picker_calls::admit;
 use types::Refusal;
 
 // 2 and 3 of the memory, then 2 of the bytes.
@@ -18,22 +16,15 @@ fn take_image_core(
     rows: &[u32],
     lent: usize,
     bytes: &mut [u8],
-) -> ImageTaken
+) -> Result<usize, Refusal>
     requires { length rows.now ≡ 1536 }
     ensures { ImageDone words.now cells.now rows.now lent bytes.old bytes.new
         (image_answer result) }
 {
     let mut counts = [0; 1536];
-    match admit(words, cells, rows, lent, &mut counts) {
-        Admission::Refused(why) => ImageTaken::Refused(why),
-        Admission::At(s) => {
-            let live = live_records(words);
-            match image_write::take_image(words, cells, rows, live, s, bytes) {
-                Taken::Bytes(n) => ImageTaken::Bytes(n),
-                Taken::Short => ImageTaken::Refused(Refusal::ShortMemory),
-            }
-        }
-    }
+    let s = admit(words, cells, rows, lent, &mut counts)?;
+    let live = live_records(words);
+    image_write::take_image(words, cells, rows, live, s, bytes).ok_or(Refusal::ShortMemory)
 }
 
 // The image of the picker in front of the bytes; those behind it stay. Answers how many it has.
@@ -42,7 +33,7 @@ pub fn take_image(
     cells: &[u16],
     partials: &[DownloadingPiece],
     bytes: &mut [u8],
-) -> ImageTaken
+) -> Result<usize, Refusal>
     ensures { ImageCalled (lending words.now cells.now partials.now) bytes.old
         bytes.new (image_answer result) }
 {

@@ -1,13 +1,7 @@
 -- `lay4` meets its contract. The loop's invariant: so many numbers are laid.
-use Prim.Native.Nat.{◌-◌, ◌≤◌}
-use native.Mathlib.Omega.{arith}
+use Prim.Native.Nat.{◌≤◌}
 use Rattle.image_lay.specs.Laid.{fields_at, Laid}
-use Rattle.image_lay.proofs.LaidLaws.{laid_start, laid_next, laid_end, field_is}
-use borrow.Author.Rules.{rules}
 use Rattle.image_lay.proofs.lay4.Given as goal
 
 abbrev pub invariant-loop-j : goal.invariant-loop-j
 invariant-loop-j l = (l.j ≤ l.many) × Laid l.start l.j (fields_at l.first l.step 4 l.bytes) l.initial.words l.words
-
-abbrev pub decreases-loop-j : goal.decreases-loop-j
-decreases-loop-j l = l.many - l.j

@@ -2,7 +2,6 @@
 use lib.Dec.{ltb}
 use borrow.Author.Tests.{ltb-false}
 use Rattle.model.proofs.base.Truths.{or_no_right}
-use borrow.Author.Rules.{rules}
 use Rattle.image_lay_blocks.proofs.lay_blocks.Goals as goal
 
 pub lay_many-requires : goal.lay_many-requires

@@ -4,12 +4,12 @@ use Rattle.link_read.specs.Numbers.{number_of}
 use borrow.Author.Rules.{rules}
 use Rattle.link_read.proofs.im_read.Goals as goal
 
-pub returns-in-Read : goal.returns-in-Read
-returns-in-Read c = record { read = c.read_image.result; told = c.read_image.ensures; is = ap number_of (sym c.in-Read.is) }
+pub returns-in-Ok : goal.returns-in-Ok
+returns-in-Ok c = record { read = c.read_image.result; told = c.read_image.ensures; is = ap number_of (sym c.in-Ok.is) }
 
-pub returns-in-Refused : goal.returns-in-Refused
-returns-in-Refused c = record {
+pub returns-in-Err : goal.returns-in-Err
+returns-in-Err c = record {
   read = c.read_image.result;
   told = c.read_image.ensures;
-  is = c.number.ensures ∙ ap number_of (sym c.in-Refused.is);
+  is = c.number.ensures ∙ ap number_of (sym c.in-Err.is);
 }

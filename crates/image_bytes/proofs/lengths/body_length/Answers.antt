@@ -2,7 +2,6 @@
 use mathlib.Core.Path.{refl}
 use Rattle.model.specs.Lists.{nth}
 use Rattle.model.specs.image.Image.{body_length}
-use borrow.Author.Rules.{rules}
 use Rattle.image_bytes.proofs.lengths.body_length.Goals as goal
 
 pub returns : goal.returns

@@ -1,6 +1,5 @@
 -- `put1` meets its contract. Assumes nothing.
 use Rattle.image_bytes.proofs.PutLaws.{put_byte}
-use borrow.Author.Rules.{rules}
 use Rattle.image_bytes.proofs.numbers.put1.Goals as goal
 
 pub returns : goal.returns

@@ -1,7 +1,6 @@
 -- `put4` meets its contract. Assumes nothing.
 use mathlib.Core.Path.{refl}
 use Rattle.image_bytes.proofs.PutLaws.{put_halves}
-use borrow.Author.Rules.{rules}
 use Rattle.image_bytes.proofs.numbers.put4.Goals as goal
 
 pub returns : goal.returns

@@ -1,7 +1,6 @@
 -- `read4` meets its contract. Assumes nothing.
 use mathlib.Core.Path.{refl}
 use Rattle.image_bytes.proofs.FieldLaws.{read_halves}
-use borrow.Author.Rules.{rules}
 use Rattle.image_bytes.proofs.reading.read4.Goals as goal
 
 pub returns : goal.returns

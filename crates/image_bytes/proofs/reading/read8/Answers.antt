@@ -1,7 +1,6 @@
 -- `read8` meets its contract. Assumes nothing.
 use mathlib.Core.Path.{refl}
 use Rattle.image_bytes.proofs.FieldLaws.{read_pairs}
-use borrow.Author.Rules.{rules}
 use Rattle.image_bytes.proofs.reading.read8.Goals as goal
 
 pub returns : goal.returns

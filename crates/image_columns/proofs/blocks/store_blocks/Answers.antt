@@ -1,20 +1,7 @@
 -- `store_blocks` meets its contract: the columns start where the layout has them, and stand apart. Assumes nothing.
 use native.Mathlib.Omega.{arith}
 use Rattle.image_columns.proofs.ColumnLaws.{placed, peers_room, cells_room, states_apart, counts_apart, blocks_stored}
-use borrow.Author.Rules.{rules}
 use Rattle.image_columns.proofs.blocks.store_blocks.Goals as goal
-
-pub peers_start-peers-requires : goal.peers_start-peers-requires
-peers_start-peers-requires c = (c.requires.spans.in_words.sizes, c.requires.p_lt_places.0)
-
-pub cells_start-states-requires : goal.cells_start-states-requires
-cells_start-states-requires c = (c.requires.spans.in_words.sizes, omega arith, c.requires.p_lt_places.0)
-
-pub cells_start-counts-requires : goal.cells_start-counts-requires
-cells_start-counts-requires c = (c.requires.spans.in_words.sizes, omega arith, c.requires.p_lt_places.0)
-
-pub cells_start-has-requires : goal.cells_start-has-requires
-cells_start-has-requires c = (c.requires.spans.in_words.sizes, omega arith, c.requires.p_lt_places.0)
 
 pub lay_blocks-requires : goal.lay_blocks-requires
 lay_blocks-requires c = record {

@@ -2,27 +2,11 @@
 use mathlib.Core.Path.{ap, ◌∙◌}
 use mathlib.Core.List.{[], ◌∷◌, ◌++◌}
 use Prim.Native.Nat.{ℕ}
-use lib.ListN.{drop, length-set}
+use lib.ListN.{drop}
 use lib.Seq.{sets-eq}
 use Rattle.image_columns.specs.Columns.{head_words}
 use native.Mathlib.Omega.{arith}
-use borrow.Author.Rules.{rules}
 use Rattle.image_columns.proofs.head.store_head.Goals as goal
-
-pub bounds-words-1 : goal.bounds-words-1
-bounds-words-1 c = simp length-set (omega (arith, c.requires))
-
-pub bounds-words-2 : goal.bounds-words-2
-bounds-words-2 c = simp length-set (omega (arith, c.requires))
-
-pub bounds-words-3 : goal.bounds-words-3
-bounds-words-3 c = simp length-set (omega (arith, c.requires))
-
-pub bounds-words-4 : goal.bounds-words-4
-bounds-words-4 c = simp length-set (omega (arith, c.requires))
-
-pub bounds-words-5 : goal.bounds-words-5
-bounds-words-5 c = simp length-set (omega (arith, c.requires))
 
 pub returns : goal.returns
 unfolding head_words

@@ -1,6 +1,5 @@
 -- `store_pieces` meets its contract. Assumes nothing.
 use Rattle.image_columns.proofs.ColumnLaws.{pieces_stored}
-use borrow.Author.Rules.{rules}
 use Rattle.image_columns.proofs.pieces.store_pieces.Goals as goal
 
 pub returns : goal.returns

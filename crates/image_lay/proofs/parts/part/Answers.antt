@@ -1,9 +1,7 @@
 -- `part` meets its contract. Assumes nothing.
-use mathlib.Core.Path.{refl}
 use Prim.Native.Nat.{◌/◌}
 use native.Mathlib.Nat.{mod-lt}
 use native.Mathlib.Omega.{arith}
-use borrow.Author.Rules.{rules}
 use Rattle.image_lay.proofs.parts.part.Goals as goal
 
 pub overflow_cast-result : goal.overflow_cast-result

@@ -1,7 +1,6 @@
 -- `block_quad` meets its contract. Assumes nothing.
 use mathlib.Core.Path.{◌∙◌}
 use Rattle.image_lay_blocks.proofs.QuadLaws.{block_quad}
-use borrow.Author.Rules.{rules}
 use Rattle.image_lay_blocks.proofs.quads.block_quad.Goals as goal
 
 pub returns : goal.returns

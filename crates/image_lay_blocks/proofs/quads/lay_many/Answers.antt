@@ -1,7 +1,6 @@
 -- `lay_many` meets its contract: what is taken out again is what was put in. Assumes nothing.
 use Rattle.image_lay.proofs.LaidLaws.{laid_same}
 use Rattle.image_lay.proofs.QuadLaws.{part_is, three_columns}
-use borrow.Author.Rules.{rules}
 use Rattle.image_lay_blocks.proofs.quads.lay_many.Goals as goal
 
 pub returns : goal.returns

@@ -1,17 +1,9 @@
 -- `take_blocks` meets its contract. The loop's invariant: the numbers of so many blocks are taken.
-use mathlib.Core.Path.{◌≡◌}
-use Prim.Native.Nat.{◌+◌, ◌-◌, ◌≤◌}
-use native.Mathlib.Omega.{arith}
+use Prim.Native.Nat.{◌+◌, ◌≤◌}
 use Rattle.image_lay.specs.Laid.{fields_at, Laid}
 use Rattle.image_lay.specs.Quads.{Filled}
 use Rattle.image_lay_blocks.specs.Quads.{BlockQuads}
-use Rattle.image_lay.proofs.LaidLaws.{laid_start, laid_next, laid_end, record_field_is}
-use Rattle.image_lay.proofs.QuadLaws.{filled_start, filled_next, filled_end}
-use borrow.Author.Rules.{rules}
 use Rattle.image_lay_blocks.proofs.quads.take_blocks.Given as goal
 
 abbrev pub invariant-loop-j : goal.invariant-loop-j
 invariant-loop-j l = (l.j ≤ l.many) × Laid l.v l.j (fields_at (l.start + 5) 13 8 l.bytes) l.initial.words l.words × Filled l.j (BlockQuads l.start l.bytes) l.initial.quads l.quads
-
-abbrev pub decreases-loop-j : goal.decreases-loop-j
-decreases-loop-j l = l.many - l.j

@@ -1,16 +1,8 @@
 -- `lay_each` meets its contract. The loop's invariant: the numbers of so many pieces are laid.
-use mathlib.Core.Path.{◌≡◌, ◌∙◌}
-use Prim.Native.Nat.{◌+◌, ◌-◌, ◌≤◌}
-use native.Mathlib.Omega.{arith}
-use lib.ListN.{length-set}
+use Prim.Native.Nat.{◌+◌, ◌≤◌}
 use Rattle.image_lay.specs.Laid.{fields_at, Laid, LaidFour}
-use Rattle.image_lay.proofs.LaidLaws.{laid_start, laid_next, laid_end, record_field_is, four_start, four_next, four_end}
-use borrow.Author.Rules.{rules}
 use Rattle.image_lay_pieces.proofs.pieces.lay_each.Given as goal
 
 abbrev pub invariant-loop-j : goal.invariant-loop-j
 invariant-loop-j l = (l.j ≤ l.many) × Laid l.v l.j (fields_at (l.start + 6) 10 4 l.bytes) l.initial.words l.words × LaidFour l.x l.y l.z l.t l.j (fields_at (l.start + 1) 10 2 l.bytes)
     (fields_at (l.start + 3) 10 1 l.bytes) (fields_at (l.start + 4) 10 1 l.bytes) (fields_at (l.start + 5) 10 1 l.bytes) l.initial.cells l.cells
-
-abbrev pub decreases-loop-j : goal.decreases-loop-j
-decreases-loop-j l = l.many - l.j

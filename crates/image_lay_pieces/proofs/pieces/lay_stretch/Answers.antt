@@ -1,34 +1,8 @@
 -- `lay_stretch` meets its contract: what is taken out again is what was put in. Assumes nothing.
 use mathlib.Core.Path.{◌∙◌}
-use native.Mathlib.Omega.{arith}
 use Rattle.image_lay.proofs.LaidLaws.{laid_same}
 use Rattle.image_lay.proofs.QuadLaws.{part_is, three_columns, four_columns}
-use borrow.Author.Rules.{rules}
 use Rattle.image_lay_pieces.proofs.pieces.lay_stretch.Goals as goal
-
-pub take_pieces-requires : goal.take_pieces-requires
-take_pieces-requires c = record {
-  many_in_bounds = (omega (arith, c.requires.start_in_bounds.0), c.requires.start_in_bounds.1);
-  many_in_bounds_2 = (omega (arith, c.requires.x_bound), omega (arith, c.requires.start_in_bounds.2));
-}
-
-pub lay_part-requires : goal.lay_part-requires
-lay_part-requires c = record {
-  below_nonzero = (omega arith, omega arith, omega arith);
-  many_in_bounds = (omega (arith, c.requires.start_in_bounds.2, c.take_pieces.ensures.others.long), omega (arith, c.requires.x_bound, c.take_pieces.ensures.counts.long));
-}
-
-pub lay_part-requires-2 : goal.lay_part-requires-2
-lay_part-requires-2 c = record {
-  below_nonzero = (omega arith, omega arith, omega arith);
-  many_in_bounds = (omega (arith, c.requires.start_in_bounds.2, c.take_pieces.ensures.others.long), omega (arith, c.requires.x_bound, c.take_pieces.ensures.counts.long, c.lay_part.ensures.long));
-}
-
-pub lay_part-requires-3 : goal.lay_part-requires-3
-lay_part-requires-3 c = record {
-  below_nonzero = (omega arith, omega arith, omega arith);
-  many_in_bounds = (omega (arith, c.requires.start_in_bounds.2, c.take_pieces.ensures.others.long), omega (arith, c.requires.x_bound, c.take_pieces.ensures.counts.long, c.lay_part-2.ensures.long, c.lay_part.ensures.long));
-}
 
 pub returns : goal.returns
 returns c = record {

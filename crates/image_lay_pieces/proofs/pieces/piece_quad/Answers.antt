@@ -1,7 +1,6 @@
 -- `piece_quad` meets its contract. Assumes nothing.
 use mathlib.Core.Path.{◌∙◌}
 use Rattle.image_lay_pieces.proofs.QuadLaws.{piece_quad}
-use borrow.Author.Rules.{rules}
 use Rattle.image_lay_pieces.proofs.pieces.piece_quad.Goals as goal
 
 pub returns : goal.returns

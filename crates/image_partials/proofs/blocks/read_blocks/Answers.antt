@@ -2,9 +2,8 @@
 use mathlib.Core.Path.{subst}
 use Rattle.image_pass.specs.Blocks.{BlocksWell}
 use Rattle.image_partials.specs.Blocks.{BlocksJudged}
-use borrow.Author.Rules.{rules}
 use Rattle.image_partials.proofs.blocks.read_blocks.Goals as goal
 
-pub returns-in-Well : goal.returns-in-Well
+pub returns-in-Some : goal.returns-in-Some
 unfolding BlocksJudged BlocksWell
-returns-in-Well c = subst (BlocksWell c.args.start c.args.many c.args.bytes.now) c.in-Well.is c.pass_blocks.ensures
+returns-in-Some c = subst (BlocksWell c.args.start c.args.many c.args.bytes.now) c.in-Some.is c.pass_blocks.ensures

@@ -1,6 +1,5 @@
 -- `state_fits` meets its contract: each number has 16 bits. Assumes nothing.
 use mathlib.Core.Path.{◌∙◌}
-use borrow.Author.Rules.{rules}
 use Rattle.image_partials.proofs.partial.state_fits.Goals as goal
 
 pub returns : goal.returns

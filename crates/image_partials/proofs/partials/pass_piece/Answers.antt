@@ -6,35 +6,14 @@ use Rattle.model.specs.Bep3.{num_pieces, piece_blocks}
 use Rattle.image_partials.specs.Partials.{Stepped}
 use Rattle.image_partials.proofs.WalkLaws.{piece_field, piece_state, piece_open, piece_shut, piece_priority, blocks_some}
 use Rattle.image_partials.proofs.WalkLaws.{blocks_most, pass_open, pass_next, pass_fails, whole_at}
-use borrow.Author.Rules.{rules}
+use Rattle.image_pieces.proofs.PassedOn.{passed_on}
 use Rattle.image_partials.proofs.partials.pass_piece.Goals as goal
-
-pub overflow_mul-place : goal.overflow_mul-place
-overflow_mul-place c = omega (arith, c.requires.headed.1.room)
-
-pub overflow_add-place : goal.overflow_add-place
-overflow_add-place c = omega (arith, c.requires.headed.1.room)
-
-pub overflow_add-place-2 : goal.overflow_add-place-2
-overflow_add-place-2 c = omega (arith, c.requires.headed.1.room)
-
-pub read1-state-requires : goal.read1-state-requires
-read1-state-requires c = omega (arith, c.requires.headed.1.room)
 
 pub returns-then-state-eq4 : goal.returns-then-state-eq4
 unfolding Stepped
 returns-then-state-eq4 c = let es = piece_field c.args.bytes.now c.args.i 2 1 (24 + 10 * c.args.i + 3) _ (omega arith) (omega arith) c.read1-state.ensures in
     pass_open c.args.head c.args.i c.args.w c.args.bytes.now c.requires.at_in_bounds.1
     (piece_open c.args.bytes.now c.args.i _ es (c.requires.headed.1.state c.args.i c.requires.n_value.1) c.if-state-eq4.true) c.requires.at_in_bounds.0
-
-pub overflow_add-place-3 : goal.overflow_add-place-3
-overflow_add-place-3 c = omega (arith, c.requires.headed.1.room)
-
-pub read1-priority-requires : goal.read1-priority-requires
-read1-priority-requires c = omega (arith, c.requires.headed.1.room)
-
-pub blocks_at-requires : goal.blocks_at-requires
-blocks_at-requires c = omega (arith, c.usize_to_u64-number.ensures)
 
 pub read_whole-requires : goal.read_whole-requires
 read_whole-requires c = let es = piece_field c.args.bytes.now c.args.i 2 1 (24 + 10 * c.args.i + 3) _ (omega arith) (omega arith) c.read1-state.ensures in
@@ -50,24 +29,25 @@ read_whole-requires c = let es = piece_field c.args.bytes.now c.args.i 2 1 (24 +
       at_in_bounds = c.requires.at_in_bounds.0;
     }
 
-pub returns-in-At : goal.returns-in-At
+pub returns : goal.returns
 unfolding Stepped
-returns-in-At c = let es = piece_field c.args.bytes.now c.args.i 2 1 (24 + 10 * c.args.i + 3) _ (omega arith) (omega arith) c.read1-state.ensures in
+returns c = let es = piece_field c.args.bytes.now c.args.i 2 1 (24 + 10 * c.args.i + 3) _ (omega arith) (omega arith) c.read1-state.ensures in
     let ep = piece_field c.args.bytes.now c.args.i 3 1 (24 + 10 * c.args.i + 4) _ (omega arith) (omega arith) c.read1-priority.ensures in
     let em = (c.u64_to_usize-many.ensures ∙ c.blocks_at.ensures ∙ ap (piece_blocks c.args.head.total c.args.head.size)
     c.usize_to_u64-number.ensures) in
     pass_next c.args.head c.args.i c.args.w c.args.bytes.now c.requires.at_in_bounds.1
     (piece_shut c.args.bytes.now c.args.i _ es (c.requires.headed.1.state c.args.i c.requires.n_value.1) c.if-state-eq4.false) _
     (whole_at c.args.head c.args.i c.args.w.at c.args.w.many _ _ _ _ c.args.bytes.now _ _ c.read_whole.ensures c.usize_to_u64-number.ensures em
-    (piece_state c.args.bytes.now c.args.i _ es) (piece_priority c.args.bytes.now c.args.i _ ep) c.in-At.is)
+    (piece_state c.args.bytes.now c.args.i _ es) (piece_priority c.args.bytes.now c.args.i _ ep) c.in_ok-at.was)
 
-pub returns-in-Fault : goal.returns-in-Fault
+pub returns-in_err-at : goal.returns-in_err-at
 unfolding Stepped
-returns-in-Fault c = let es = piece_field c.args.bytes.now c.args.i 2 1 (24 + 10 * c.args.i + 3) _ (omega arith) (omega arith) c.read1-state.ensures in
+returns-in_err-at c = let es = piece_field c.args.bytes.now c.args.i 2 1 (24 + 10 * c.args.i + 3) _ (omega arith) (omega arith) c.read1-state.ensures in
     let ep = piece_field c.args.bytes.now c.args.i 3 1 (24 + 10 * c.args.i + 4) _ (omega arith) (omega arith) c.read1-priority.ensures in
     let em = (c.u64_to_usize-many.ensures ∙ c.blocks_at.ensures ∙ ap (piece_blocks c.args.head.total c.args.head.size)
     c.usize_to_u64-number.ensures) in
-    pass_fails c.args.head c.args.i c.args.w c.args.bytes.now c.requires.at_in_bounds.1
+    rw (passed_on c.from_residual.result c.in_err-at.field-0.0 c.from_residual.ensures.1)
+    (pass_fails c.args.head c.args.i c.args.w c.args.bytes.now c.requires.at_in_bounds.1
     (piece_shut c.args.bytes.now c.args.i _ es (c.requires.headed.1.state c.args.i c.requires.n_value.1) c.if-state-eq4.false) _
     (whole_at c.args.head c.args.i c.args.w.at c.args.w.many _ _ _ _ c.args.bytes.now _ _ c.read_whole.ensures c.usize_to_u64-number.ensures em
-    (piece_state c.args.bytes.now c.args.i _ es) (piece_priority c.args.bytes.now c.args.i _ ep) c.in-Fault.is)
+    (piece_state c.args.bytes.now c.args.i _ es) (piece_priority c.args.bytes.now c.args.i _ ep) c.in_err-at.was))

@@ -3,12 +3,7 @@ use Prim.Native.Nat.{ℕ}
 use Rattle.image_parts.specs.Parts.{peer_written}
 use mathlib.Core.Path.{ap, ◌∙◌}
 use Rattle.image_parts.proofs.RecordMeanings.{block_put}
-use borrow.Author.Rules.{rules}
-use native.Mathlib.Omega.{arith}
 use Rattle.image_parts.proofs.blocks.put_block_at.Goals as goal
-
-pub peer_or_zero-peer-requires : goal.peer_or_zero-peer-requires
-peer_or_zero-peer-requires c = omega (arith, c.u16_to_u64-has.ensures, c.block_cell-3.ensures, c.requires.spans.1.has)
 
 pub returns : goal.returns
 returns c = block_put _ _ _ _ _ _ _ _ _ _ _ _ _ c.requires.spans.1

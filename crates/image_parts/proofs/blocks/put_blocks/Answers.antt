@@ -1,18 +1,11 @@
 -- `put_blocks` meets its contract: after j turns j blocks are there. Assumes nothing.
 use mathlib.Core.Path.{◌≡◌}
-use Prim.Native.Nat.{◌-◌, ◌≤◌}
 use Rattle.model.specs.Lists.{nth}
-use Rattle.model.specs.image.Image.{body_length, block_record}
-use Rattle.memory_layout.specs.Decode.{block_held}
-use Rattle.image_parts.specs.Parts.{Appended}
-use Rattle.image_parts.proofs.RunLaws.{run_of, run_start, run_step, run_end, run_fits}
+use Rattle.model.specs.image.Image.{body_length}
+use Rattle.image_parts.proofs.RunLaws.{run_start, run_step, run_end, run_fits}
 use Rattle.image_parts.proofs.RecordMeanings.{block_long}
-use borrow.Author.Rules.{rules}
 use native.Mathlib.Omega.{arith}
 use Rattle.image_parts.proofs.blocks.put_blocks.Goals as goal
-
-pub body_length-step-requires : goal.body_length-step-requires
-body_length-step-requires c = (omega arith, omega arith)
 
 pub overflow_add-step : goal.overflow_add-step
 unfolding body_length nth

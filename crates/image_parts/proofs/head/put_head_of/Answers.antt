@@ -1,6 +1,5 @@
 -- `put_head_of` meets its contract. Assumes nothing.
 use Rattle.image_parts.proofs.RecordMeanings.{head_put}
-use borrow.Author.Rules.{rules}
 use Rattle.image_parts.proofs.head.put_head_of.Goals as goal
 
 pub returns : goal.returns

@@ -1,28 +1,17 @@
 -- `put_extents` meets its contract: after k turns k extents are there. Assumes nothing.
-use borrow.Author.Rules.{rules}
 use mathlib.Core.Path.{◌≡◌, ◌∙◌}
-use Prim.Native.Nat.{◌+◌, ◌-◌, ◌≤◌, ◌<◌}
+use Prim.Native.Nat.{◌<◌}
 use Rattle.model.specs.Lists.{nth}
-use Rattle.model.specs.image.Image.{body_length, extent_kind, number_record}
+use Rattle.model.specs.image.Image.{body_length}
 use Rattle.memory_layout.specs.Decode.{head_word, extents_held}
-use Rattle.image_parts.specs.Parts.{Appended}
-use Rattle.image_parts.proofs.RunLaws.{run_of, run_start, run_step, run_end, run_fits}
+use Rattle.image_parts.proofs.RunLaws.{run_start, run_step, run_end, run_fits}
 use Rattle.image_parts.proofs.RecordMeanings.{number_long, number_put}
 use native.Mathlib.Omega.{arith}
 use Rattle.image_parts.proofs.numbers.put_extents.Goals as goal
 
-pub body_length-step-requires : goal.body_length-step-requires
-body_length-step-requires c = (omega arith, omega arith)
-
 pub overflow_add-step : goal.overflow_add-step
 unfolding body_length nth
 overflow_add-step c = let e : c.body_length-step.result ≡ 4 = c.body_length-step.ensures in omega arith
-
-pub head_word-requires : goal.head_word-requires
-head_word-requires c = record {
-  in_bounds = c.requires.in_bounds.0;
-  k_bound = omega arith;
-}
 
 pub loop-k-init : goal.loop-k-init
 loop-k-init c = (omega arith, run_start _ _ _ _ (omega (arith, c.requires.words_in_bounds)))

@@ -1,20 +1,15 @@
 -- `put_list` meets its contract: after k turns k places are there. Assumes nothing.
-use borrow.Author.Rules.{rules}
 use Rattle.memory_layout.proofs.OffsetLaws.{head_in}
 use mathlib.Core.Path.{◌≡◌, ap, ◌∙◌}
-use Prim.Native.Nat.{◌-◌, ◌≤◌, ◌<◌}
+use Prim.Native.Nat.{◌<◌}
 use Rattle.model.specs.Lists.{nth}
-use Rattle.model.specs.image.Image.{body_length, place_kind, number_record}
+use Rattle.model.specs.image.Image.{body_length}
 use Rattle.list_entries.specs.Words.{listed_piece}
-use Rattle.memory_layout.specs.Decode.{head_word, piece_word, list_held}
-use Rattle.image_parts.specs.Parts.{Appended}
-use Rattle.image_parts.proofs.RunLaws.{run_of, run_start, run_step, run_end, run_fits}
+use Rattle.memory_layout.specs.Decode.{head_word, list_held}
+use Rattle.image_parts.proofs.RunLaws.{run_start, run_step, run_end, run_fits}
 use Rattle.image_parts.proofs.RecordMeanings.{number_long, number_put}
 use native.Mathlib.Omega.{arith}
 use Rattle.image_parts.proofs.numbers.put_list.Goals as goal
-
-pub body_length-step-requires : goal.body_length-step-requires
-body_length-step-requires c = (omega arith, omega arith)
 
 pub overflow_add-step : goal.overflow_add-step
 unfolding body_length nth

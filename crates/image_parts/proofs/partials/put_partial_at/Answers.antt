@@ -5,7 +5,6 @@ use Rattle.model.specs.image.Image.{body_length}
 use Rattle.memory_layout.proofs.OffsetLaws.{head_in}
 use Rattle.image_parts.proofs.RecordMeanings.{partial_put}
 use Rattle.image_parts.proofs.RowLaws.{piece_there, blocks_there, plain_blocks}
-use borrow.Author.Rules.{rules}
 use native.Mathlib.Omega.{arith}
 use Rattle.image_parts.proofs.partials.put_partial_at.Goals as goal
 

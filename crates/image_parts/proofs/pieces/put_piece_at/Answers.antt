@@ -1,7 +1,6 @@
 -- `put_piece_at` meets its contract. Assumes nothing.
 use mathlib.Core.Path.{◌∙◌}
 use Rattle.image_parts.proofs.RecordMeanings.{piece_put}
-use borrow.Author.Rules.{rules}
 use Rattle.image_parts.proofs.pieces.put_piece_at.Goals as goal
 
 pub returns : goal.returns

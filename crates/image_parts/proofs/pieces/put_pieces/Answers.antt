@@ -1,18 +1,12 @@
 -- `put_pieces` meets its contract: after i turns i pieces are there. Assumes nothing.
 use mathlib.Core.Path.{◌≡◌}
-use Prim.Native.Nat.{◌-◌, ◌≤◌}
 use Rattle.model.specs.Lists.{nth}
-use Rattle.model.specs.image.Image.{body_length, piece_record}
-use Rattle.memory_layout.specs.Decode.{piece_held, pieces_held}
-use Rattle.image_parts.specs.Parts.{Appended}
-use Rattle.image_parts.proofs.RunLaws.{run_of, run_start, run_step, run_end, run_fits}
+use Rattle.model.specs.image.Image.{body_length}
+use Rattle.memory_layout.specs.Decode.{pieces_held}
+use Rattle.image_parts.proofs.RunLaws.{run_start, run_step, run_end, run_fits}
 use Rattle.image_parts.proofs.RecordMeanings.{piece_long}
-use borrow.Author.Rules.{rules}
 use native.Mathlib.Omega.{arith}
 use Rattle.image_parts.proofs.pieces.put_pieces.Goals as goal
-
-pub body_length-step-requires : goal.body_length-step-requires
-body_length-step-requires c = (omega arith, omega arith)
 
 pub overflow_add-step : goal.overflow_add-step
 unfolding body_length nth

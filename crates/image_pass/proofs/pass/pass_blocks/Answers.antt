@@ -1,7 +1,6 @@
 -- `pass_blocks` meets its contract. Assumes nothing.
 use Prim.{tt}
 use Rattle.image_pass.specs.Blocks.{BlocksWell}
-use borrow.Author.Rules.{rules}
 use Rattle.image_pass.proofs.pass.pass_blocks.Goals as goal
 
 pub returns-then-bytes-start : goal.returns-then-bytes-start

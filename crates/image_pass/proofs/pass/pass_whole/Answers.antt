@@ -1,43 +1,14 @@
 -- `pass_whole` meets its contract. The loop's invariant: so many blocks were passed, and are well where no peer stands without its flag.
 use mathlib.Core.Path.{sym, ◌∙◌}
 use Prim.{tt}
-use Prim.Native.Nat.{◌-◌}
 use native.Mathlib.Omega.{arith}
 use borrow.Author.Tests.{not-false}
 use Rattle.image_pass.specs.Blocks.{BlocksWell}
-use Rattle.image_pass.proofs.PassLaws.{Passing, passing_start, passing_next, passing_end, block_well, range_state, weight_most}
-use borrow.Author.Rules.{rules}
+use Rattle.image_pass.proofs.PassLaws.{passing_start, passing_next, passing_end, block_well, range_state, weight_most}
 use Rattle.image_pass.proofs.pass.pass_whole.Goals as goal
 
 pub loop-j-init : goal.loop-j-init
 loop-j-init c = passing_start _ _ _ (omega (arith, c.requires.0)) c.requires.1
-
-pub read1-kind-requires : goal.read1-kind-requires
-read1-kind-requires c = omega (arith, c.requires.0, c.loop-j.invariant.place)
-
-pub overflow_add-at : goal.overflow_add-at
-overflow_add-at c = omega (arith, c.requires.0, c.loop-j.invariant.place)
-
-pub read1-state-requires : goal.read1-state-requires
-read1-state-requires c = omega (arith, c.requires.0, c.loop-j.invariant.place)
-
-pub overflow_add-at-in-loop-j : goal.overflow_add-at-in-loop-j
-overflow_add-at-in-loop-j c = omega (arith, c.requires.0, c.loop-j.invariant.place)
-
-pub read2-num_peers-requires : goal.read2-num_peers-requires
-read2-num_peers-requires c = omega (arith, c.requires.0, c.loop-j.invariant.place)
-
-pub overflow_add-at-in-loop-j-2 : goal.overflow_add-at-in-loop-j-2
-overflow_add-at-in-loop-j-2 c = omega (arith, c.requires.0, c.loop-j.invariant.place)
-
-pub read1-has-requires : goal.read1-has-requires
-read1-has-requires c = omega (arith, c.requires.0, c.loop-j.invariant.place)
-
-pub overflow_add-at-in-loop-j-3 : goal.overflow_add-at-in-loop-j-3
-overflow_add-at-in-loop-j-3 c = omega (arith, c.requires.0, c.loop-j.invariant.place)
-
-pub read8-peer-requires : goal.read8-peer-requires
-read8-peer-requires c = omega (arith, c.requires.0, c.loop-j.invariant.place)
 
 pub returns-then-not-in_range : goal.returns-then-not-in_range
 unfolding BlocksWell
@@ -51,9 +22,6 @@ bounds-counts-u64_to_usize c = omega (arith, c.u64_to_usize.ensures, range_state
 
 pub overflow_add-sum : goal.overflow_add-sum
 overflow_add-sum c = omega (arith, weight_most c.u64_to_usize.result, c.loop-j.invariant.most, c.loop-j.invariant.within, c.requires.2)
-
-pub overflow_add-at-in-loop-j-4 : goal.overflow_add-at-in-loop-j-4
-overflow_add-at-in-loop-j-4 c = omega (arith, c.requires.0, c.loop-j.invariant.place)
 
 pub loop-j-preserved : goal.loop-j-preserved
 loop-j-preserved c = let t = sym c.in_range.ensures ∙ not-false _ c.if-not-in_range.false-raw in

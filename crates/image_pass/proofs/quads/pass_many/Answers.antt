@@ -5,7 +5,6 @@ use native.Mathlib.Omega.{arith}
 use Rattle.image_pass.specs.Blocks.{BlocksWell}
 use Rattle.image_pass.specs.Quads.{Gathered}
 use Rattle.image_pass.proofs.QuadLaws.{told_well}
-use borrow.Author.Rules.{rules}
 use Rattle.image_pass.proofs.quads.pass_many.Goals as goal
 
 pub returns-then-lone-ne0 : goal.returns-then-lone-ne0

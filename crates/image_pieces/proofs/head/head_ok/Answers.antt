@@ -1,6 +1,5 @@
 -- `head_ok` meets its contract. Assumes nothing.
 use Rattle.image_pieces.proofs.HeadLaws.{head_test_lem}
-use borrow.Author.Rules.{rules}
 use Rattle.image_pieces.proofs.head.head_ok.Goals as goal
 
 pub returns : goal.returns

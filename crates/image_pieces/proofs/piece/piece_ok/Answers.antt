@@ -1,6 +1,5 @@
 -- `piece_ok` meets its contract. Assumes nothing.
 use Rattle.image_pieces.proofs.PieceLaws.{piece_test_lem}
-use borrow.Author.Rules.{rules}
 use Rattle.image_pieces.proofs.piece.piece_ok.Goals as goal
 
 pub returns : goal.returns

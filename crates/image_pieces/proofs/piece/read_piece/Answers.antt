@@ -5,7 +5,6 @@ use borrow.Author.Tests.{not-true, not-false}
 use Rattle.model.specs.Lists.{nth}
 use Rattle.model.specs.image.Image.{body_length}
 use Rattle.image_pieces.proofs.PieceLaws.{piece_none, piece_found, piece_fault}
-use borrow.Author.Rules.{rules}
 use Rattle.image_pieces.proofs.piece.read_piece.Goals as goal
 
 pub returns-then-not-stands : goal.returns-then-not-stands
@@ -37,9 +36,6 @@ read1-flushed-requires c = omega (arith, c.body_of-body.ensures.long)
 pub read4-pad-requires : goal.read4-pad-requires
 unfolding body_length nth
 read4-pad-requires c = omega (arith, c.body_of-body.ensures.long)
-
-pub piece_ok-requires : goal.piece_ok-requires
-piece_ok-requires c = (omega (arith, c.read2-count.ensures.small), c.requires)
 
 pub returns-then-piece_ok : goal.returns-then-piece_ok
 returns-then-piece_ok c = λ s i en el. piece_found s i _ _ (sym c.stands.ensures ∙ not-false _ c.if-not-stands.false-raw) _ c.body_of-body.ensures _ _ _ _ _

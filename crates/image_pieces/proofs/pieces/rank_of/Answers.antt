@@ -1,7 +1,6 @@
 -- `rank_of` meets its contract: a rank has 16 bits. Assumes nothing.
 use mathlib.Core.Path.{◌∙◌}
 use Rattle.image_pieces.proofs.PieceLaws.{rank_numbers}
-use borrow.Author.Rules.{rules}
 use Rattle.image_pieces.proofs.pieces.rank_of.Goals as goal
 
 pub returns : goal.returns

@@ -1,23 +1,15 @@
 -- `read_pieces` meets its contract. The loop's invariant: what is left decides, and each piece so far has its rank.
 use mathlib.Core.Path.{refl, sym, ap, ◌∙◌}
-use Prim.Native.Nat.{◌+◌, ◌*◌, ◌-◌}
+use Prim.Native.Nat.{◌+◌, ◌*◌}
 use native.Mathlib.Omega.{arith}
-use lib.ListN.{length}
 use Rattle.model.specs.Bep3.{piece_length}
 use Rattle.model.specs.State.{piece_size_at}
 use Rattle.image_pieces.specs.Heads.{head_picker}
-use Rattle.image_pieces.specs.Pieces.{PiecesRead, Reading}
+use Rattle.image_pieces.specs.Pieces.{PiecesRead}
 use Rattle.image_pieces.proofs.HeadLaws.{head_seeds, head_pieces}
 use Rattle.image_pieces.proofs.PieceLaws.{piece_got, piece_bad}
 use Rattle.image_pieces.proofs.PassLaws.{reading_on, reading_next, reading_fault, reading_end}
-use borrow.Author.Rules.{rules}
 use Rattle.image_pieces.proofs.pieces.read_pieces.Goals as goal
-
-pub pass_pieces-i-requires : goal.pass_pieces-i-requires
-pass_pieces-i-requires c = record {
-  headed = c.requires.headed;
-  n_value = c.requires.n_value;
-}
 
 pub loop-i-init : goal.loop-i-init
 loop-i-init c = reading_on _ _ _ _ _ _ c.pass_pieces-i.ensures
@@ -27,9 +19,6 @@ overflow_mul-at c = omega (arith, head_pieces _ c.requires.headed.ok)
 
 pub overflow_add-at : goal.overflow_add-at
 overflow_add-at c = omega (arith, head_pieces _ c.requires.headed.ok)
-
-pub piece_length-long-requires : goal.piece_length-long-requires
-piece_length-long-requires c = omega (arith, c.usize_to_u64.ensures)
 
 pub read_piece-requires : goal.read_piece-requires
 read_piece-requires c = head_seeds _ c.requires.headed.ok
@@ -46,14 +35,14 @@ returns-in_default c = let size = sym (c.piece_length-long.ensures ∙ ap (piece
 pub rank_of-requires : goal.rank_of-requires
 unfolding head_picker piece_size_at
 rank_of-requires c = let size = sym (c.piece_length-long.ensures ∙ ap (piece_length c.args.head.total c.args.head.size) c.usize_to_u64.ensures) in
-    let e = sym c.in-Found.is ∙ c.read_piece.ensures (head_picker c.args.head) c.loop-i.i refl size in
+    let e = sym c.in-Some.is ∙ c.read_piece.ensures (head_picker c.args.head) c.loop-i.i refl size in
     let g = piece_got (head_picker c.args.head) c.loop-i.i (24 + 10 * c.loop-i.i) c.args.bytes.now _ e in
     (g.count_most, g.priority_most)
 
 pub loop-i-preserved : goal.loop-i-preserved
 unfolding head_picker piece_size_at
 loop-i-preserved c = let size = sym (c.piece_length-long.ensures ∙ ap (piece_length c.args.head.total c.args.head.size) c.usize_to_u64.ensures) in
-    let e = sym c.in-Found.is ∙ c.read_piece.ensures (head_picker c.args.head) c.loop-i.i refl size in
+    let e = sym c.in-Some.is ∙ c.read_piece.ensures (head_picker c.args.head) c.loop-i.i refl size in
     reading_next _ _ _ _ _ _ c.loop-i.invariant (omega arith) _ (piece_got (head_picker c.args.head) c.loop-i.i (24 + 10 * c.loop-i.i) c.args.bytes.now _ e) _
     c.rank_of.ensures
 

@@ -5,7 +5,6 @@ use native.Mathlib.Omega.{arith}
 use borrow.Author.Tests.{not-false}
 use Rattle.image_pieces.specs.Stretches.{Gathered}
 use Rattle.image_pieces.proofs.StretchLaws.{stretch_well, stretch_unclear}
-use borrow.Author.Rules.{rules}
 use Rattle.image_pieces.proofs.stretch.pass_stretch.Goals as goal
 
 pub returns-then-not-gather : goal.returns-then-not-gather

@@ -6,11 +6,11 @@ use borrow.Author.Rules.{rules}
 use Rattle.image_read.proofs.whole.read_image.Goals as goal
 
 pub read_accepted-requires : goal.read_accepted-requires
-read_accepted-requires c = (judged_image _ (sym c.in-Accepted.is ∙ c.judge_image.ensures), c.requires)
+read_accepted-requires c = (judged_image _ (sym c.in-Ok.is ∙ c.judge_image.ensures), c.requires)
 
-pub returns-in-Accepted : goal.returns-in-Accepted
-returns-in-Accepted c = c.read_accepted.ensures
+pub returns-in-Ok : goal.returns-in-Ok
+returns-in-Ok c = c.read_accepted.ensures
 
-pub returns-in-Fault : goal.returns-in-Fault
+pub returns-in-Err : goal.returns-in-Err
 unfolding ImageTold
-returns-in-Fault c = fault_told _ _ _ _ _ _ (sym c.in-Fault.is ∙ c.judge_image.ensures)
+returns-in-Err c = fault_told _ _ _ _ _ _ (sym c.in-Err.is ∙ c.judge_image.ensures)

@@ -3,7 +3,6 @@ use mathlib.Core.Path.{ap, ◌∙◌}
 use mathlib.Core.Bool.{Bool, ◌&&◌, and_assoc}
 use lib.Dec.{leb}
 use Rattle.image_records.specs.Records.{block_test}
-use borrow.Author.Rules.{rules}
 use Rattle.image_records.proofs.block.block_ok.Goals as goal
 
 pub returns : goal.returns

@@ -5,7 +5,6 @@ use borrow.Author.Tests.{not-true, not-false}
 use Rattle.model.specs.Lists.{nth}
 use Rattle.model.specs.image.Image.{body_length}
 use Rattle.image_records.proofs.RecordLaws.{block_none, block_found, block_fault}
-use borrow.Author.Rules.{rules}
 use Rattle.image_records.proofs.block.read_block.Goals as goal
 
 pub returns-then-not-stands : goal.returns-then-not-stands

@@ -3,7 +3,6 @@ use mathlib.Core.Path.{refl, ap}
 use Prim.Native.Nat.{ℕ, ◌+◌}
 use native.Mathlib.Omega.{arith}
 use Rattle.image_records.proofs.FrontLaws.{stands_within, body_is}
-use borrow.Author.Rules.{rules}
 use Rattle.image_records.proofs.front.body_of.Goals as goal
 
 pub overflow_add-start : goal.overflow_add-start

@@ -4,11 +4,10 @@ use Prim.Native.Nat.{ℕ}
 use lib.Dec.{eqb}
 use native.Mathlib.Omega.{arith}
 use Rattle.image_records.proofs.FrontLaws.{comes_none, comes_one}
-use borrow.Author.Rules.{rules}
 use Rattle.image_records.proofs.front.comes.Goals as goal
 
 pub returns-then-bytes-at : goal.returns-then-bytes-at
 returns-then-bytes-at c = comes_none _ _ _ c.if-bytes-at.true
 
 pub returns : goal.returns
-returns c = ap (λ (x : ℕ). eqb x c.args.kind) c.wide.ensures ∙ comes_one c.args.kind c.args.at c.args.bytes.now (omega arith)
+returns c = ap (λ (x : ℕ). eqb x c.args.kind) c.from.ensures ∙ comes_one c.args.kind c.args.at c.args.bytes.now (omega arith)

@@ -4,7 +4,6 @@ use native.Mathlib.Omega.{arith}
 use borrow.Author.Tests.{not-true, not-false}
 use Rattle.image_records.proofs.NumberKinds.{four}
 use Rattle.image_records.proofs.RecordLaws.{number_none, number_found}
-use borrow.Author.Rules.{rules}
 use Rattle.image_records.proofs.number.read_number.Goals as goal
 
 pub returns-then-not-stands : goal.returns-then-not-stands

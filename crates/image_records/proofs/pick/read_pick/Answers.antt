@@ -5,7 +5,6 @@ use borrow.Author.Tests.{not-true, not-false}
 use Rattle.model.specs.Lists.{nth}
 use Rattle.model.specs.image.Image.{body_length}
 use Rattle.image_records.proofs.RecordLaws.{pick_none, pick_found, pick_fault}
-use borrow.Author.Rules.{rules}
 use Rattle.image_records.proofs.pick.read_pick.Goals as goal
 
 pub returns-then-not-stands : goal.returns-then-not-stands

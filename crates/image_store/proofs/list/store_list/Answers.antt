@@ -11,18 +11,6 @@ use Rattle.image_store.proofs.list.store_list.Goals as goal
 pub loop-j-init : goal.loop-j-init
 loop-j-init c = (omega arith, laid_start _ _ _)
 
-pub overflow_mul-j : goal.overflow_mul-j
-overflow_mul-j c = omega (arith, c.requires.n_in_bounds.2.fills)
-
-pub overflow_add-at : goal.overflow_add-at
-overflow_add-at c = omega (arith, c.requires.n_in_bounds.2.fills)
-
-pub overflow_add-at-in-loop-j : goal.overflow_add-at-in-loop-j
-overflow_add-at-in-loop-j c = omega (arith, c.requires.n_in_bounds.2.fills)
-
-pub read4-piece-requires : goal.read4-piece-requires
-read4-piece-requires c = omega (arith, c.requires.n_in_bounds.2.fills)
-
 pub offset_bounds-ranks-u64_to_usize : goal.offset_bounds-ranks-u64_to_usize
 offset_bounds-ranks-u64_to_usize c = omega (arith, c.requires.n_in_bounds.1, c.requires.n_in_bounds.2.low c.loop-j.j (omega arith), place_read _ _ c.loop-j.j _ c.read4-piece.ensures, c.u64_to_usize.ensures)
 
@@ -31,15 +19,6 @@ bounds-ranks-u64_to_usize c = omega (arith, c.requires.n_in_bounds.0, c.requires
 
 pub list_word-requires : goal.list_word-requires
 list_word-requires c = omega (arith, c.requires.n_in_bounds.1, c.requires.n_in_bounds.2.low c.loop-j.j (omega arith), place_read _ _ c.loop-j.j _ c.read4-piece.ensures)
-
-pub overflow_add-words : goal.overflow_add-words
-overflow_add-words c = omega (arith, c.requires.n_in_bounds_2, c.requires.n_in_bounds.2.few, c.loop-j.invariant.1.long)
-
-pub offset_bounds-words-start : goal.offset_bounds-words-start
-offset_bounds-words-start c = omega (arith, c.requires.n_in_bounds_2, c.requires.n_in_bounds.2.few, c.loop-j.invariant.1.long)
-
-pub bounds-words-start : goal.bounds-words-start
-bounds-words-start c = omega (arith, c.requires.n_in_bounds_2, c.requires.n_in_bounds.2.few, c.loop-j.invariant.1.long)
 
 pub loop-j-preserved : goal.loop-j-preserved
 loop-j-preserved c = (

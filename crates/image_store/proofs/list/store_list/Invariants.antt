@@ -10,6 +10,3 @@ use Rattle.image_store.proofs.list.store_list.Given as goal
 
 abbrev pub invariant-loop-j : goal.invariant-loop-j
 invariant-loop-j l = (l.j ≤ l.many) × Laid (16 + l.n) l.j (place_word l.ranks l.at l.bytes) l.initial.words l.words
-
-abbrev pub decreases-loop-j : goal.decreases-loop-j
-decreases-loop-j l = l.many - l.j

@@ -8,25 +8,10 @@ use Rattle.image_store.proofs.StoreLaws.{pass_open, few_places, blocks_room, blo
 use borrow.Author.Rules.{rules}
 use Rattle.image_store.proofs.partials.pass_piece.Goals as goal
 
-pub overflow_mul-i : goal.overflow_mul-i
-overflow_mul-i c = omega (arith, c.requires.begun.0.told.room)
-
-pub overflow_add-i : goal.overflow_add-i
-overflow_add-i c = omega (arith, c.requires.begun.0.told.room)
-
-pub overflow_add-i-2 : goal.overflow_add-i-2
-overflow_add-i-2 c = omega (arith, c.requires.begun.0.told.room)
-
-pub read1-state-requires : goal.read1-state-requires
-read1-state-requires c = omega (arith, c.requires.begun.0.told.room)
-
 pub returns-then-state-eq4 : goal.returns-then-state-eq4
 returns-then-state-eq4 c = let es = piece_field c.args.bytes.now c.args.i 2 1 (24 + 10 * c.args.i + 3) _ (omega arith) (omega arith) c.read1-state.ensures in
     pass_open c.args.head c.args.s c.args.bytes.now _ _ _ c.args.w c.args.i c.requires.storing.0 c.requires.storing.1
     (piece_open c.args.bytes.now c.args.i _ es (c.requires.begun.0.told.told c.args.i c.requires.storing.1).state c.if-state-eq4.true)
-
-pub blocks_at-requires : goal.blocks_at-requires
-blocks_at-requires c = omega (arith, c.usize_to_u64.ensures, c.requires.begun.0.pieces, c.requires.storing.1)
 
 pub store_partial-requires : goal.store_partial-requires
 store_partial-requires c = let es = piece_field c.args.bytes.now c.args.i 2 1 (24 + 10 * c.args.i + 3) _ (omega arith) (omega arith) c.read1-state.ensures in
@@ -76,9 +61,6 @@ overflow_add-result-2 c = let es = piece_field c.args.bytes.now c.args.i 2 1 (24
       arith,
       blocks_room c.args.head c.args.s c.args.bytes.now _ _ _ c.args.w c.args.i c.requires.storing.0 c.requires.storing.1 o c.requires.begun.1 c.requires.begun.0 c.requires.rows_len _ em,
     )
-
-pub overflow_add-result-3 : goal.overflow_add-result-3
-overflow_add-result-3 c = omega (arith, c.requires.storing.0.most)
 
 pub returns : goal.returns
 returns c = let es = piece_field c.args.bytes.now c.args.i 2 1 (24 + 10 * c.args.i + 3) _ (omega arith) (omega arith) c.read1-state.ensures in

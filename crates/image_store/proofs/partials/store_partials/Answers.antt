@@ -6,12 +6,6 @@ use Rattle.image_store.proofs.StoreLaws.{begun_on, Walked, walked_start, walked_
 use borrow.Author.Rules.{rules}
 use Rattle.image_store.proofs.partials.store_partials.Goals as goal
 
-pub overflow_mul-w : goal.overflow_mul-w
-overflow_mul-w c = omega (arith, c.requires.begun.0.told.room)
-
-pub overflow_add-w : goal.overflow_add-w
-overflow_add-w c = omega (arith, c.requires.begun.0.told.room)
-
 pub loop-i-init : goal.loop-i-init
 loop-i-init c = walked_start _ _ _ _ _ _ c.requires.begun.0
 

@@ -8,6 +8,3 @@ use Rattle.image_store.proofs.partials.store_partials.Given as goal
 
 abbrev pub invariant-loop-i : goal.invariant-loop-i
 invariant-loop-i l = Walked l.head l.s l.bytes l.initial.words l.initial.cells l.initial.rows l.words l.cells l.rows l.w l.i
-
-abbrev pub decreases-loop-i : goal.decreases-loop-i
-decreases-loop-i l = l.s.pieces - l.i

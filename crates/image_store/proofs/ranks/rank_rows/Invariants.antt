@@ -10,6 +10,3 @@ use Rattle.image_store.proofs.ranks.rank_rows.Given as goal
 
 abbrev pub invariant-loop-i : goal.invariant-loop-i
 invariant-loop-i l = (l.i ≤ length l.counts) × Laid 0 l.i (rank_in l.seeds l.counts l.states l.priorities l.flushed) l.initial.ranks l.ranks
-
-abbrev pub decreases-loop-i : goal.decreases-loop-i
-decreases-loop-i l = l.n - l.i

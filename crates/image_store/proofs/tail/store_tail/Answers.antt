@@ -6,38 +6,17 @@ use Rattle.image_store.proofs.TailLaws.{places_of, tail_stored}
 use borrow.Author.Rules.{rules}
 use Rattle.image_store.proofs.tail.store_tail.Goals as goal
 
-pub count_extents-extents-requires : goal.count_extents-extents-requires
-count_extents-extents-requires c = omega (arith, c.requires.n_in_bounds.2.are.room)
-
 pub lay4-requires : goal.lay4-requires
 lay4-requires c = record {
   within = λ j l. omega (arith, c.count_extents-extents.ensures.room);
   many_in_bounds = omega (arith, c.count_extents-extents.ensures.most, c.requires.n_in_bounds_2.0);
 }
 
-pub overflow_mul-start : goal.overflow_mul-start
-overflow_mul-start c = omega (arith, c.count_extents-extents.ensures.most)
-
-pub overflow_add-start : goal.overflow_add-start
-overflow_add-start c = omega (arith, c.count_extents-extents.ensures.room)
-
-pub overflow_sub-places : goal.overflow_sub-places
-overflow_sub-places c = omega (arith, c.count_extents-extents.ensures.room)
-
 pub store_list-requires : goal.store_list-requires
 store_list-requires c = record {
   n_in_bounds = (c.requires.n_in_bounds.0, c.requires.n_in_bounds.1, places_of _ _ _ c.requires.n_in_bounds.2 _ _ _ c.count_extents-extents.ensures refl refl);
   n_in_bounds_2 = omega (arith, c.requires.n_in_bounds_2.0, c.lay4.ensures.long);
 }
-
-pub bounds-words-6 : goal.bounds-words-6
-bounds-words-6 c = omega (arith, c.requires.n_in_bounds_2.0, c.store_list.ensures.long, c.lay4.ensures.long)
-
-pub bounds-words-7 : goal.bounds-words-7
-bounds-words-7 c = simp length-set (omega (arith, c.requires.n_in_bounds_2.0, c.store_list.ensures.long, c.lay4.ensures.long))
-
-pub bounds-words-8 : goal.bounds-words-8
-bounds-words-8 c = simp length-set (omega (arith, c.requires.n_in_bounds_2.0, c.store_list.ensures.long, c.lay4.ensures.long))
 
 pub shape_of-words : goal.shape_of-words
 shape_of-words c = simp length-set (c.store_list.ensures.long ∙ c.lay4.ensures.long)

@@ -8,15 +8,6 @@ use Rattle.image_tail.proofs.extents.among.Goals as goal
 pub loop-j-init : goal.loop-j-init
 loop-j-init c = sought_start _ _ _ _
 
-pub overflow_add-start : goal.overflow_add-start
-overflow_add-start c = omega (arith, c.requires.1)
-
-pub overflow_add-start-in-loop-j : goal.overflow_add-start-in-loop-j
-overflow_add-start-in-loop-j c = omega (arith, c.requires.1)
-
-pub read4-requires : goal.read4-requires
-read4-requires c = omega (arith, c.requires.1)
-
 pub returns-then-e-read4 : goal.returns-then-e-read4
 returns-then-e-read4 c = sought_found _ _ _ _ c.loop-j.j c.loop-j.invariant (omega arith) _
     c.read4.ensures c.if-e-read4.true

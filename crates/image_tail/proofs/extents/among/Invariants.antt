@@ -7,6 +7,3 @@ use Rattle.image_tail.proofs.extents.among.Given as goal
 
 abbrev pub invariant-loop-j : goal.invariant-loop-j
 invariant-loop-j l = Sought l.start l.k l.bytes l.e l.j
-
-abbrev pub decreases-loop-j : goal.decreases-loop-j
-decreases-loop-j l = l.k - l.j

@@ -18,28 +18,22 @@ loop-k-init c = reading_start _ _ _ c.requires
 pub returns-then-not-comes : goal.returns-then-not-comes
 returns-then-not-comes c = reading_ends _ _ _ _ _ c.loop-k.invariant (sym c.comes.ensures ∙ not-true _ c.if-not-comes.true-raw)
 
-pub read_number-requires : goal.read_number-requires
-read_number-requires c = (omega arith, omega arith)
-
 pub returns-in_default : goal.returns-in_default
 returns-in_default c = reading_fault _ _ _ _ _ c.loop-k.invariant (omega arith) (sym c.comes.ensures ∙ not-false _ c.if-not-comes.false-raw)
     (number_bad extent_kind number_in c.loop-k.at c.args.bytes.now (sym c.in_default.is ∙ c.read_number.ensures))
 
-pub among-requires : goal.among-requires
-among-requires c = (omega arith, omega (arith, c.loop-k.invariant.place, c.loop-k.invariant.room))
-
 pub returns-then-limit-e : goal.returns-then-limit-e
-returns-then-limit-e c = let g = number_got extent_kind number_in c.loop-k.at c.args.bytes.now _ (sym c.in-Found.is ∙ c.read_number.ensures) in
+returns-then-limit-e c = let g = number_got extent_kind number_in c.loop-k.at c.args.bytes.now _ (sym c.in-Some.is ∙ c.read_number.ensures) in
     reading_breaks _ _ _ _ _ c.loop-k.invariant (omega arith) (sym c.comes.ensures ∙ not-false _ c.if-not-comes.false-raw) _ g _
     c.among.ensures c.if-limit-e.true
 
 pub overflow_add-at : goal.overflow_add-at
 unfolding body_length nth
-overflow_add-at c = let g = number_got extent_kind number_in c.loop-k.at c.args.bytes.now _ (sym c.in-Found.is ∙ c.read_number.ensures) in
+overflow_add-at c = let g = number_got extent_kind number_in c.loop-k.at c.args.bytes.now _ (sym c.in-Some.is ∙ c.read_number.ensures) in
     omega (arith, g.room)
 
 pub loop-k-preserved : goal.loop-k-preserved
-loop-k-preserved c = let g = number_got extent_kind number_in c.loop-k.at c.args.bytes.now _ (sym c.in-Found.is ∙ c.read_number.ensures) in
+loop-k-preserved c = let g = number_got extent_kind number_in c.loop-k.at c.args.bytes.now _ (sym c.in-Some.is ∙ c.read_number.ensures) in
     reading_next _ _ _ _ _ c.loop-k.invariant (omega arith) (sym c.comes.ensures ∙ not-false _ c.if-not-comes.false-raw) _ g _
     c.among.ensures c.if-limit-e.false
 

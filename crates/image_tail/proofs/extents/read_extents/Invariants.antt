@@ -14,6 +14,3 @@ use Rattle.image_tail.proofs.extents.read_extents.Given as goal
 
 abbrev pub invariant-loop-k : goal.invariant-loop-k
 invariant-loop-k l = Reading l.start l.limit l.bytes l.at l.k
-
-abbrev pub decreases-loop-k : goal.decreases-loop-k
-decreases-loop-k l = 5 - l.k

@@ -6,12 +6,6 @@ use Rattle.image_tail.proofs.order.read_listing.Goals as goal
 pub returns-then-dirty : goal.returns-then-dirty
 returns-then-dirty c = listing_dirty _ _ _ _ _ c.if-dirty.true c.requires.at_in_bounds
 
-pub read_order-requires : goal.read_order-requires
-read_order-requires c = record {
-  n_bound = c.requires.n_bound;
-  start_in_bounds = c.requires.at_in_bounds;
-}
-
 pub returns : goal.returns
 returns c = listing_fresh c.args.at _ _ _ c.args.bytes.now c.if-dirty.false _ c.ranked-many.ensures
     c.read_order.result c.read_order.ensures

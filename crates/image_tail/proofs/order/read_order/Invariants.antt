@@ -8,6 +8,3 @@ use Rattle.image_tail.proofs.order.read_order.Given as goal
 
 abbrev pub invariant-loop-k : goal.invariant-loop-k
 invariant-loop-k l = Reading l.n (length l.initial.ranks) l.start l.many l.bytes l.initial.ranks l.ranks l.last l.at l.k
-
-abbrev pub decreases-loop-k : goal.decreases-loop-k
-decreases-loop-k l = l.many - l.k

@@ -1,5 +1,6 @@
 -- `take_place` meets its contract: each way out by one law. Assumes nothing.
-use mathlib.Core.Path.{sym, ◌∙◌, refl}
+use Rattle.std.specs.Prelude.{None}
+use mathlib.Core.Path.{◌≡◌, sym, ◌∙◌, refl}
 use native.Mathlib.Omega.{arith}
 use Rattle.model.specs.image.Image.{place_kind}
 use Rattle.image_records.specs.Records.{number_in}
@@ -8,32 +9,21 @@ use Rattle.image_tail.proofs.PlaceLaws.{no_place, past_pieces, too_low, taken}
 use borrow.Author.Rules.{rules}
 use Rattle.image_tail.proofs.order.take_place.Goals as goal
 
-pub returns-in_default : goal.returns-in_default
-returns-in_default c = no_place _ _ c.args.at c.args.bytes.now _
-    (number_bad place_kind number_in c.args.at c.args.bytes.now (sym c.in_default.is ∙ c.read_number.ensures))
+pub returns-in_err-i : goal.returns-in_err-i
+returns-in_err-i c = let gone : c.from_residual.result ≡ None = grind arith in
+    rw gone (no_place _ _ c.args.at c.args.bytes.now _
+    (number_bad place_kind number_in c.args.at c.args.bytes.now (sym c.in_err-i.was ∙ c.read_number.ensures)))
 
 pub returns-then-usize_to_u64-i : goal.returns-then-usize_to_u64-i
-returns-then-usize_to_u64-i c = let g = number_got place_kind number_in c.args.at c.args.bytes.now _ (sym c.in-Found.is ∙ c.read_number.ensures) in
+returns-then-usize_to_u64-i c = let g = number_got place_kind number_in c.args.at c.args.bytes.now _ (sym c.in_ok-i.was ∙ c.read_number.ensures) in
     past_pieces _ _ c.args.at c.args.bytes.now _ _ g _ c.usize_to_u64.ensures c.if-usize_to_u64-i.true
 
-pub offset_bounds-ranks-piece : goal.offset_bounds-ranks-piece
-offset_bounds-ranks-piece c = omega (arith, c.u64_to_usize-piece.ensures, c.usize_to_u64.ensures)
-
-pub bounds-ranks-piece : goal.bounds-ranks-piece
-bounds-ranks-piece c = omega (arith, c.u64_to_usize-piece.ensures, c.usize_to_u64.ensures)
-
 pub returns-then-rank-last : goal.returns-then-rank-last
-returns-then-rank-last c = let g = number_got place_kind number_in c.args.at c.args.bytes.now _ (sym c.in-Found.is ∙ c.read_number.ensures) in
+returns-then-rank-last c = let g = number_got place_kind number_in c.args.at c.args.bytes.now _ (sym c.in_ok-i.was ∙ c.read_number.ensures) in
     too_low _ _ c.args.at c.args.bytes.now _ _ g _ c.u64_to_usize-piece.ensures (omega (arith, c.usize_to_u64.ensures)) _
     refl c.if-rank-last.true
 
-pub offset_bounds-ranks-piece-2 : goal.offset_bounds-ranks-piece-2
-offset_bounds-ranks-piece-2 c = omega (arith, c.u64_to_usize-piece.ensures, c.usize_to_u64.ensures)
-
-pub bounds-ranks-piece-2 : goal.bounds-ranks-piece-2
-bounds-ranks-piece-2 c = omega (arith, c.u64_to_usize-piece.ensures, c.usize_to_u64.ensures)
-
 pub returns : goal.returns
-returns c = let g = number_got place_kind number_in c.args.at c.args.bytes.now _ (sym c.in-Found.is ∙ c.read_number.ensures) in
+returns c = let g = number_got place_kind number_in c.args.at c.args.bytes.now _ (sym c.in_ok-i.was ∙ c.read_number.ensures) in
     taken _ _ c.args.at c.args.bytes.now _ _ g _ c.u64_to_usize-piece.ensures (omega (arith, c.usize_to_u64.ensures)) _
     refl c.if-rank-last.false

@@ -16,6 +16,3 @@ use Rattle.image_write.proofs.lengths.blocks_of_rows.Given as goal
 
 abbrev pub invariant-loop-k : goal.invariant-loop-k
 invariant-loop-k l = (l.k ≤ l.live) × (l.sum ≡ sum_to l.k (λ j. blocks_of l.words (get_or l.rows j 0)))
-
-abbrev pub decreases-loop-k : goal.decreases-loop-k
-decreases-loop-k l = l.live - l.k
