@@ -1,5 +1,5 @@
 """The exports of the questions, written from the questions themselves: an export takes the geometry in numbers, asks what its question
-asks and answers what that answers. An enum becomes a kind and a number, which a definition reads back."""
+asks and answers what that answers. An enum or an option becomes a kind and a number, which a definition reads back."""
 
 import re
 
@@ -30,13 +30,13 @@ LINKS = {
     },
 }
 
-# enum: the function that makes a kind and a number of it, and the definition that reads them back
+# answer that becomes a kind and a number: the definition that reads them back
 ENUMS = {
-    'Placed': ('placed', 'placed_told'),
-    'FlagOf': ('flagged', 'flag_told'),
-    'NumberOf': ('numbered', 'number_told'),
-    'PeerOf': ('peered', 'peer_told'),
-    'RecordsOf': ('recorded', 'records_told'),
+    'Placed': 'placed_told',
+    'Option<bool>': 'flag_told',
+    'Option<u16>': 'number_told',
+    'PeerOf': 'peer_told',
+    'Option<usize>': 'records_told',
 }
 
 SOURCE = """// Questions of `{below}` for callers in C and Rust, each with what it asks and answers.
@@ -65,15 +65,15 @@ def shaped(link):
 
 
 def told_back(link, enum):
-    """The definition that reads a kind and a number back as a value of the enum."""
-    return spelled(f'Rattle.{link}.specs.Answers', ENUMS[enum][1])
+    """The definition that reads a kind and a number back as an answer."""
+    return spelled(f'Rattle.{link}.specs.Answers', ENUMS[enum])
 
 
 class Export:
     """One question of a source, as a caller in C asks it."""
 
     def __init__(self, text, link, crate, name):
-        pattern = r'(?ms)^pub fn {}\((.*?)\)(?: -> (\w+))?\n(.*?)^\{{\n'.format(name)
+        pattern = r'(?ms)^pub fn {}\((.*?)\)(?: -> ([\w<>]+))?\n(.*?)^\{{\n'.format(name)
         parameters, self.answer, self.clauses = re.search(pattern, text).groups()
         self.name, self.enum = name, self.answer if self.answer in ENUMS else None
         self.parameters = [p.strip() for p in parameters.replace('\n', ' ').split(',') if p.strip()]
@@ -84,8 +84,7 @@ class Export:
             self.clauses = re.sub(r'(?<![^ (])s(?=\.\w)', 'g', self.clauses)
             self.clauses = re.sub(r'(?<![^ (])s(?=[ )])', f'({shaped(link)} g)', self.clauses)
         if self.enum:
-            told = ENUMS[self.enum][0]
-            self.answer, self.call = 'Told', f'{told}({self.call})'
+            self.answer, self.call = 'Told', f'Told::from({self.call})'
             self.clauses = re.sub(r'(?<=[ (])result(?=[ )\n])', f'({told_back(link, self.enum)} result)', self.clauses)
         elif not self.answer:
             self.call += ';'
@@ -101,7 +100,7 @@ class Export:
 def uses(text, link, crate, exports):
     """What a module of exports names: types, functions, and the definitions that its clauses cite, from where its source has them."""
     types = {f'use {w};' for e in exports if e.shape for w in ('link_lists::Geometry', 'memory_layout::Shape')}
-    types |= {f'use crate::answers::{w};' for e in exports if e.enum for w in ('Told', ENUMS[e.enum][0])}
+    types |= {'use crate::answers::Told;' for e in exports if e.enum}
     types |= {f'use {crate}::{e.answer};' for e in exports if e.answer and e.answer[0].isupper() and not e.enum}
     words = set(re.findall(r'[^\s(){}.,;]+', ''.join(e.clauses for e in exports)))
     ghosts = []

@@ -1,4 +1,5 @@
 -- The block that is asked about, and what its questions answer of it. Assumes nothing.
+use Rattle.std.specs.Prelude.{None, Some}
 use mathlib.Core.Path.{◌≡◌, refl, sym, ap, ◌∙◌}
 use mathlib.Core.Bool.{Bool, true, false, cond, ◌||◌}
 use mathlib.Core.List.{List, [], ◌∷◌}
@@ -15,7 +16,6 @@ use Rattle.model.specs.change.Changes.{received}
 use Rattle.model.specs.ask.Questions.{OfBlock, reply, reply_block, of_block, block_in, block_test, downloader_of, numbers, flag}
 use Rattle.model.specs.ask.Questions.{is_downloaded, is_finished_block, get_downloader}
 use Rattle.memory_records.specs.declared.record.DownloadingPiece.{DownloadingPiece as Record}
-use Rattle.memory_records.specs.declared.search.Found.TheVariants.{At, Nothing}
 use Rattle.memory_records.specs.Rows.{row_at, records_in}
 use Rattle.ask_picker.proofs.RecordRows.{record_row}
 use Rattle.memory_layout.specs.declared.shape.Shape.{Shape}
@@ -26,7 +26,6 @@ use Rattle.memory_blocks.specs.Blocks.{block_of, BlockRead}
 use Rattle.memory_rows.specs.Lookup.{picker_in, FoundIn}
 use Rattle.ask_picker.specs.Asked.{Asked}
 use Rattle.ask_picker.proofs.AskedLaws.{asked_rows}
-use Rattle.ask_block.specs.declared.find.BlockOf.TheVariants.{Block as There}
 use Rattle.ask_block.specs.Blocks.{BlockTold, peer_reply, peer_found}
 
 -- ---- the block
@@ -35,19 +34,19 @@ module _ (s : Shape) (live : ℕ) (rows words cells : List ℕ) (g : Asked s liv
   here = picker_in live rows words cells
 
   -- no partial stands
-  pub block_missing : FoundIn live rows i Nothing → block_in (partial_of here i) j ≡ none
+  pub block_missing : FoundIn live rows i None → block_in (partial_of here i) j ≡ none
   unfolding block_in
   block_missing f =
       ap (λ (found : Option DownloadingPiece). block_in found j) (f.is s words cells (asked_rows s live rows words cells g))
 
-  module _ (k : ℕ) (f : FoundIn live rows i (At k)) where
+  module _ (k : ℕ) (f : FoundIn live rows i (Some k)) where
     -- the block is there
     pub block_there : j < blocks_of words i → j < s.blocks
     block_there l = omega (arith, blocks_within s (records_in live rows) words cells g.stands.bounds i)
 
     -- what is read there
     pub block_told : j < blocks_of words i → (p : ℕ) (x : BlockInfo) → p ≡ (row_at rows k).info_idx → BlockRead s words cells p j x
-        → BlockTold (block_in (partial_of here i) j) (There x)
+        → BlockTold (block_in (partial_of here i) j) (Some x)
     unfolding block_in
     block_told l p x e b =
         let h = f.row.0 in

@@ -9,16 +9,9 @@ ghost use Rattle.ask_block.specs.Blocks.{BlockTold};
 
 use memory_blocks::{BlockInfo, get_block};
 use memory_layout::Shape;
-use memory_records::{Found, row};
+use memory_records::row;
 use memory_rows::find;
 use types::u32_to_usize;
-
-// A block, where the partial of its piece stands.
-#[derive(Drop)]
-pub enum BlockOf {
-    Block(BlockInfo),
-    Nothing,
-}
 
 // Block j of piece i.
 pub fn block_of(
@@ -29,14 +22,12 @@ pub fn block_of(
     s: Shape,
     i: usize,
     j: usize,
-) -> BlockOf
+) -> Option<BlockInfo>
     requires asked { Asked s live rows.now words.now cells.now }
     requires i_lt_pieces { (i < s.pieces) × (j < blocks_of words.now i) }
     ensures { BlockTold (block_in (partial_of (picker_in live rows.now words.now cells.now) i) j) result }
 {
-    let Found::At(k) = find(rows, live, i) else {
-        return BlockOf::Nothing;
-    };
+    let k = find(rows, live, i)?;
     let place = u32_to_usize(row(rows, k).info_idx);
-    BlockOf::Block(get_block(words, cells, s, place, j))
+    Some(get_block(words, cells, s, place, j))
 }

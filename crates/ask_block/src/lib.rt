@@ -5,9 +5,8 @@ mod find;
 mod peers;
 mod states;
 
-pub use find::{BlockOf, block_of};
+pub use find::block_of;
 pub use peers::{PeerOf, block_peer, get_downloader};
 pub use states::{
-    NumberOf, block_num_peers, block_state, is_downloaded, is_finished_block, is_requested,
-    num_peers_block,
+    block_num_peers, block_state, is_downloaded, is_finished_block, is_requested, num_peers_block,
 };

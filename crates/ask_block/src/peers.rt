@@ -7,7 +7,7 @@ ghost use Rattle.model.specs.ask.Questions.{reply, of_block, get_downloader, blo
 ghost use Rattle.memory_blocks.specs.Blocks.{block_of};
 ghost use Rattle.ask_block.specs.Blocks.{peer_found, peer_reply};
 
-use crate::find::{BlockOf, block_of};
+use crate::find::block_of;
 use memory_blocks::BlockInfo;
 use memory_layout::Shape;
 
@@ -44,7 +44,7 @@ pub fn get_downloader(
     ensures { peer_reply result
         ≡ reply (picker_in live rows.now words.now cells.now) (of_block get_downloader i j) }
 {
-    let BlockOf::Block(x) = block_of(words, cells, rows, live, s, i, j) else {
+    let Some(x) = block_of(words, cells, rows, live, s, i, j) else {
         return PeerOf::NoPeer;
     };
     if x.state == 0 {
@@ -67,7 +67,7 @@ pub fn block_peer(
     ensures { peer_reply result
         ≡ reply (picker_in live rows.now words.now cells.now) (of_block block_peer i j) }
 {
-    let BlockOf::Block(x) = block_of(words, cells, rows, live, s, i, j) else {
+    let Some(x) = block_of(words, cells, rows, live, s, i, j) else {
         return PeerOf::Nothing;
     };
     peer_of(x)

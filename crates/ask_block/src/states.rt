@@ -7,16 +7,9 @@ ghost use Rattle.model.specs.ask.Questions.{reply, of_block, one, flag, num_peer
 ghost use Rattle.model.specs.ask.Questions.{block_state, block_num_peers};
 ghost use Rattle.ask_block.specs.Blocks.{number_reply};
 
-use crate::find::{BlockOf, block_of};
+use crate::find::block_of;
 use memory_fields::flushed;
 use memory_layout::Shape;
-
-// A number, where a partial stands.
-#[derive(Drop)]
-pub enum NumberOf {
-    Number(u16),
-    Nothing,
-}
 
 // How many asked for the block: none where no partial stands.
 pub fn num_peers_block(
@@ -33,7 +26,7 @@ pub fn num_peers_block(
     ensures { one result
         ≡ reply (picker_in live rows.now words.now cells.now) (of_block num_peers_block i j) }
 {
-    let BlockOf::Block(x) = block_of(words, cells, rows, live, s, i, j) else {
+    let Some(x) = block_of(words, cells, rows, live, s, i, j) else {
         return 0;
     };
     x.num_peers
@@ -53,7 +46,7 @@ pub fn is_requested(
     ensures { flag result
         ≡ reply (picker_in live rows.now words.now cells.now) (of_block is_requested i j) }
 {
-    let BlockOf::Block(x) = block_of(words, cells, rows, live, s, i, j) else {
+    let Some(x) = block_of(words, cells, rows, live, s, i, j) else {
         return false;
     };
     x.state == 1
@@ -77,7 +70,7 @@ pub fn is_downloaded(
     if flushed(cells, s, i) {
         return true;
     }
-    let BlockOf::Block(x) = block_of(words, cells, rows, live, s, i, j) else {
+    let Some(x) = block_of(words, cells, rows, live, s, i, j) else {
         return false;
     };
     (x.state == 2) | (x.state == 3)
@@ -101,7 +94,7 @@ pub fn is_finished_block(
     if flushed(cells, s, i) {
         return true;
     }
-    let BlockOf::Block(x) = block_of(words, cells, rows, live, s, i, j) else {
+    let Some(x) = block_of(words, cells, rows, live, s, i, j) else {
         return false;
     };
     x.state == 3
@@ -116,16 +109,14 @@ pub fn block_state(
     s: Shape,
     i: usize,
     j: usize,
-) -> NumberOf
+) -> Option<u16>
     requires asked { Asked s live rows.now words.now cells.now }
     requires i_lt_pieces { (i < s.pieces) × (j < blocks_of words.now i) }
     ensures { number_reply result
         ≡ reply (picker_in live rows.now words.now cells.now) (of_block block_state i j) }
 {
-    let BlockOf::Block(x) = block_of(words, cells, rows, live, s, i, j) else {
-        return NumberOf::Nothing;
-    };
-    NumberOf::Number(x.state)
+    let x = block_of(words, cells, rows, live, s, i, j)?;
+    Some(x.state)
 }
 
 pub fn block_num_peers(
@@ -136,14 +127,12 @@ pub fn block_num_peers(
     s: Shape,
     i: usize,
     j: usize,
-) -> NumberOf
+) -> Option<u16>
     requires asked { Asked s live rows.now words.now cells.now }
     requires i_lt_pieces { (i < s.pieces) × (j < blocks_of words.now i) }
     ensures { number_reply result
         ≡ reply (picker_in live rows.now words.now cells.now) (of_block block_num_peers i j) }
 {
-    let BlockOf::Block(x) = block_of(words, cells, rows, live, s, i, j) else {
-        return NumberOf::Nothing;
-    };
-    NumberOf::Number(x.num_peers)
+    let x = block_of(words, cells, rows, live, s, i, j)?;
+    Some(x.num_peers)
 }

@@ -2,7 +2,7 @@
 use mathlib.Core.Path.{◌≡◌, refl, sym, ap, ap₂, ◌∙◌}
 use mathlib.Core.Bool.{Bool}
 use mathlib.Core.List.{List, [], ◌∷◌, ◌++◌}
-use Prim.Native.Nat.{ℕ, zero, suc, ◌+◌, ◌*◌, ◌/◌, ◌≤◌, ◌<◌}
+use Prim.Native.Nat.{ℕ, zero, suc, min, ◌+◌, ◌*◌, ◌/◌, ◌≤◌, ◌<◌}
 use native.Mathlib.Decide.{dec_le, ℕ_discrete}
 use native.Mathlib.Omega.{arith}
 use lib.Dec.{ltb}
@@ -33,6 +33,12 @@ least_lt a b h = rw (lt-leb a b h)
 pub least_le : (a b : ℕ) → a ≤ b → least a b ≡ a
 unfolding least
 least_le a b h = rw (le-leb a b h)
+
+pub least_min : (a b : ℕ) → min a b ≡ least a b
+least_min a b = elim (dec_le a b) [
+  | yes h ↦ omega (arith, least_le a b h)
+  | no h ↦ omega (arith, least_lt a b (omega (arith, h)))
+]
 
 least_low : (a b : ℕ) → (least a b ≤ a) × (least a b ≤ b)
 least_low a b = elim (dec_le a b) [

@@ -43,14 +43,14 @@ fn copies_at(cells: &[u16], s: Shape, i: usize) -> u16
 fn lesser(a: u16, b: u16) -> u16
     ensures { result ≡ least a b }
 {
-    if a <= b { a } else { b }
+    a.min(b)
 }
 
 // 1 where there are more copies than the least.
 fn above(lowest: u16, copies: u16) -> u16
     ensures { result ≡ bit (ltb lowest copies) }
 {
-    if lowest < copies { 1 } else { 0 }
+    u16::from(lowest < copies)
 }
 
 // The least of a number and of the copies of a stretch.
@@ -61,10 +61,8 @@ fn least_from(cells: &[u16], s: Shape, i: usize, many: usize, start: u16) -> u16
     ensures { result ≡ least_of start (copies_from cells.now s.pieces i many) }
 {
     let mut lowest = start;
-    let mut k = 0;
-    while k < many {
+    for k in 0..many {
         lowest = lesser(lowest, copies_at(cells, s, i + k));
-        k += 1;
     }
     lowest
 }
@@ -77,10 +75,8 @@ fn more_from(cells: &[u16], s: Shape, i: usize, many: usize, lowest: u16) -> u16
     ensures { result ≡ count (ltb lowest) (copies_from cells.now s.pieces i many) }
 {
     let mut more = 0;
-    let mut k = 0;
-    while k < many {
+    for k in 0..many {
         more = more + above(lowest, copies_at(cells, s, i + k));
-        k += 1;
     }
     more
 }
@@ -117,12 +113,10 @@ fn least_copies(cells: &[u16], s: Shape) -> Least
         copies: 65535,
         more: 0,
     };
-    let mut i = 0;
-    while i + STRETCH < s.pieces {
-        least = lower(cells, s, i, STRETCH, least);
-        i += STRETCH;
+    for i in (0..s.pieces).step_by(STRETCH) {
+        least = lower(cells, s, i, STRETCH.min(s.pieces - i), least);
     }
-    lower(cells, s, i, s.pieces - i, least)
+    least
 }
 
 pub fn distributed_copies(words: &[u64], cells: &[u16], s: Shape) -> DistributedCopies

@@ -17,10 +17,8 @@ fn fill(cells: &[u16], s: Shape, f: usize, more: u16, out: &mut [u16])
     requires column_fits { ColumnFits cells.now s.pieces f more }
     ensures { ColumnFilled cells.now s.pieces f more s.pieces out.old out.new }
 {
-    let mut i = 0;
-    while i < s.pieces {
+    for i in 0..s.pieces {
         out[i] = piece_cell(cells, s, f, i) + more;
-        i += 1;
     }
 }
 

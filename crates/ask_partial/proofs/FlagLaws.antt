@@ -1,4 +1,6 @@
 -- The flags of a partial, by its row. Assumes nothing.
+use Rattle.std.specs.Prelude.{None, Option as Optional, Some}
+use Rattle.std.specs.Option.{unwrap_or}
 use mathlib.Core.Path.{◌≡◌, refl, sym, ap, ◌∙◌}
 use mathlib.Core.Logic.{◌⊎◌, ⊎_elim}
 use mathlib.Core.Bool.{Bool, true, false, ◌||◌}
@@ -13,7 +15,6 @@ use Rattle.model.specs.State.{DownloadingPiece, piece_at}
 use Rattle.model.specs.change.Partials.{partial_of}
 use Rattle.model.specs.ask.Questions.{of_partial, flag, have_piece, passed_in, hashing_in}
 use Rattle.memory_records.specs.declared.record.DownloadingPiece.{DownloadingPiece as Record}
-use Rattle.memory_records.specs.declared.search.Found.TheVariants.{At, Nothing as Missing}
 use Rattle.memory_records.specs.Rows.{row_at, records_in}
 use Rattle.ask_picker.proofs.RecordRows.{record_row}
 use Rattle.memory_layout.specs.declared.shape.Shape.{Shape}
@@ -22,8 +23,6 @@ use Rattle.memory_layout.specs.Changes.{partial_in}
 use Rattle.memory_layout.proofs.Meanings.{passed_is, locked_is, hashing_is}
 use Rattle.memory_fields.specs.Reading.{CellsSay}
 use Rattle.memory_rows.specs.Lookup.{LiveRows, picker_in, FoundIn}
-use Rattle.ask_partial.specs.declared.flags.FlagOf.{FlagOf}
-use Rattle.ask_partial.specs.declared.flags.FlagOf.TheVariants.{Flag, Nothing}
 use Rattle.ask_picker.specs.Telling.{RowsSay}
 use Rattle.ask_partial.specs.Flags.{IsWeight, flag_in, flag_found, flag_reply, RowsCellsSay}
 
@@ -52,16 +51,16 @@ module _ (s : Shape) (live : ℕ) (rows words cells : List ℕ) (v : LiveRows s 
 -- ---- what a lookup answers
 module _ (live : ℕ) (rows : List ℕ) (i weight : ℕ) where
   -- the flag of the piece's row
-  pub flag_there : IsWeight weight → (k : ℕ) → FoundIn live rows i (At k)
-      → RowsSay live rows (λ d. flag_found weight (partial_of d i)) (Flag (eqb (get_or rows (1024 + k) 0 / weight % 2) 1))
+  pub flag_there : IsWeight weight → (k : ℕ) → FoundIn live rows i (Some k)
+      → RowsSay live rows (λ d. flag_found weight (partial_of d i)) (Some (eqb (get_or rows (1024 + k) 0 / weight % 2) 1))
   unfolding flag_found
   flag_there w k f = record {
     is = λ s words cells v.
-        ap Flag (row_flag s live rows words cells v k f.row.0 weight w) ∙ ap (flag_found weight) (sym (f.is s words cells v).1);
+        ap Some (row_flag s live rows words cells v k f.row.0 weight w) ∙ ap (flag_found weight) (sym (f.is s words cells v).1);
   }
 
   -- no row is the piece's
-  pub flag_none : FoundIn live rows i Missing → RowsSay live rows (λ d. flag_found weight (partial_of d i)) Nothing
+  pub flag_none : FoundIn live rows i None → RowsSay live rows (λ d. flag_found weight (partial_of d i)) None
   unfolding flag_found
   flag_none f = record { is = λ s words cells v. ap (flag_found weight) (sym (f.is s words cells v)) }
 
@@ -73,37 +72,33 @@ flag_asked weight none = refl
 flag_asked weight (some d) = refl
 
 -- set, where a partial stands
-abbrev pub truth_of : (r : FlagOf) → Bool
-truth_of (Flag truth) = truth
-truth_of Nothing = false
-
-hashing_truth : (found : Option DownloadingPiece) → truth_of (flag_found 4 found) ≡ hashing_in found
+hashing_truth : (found : Option DownloadingPiece) → unwrap_or (flag_found 4 found) false ≡ hashing_in found
 unfolding flag_found flag_in hashing_in
 hashing_truth none = refl
 hashing_truth (some d) = refl
 
-passed_truth : (found : Option DownloadingPiece) → truth_of (flag_found 1 found) ≡ passed_in found
+passed_truth : (found : Option DownloadingPiece) → unwrap_or (flag_found 1 found) false ≡ passed_in found
 unfolding flag_found flag_in passed_in
 passed_truth none = refl
 passed_truth (some d) = refl
 
-module _ (live : ℕ) (rows : List ℕ) (i : ℕ) (r : FlagOf) where
+module _ (live : ℕ) (rows : List ℕ) (i : ℕ) (r : Optional Bool) where
   -- the truth of a flag that is answered
-  pub hashing_says : RowsSay live rows (λ d. flag_found 4 (partial_of d i)) r → RowsSay live rows (λ d. hashing_in (partial_of d i)) (truth_of r)
+  pub hashing_says : RowsSay live rows (λ d. flag_found 4 (partial_of d i)) r → RowsSay live rows (λ d. hashing_in (partial_of d i)) (unwrap_or r false)
   hashing_says f = record {
-    is = λ s words cells v. ap truth_of (f.is s words cells v) ∙ hashing_truth (partial_of (picker_in live rows words cells) i);
+    is = λ s words cells v. ap (λ (o : Optional Bool). unwrap_or o false) (f.is s words cells v) ∙ hashing_truth (partial_of (picker_in live rows words cells) i);
   }
 
   module _ (s : Shape) (cells : List ℕ) (t : Bool) (e : CellsSay s cells (λ d. (piece_at d i).flushed) t) where
     -- flushed, or passed while still a partial
     pub have_says : RowsSay live rows (λ d. flag_found 1 (partial_of d i)) r
-        → RowsCellsSay s live rows cells (λ d. have_piece d i) (t || truth_of r)
+        → RowsCellsSay s live rows cells (λ d. have_piece d i) (t || unwrap_or r false)
     unfolding have_piece
     have_says f = record {
       is = λ words v.
           let d = picker_in live rows words cells in
           λ j. e.is (records_in live rows) words v.bounds j
-          || (ap truth_of (f.is s words cells v) ∙ passed_truth (partial_of d i)) j;
+          || (ap (λ (o : Optional Bool). unwrap_or o false) (f.is s words cells v) ∙ passed_truth (partial_of d i)) j;
     }
 
 -- flushed

@@ -1,4 +1,5 @@
 -- A partial as it is told, by its row and its counts. Assumes nothing.
+use Rattle.std.specs.Prelude.{None, Some}
 use mathlib.Core.Path.{◌≡◌, refl, sym, ap, ◌∙◌}
 use mathlib.Core.Bool.{Bool, true, false}
 use mathlib.Core.List.{List, [], ◌∷◌}
@@ -14,7 +15,6 @@ use Rattle.model.specs.change.Partials.{blocks_in_state}
 use Rattle.model.specs.ask.Questions.{reply_piece, info_of, info, finished_in, plain, flag, one, ask_blocks_in_piece, piece_info}
 use Rattle.model.specs.ask.Questions.{is_piece_finished}
 use Rattle.memory_records.specs.declared.record.DownloadingPiece.{DownloadingPiece as Record}
-use Rattle.memory_records.specs.declared.search.Found.TheVariants.{At, Nothing}
 use Rattle.memory_records.specs.Rows.{row_at, records_in}
 use Rattle.memory_layout.specs.declared.shape.Shape.{Shape}
 use Rattle.memory_layout.specs.Decode.{head_word, record_at, decode}
@@ -129,7 +129,7 @@ module _ (s : Shape) (live : ℕ) (rows counts words cells : List ℕ) (g : Aske
 
   module _ (i : ℕ) where
     -- no partial
-    pub info_none : (r : PieceInfo) → FoundIn live rows i Nothing → BothSay s words cells (λ d. info_of d i none) (info_numbers r)
+    pub info_none : (r : PieceInfo) → FoundIn live rows i None → BothSay s words cells (λ d. info_of d i none) (info_numbers r)
         → info_reply r ≡ reply_piece here i piece_info
     unfolding info_reply reply_piece
     info_none r f e =
@@ -137,21 +137,21 @@ module _ (s : Shape) (live : ℕ) (rows counts words cells : List ℕ) (g : Aske
         ∙ ap (info_of here i) (sym (f.is s words cells (asked_rows s live rows words cells g.asked))))
 
     -- that of a row
-    pub info_some : (r : PieceInfo) (k : ℕ) → FoundIn live rows i (At k) → InfoSays rows counts k r
+    pub info_some : (r : PieceInfo) (k : ℕ) → FoundIn live rows i (Some k) → InfoSays rows counts k r
         → info_reply r ≡ reply_piece here i piece_info
     unfolding info_reply reply_piece info_of
     info_some r k f e =
         let v = asked_rows s live rows words cells g.asked in
         ap plain (e.is s live words cells v g.held f.row.0 ∙ ap (info_of here i) (sym (f.is s words cells v).1))
 
-    pub finished_none : (t : Bool) → FoundIn live rows i Nothing → CellsSay s cells (λ d. (piece_at d i).flushed) t
+    pub finished_none : (t : Bool) → FoundIn live rows i None → CellsSay s cells (λ d. (piece_at d i).flushed) t
         → flag t ≡ reply_piece here i is_piece_finished
     unfolding reply_piece finished_in
     finished_none t f e =
         ap flag (e.is (records_in live rows) words g.asked.stands.bounds
         ∙ ap (finished_in here i) (sym (f.is s words cells (asked_rows s live rows words cells g.asked))))
 
-    pub finished_some : (k finished writing blocks there : ℕ) → FoundIn live rows i (At k) → CountSays counts k Finished finished
+    pub finished_some : (k finished writing blocks there : ℕ) → FoundIn live rows i (Some k) → CountSays counts k Finished finished
         → CountSays counts k Writing writing → HeadSays words (λ d. reply_piece d i ask_blocks_in_piece) (one blocks)
         → there ≡ finished + writing
         → flag (leb blocks there) ≡ reply_piece here i is_piece_finished

@@ -1,12 +1,10 @@
 -- The flags of a partial as an answer, and what an answer from rows and cells is of the picker. Assumes nothing.
-use Rattle.std.specs.Prelude.{ℕ, ◌≡◌, ◌⊎◌, Bool, cond, List, eqb}
+use Rattle.std.specs.Prelude.{ℕ, ◌≡◌, ◌⊎◌, Bool, cond, List, eqb, None, Option as Optional, Some}
 use Rattle.std.proofs.Math.Option.{Option, none, some}
 use Rattle.model.specs.State.{Picker, DownloadingPiece}
 use Rattle.model.specs.ask.Questions.{Reply, nothing, flag}
 use Rattle.memory_layout.specs.declared.shape.Shape.{Shape}
 use Rattle.memory_rows.specs.Lookup.{LiveRows, picker_in}
-use Rattle.ask_partial.specs.declared.flags.FlagOf.{FlagOf}
-use Rattle.ask_partial.specs.declared.flags.FlagOf.TheVariants.{Flag, Nothing}
 
 -- ---- flags by document 01's weights: 1 passed, 2 locked, 4 hashing
 abbrev pub IsWeight : (weight : ℕ) → Type 0
@@ -16,14 +14,14 @@ unfoldable pub flag_in : (weight : ℕ) (d : DownloadingPiece) → Bool
 flag_in weight d = cond (eqb weight 1) d.passed_hash_check (cond (eqb weight 2) d.locked d.hashing)
 
 -- the flag of a partial, if one stands
-unfoldable pub flag_found : (weight : ℕ) (found : Option DownloadingPiece) → FlagOf
-flag_found weight none = Nothing
-flag_found weight (some d) = Flag (flag_in weight d)
+unfoldable pub flag_found : (weight : ℕ) (found : Option DownloadingPiece) → Optional Bool
+flag_found weight none = None
+flag_found weight (some d) = Some (flag_in weight d)
 
 -- document 01's answer of each case
-unfoldable pub flag_reply : (r : FlagOf) → Reply
-flag_reply (Flag truth) = flag truth
-flag_reply Nothing = nothing
+unfoldable pub flag_reply : (r : Optional Bool) → Reply
+flag_reply (Some truth) = flag truth
+flag_reply None = nothing
 
 -- ---- what an answer is of the picker
 -- told from rows and cells, beside any words

@@ -10,30 +10,20 @@ ghost use Rattle.ask_partial.specs.Flags.{IsWeight, flag_found, flag_reply, Rows
 
 use memory_fields::flushed;
 use memory_layout::Shape;
-use memory_records::Found;
 use memory_rows::find;
 
-// Whether a flag is set, where a partial stands.
-#[derive(Drop)]
-pub enum FlagOf {
-    Flag(bool),
-    Nothing,
-}
-
 // The flag of a weight: 1 passed, 2 locked, 4 hashing.
-fn flag_of(rows: &[u32], live: usize, i: usize, weight: u32) -> FlagOf
+fn flag_of(rows: &[u32], live: usize, i: usize, weight: u32) -> Option<bool>
     requires live_bound { (live ≤ 512) × (length rows.now ≡ 1536) }
     requires rows_value { rising_from 0 (records_in live rows.now) ≡ true }
     requires weight { IsWeight weight }
     ensures { RowsSay live rows.now (λ d. flag_found weight (partial_of d i)) result }
 {
-    let Found::At(k) = find(rows, live, i) else {
-        return FlagOf::Nothing;
-    };
-    FlagOf::Flag(rows[1024 + k] / weight % 2 == 1)
+    let k = find(rows, live, i)?;
+    Some(rows[1024 + k] / weight % 2 == 1)
 }
 
-pub fn passed_hash_check(rows: &[u32], live: usize, i: usize) -> FlagOf
+pub fn passed_hash_check(rows: &[u32], live: usize, i: usize) -> Option<bool>
     requires live_bound { (live ≤ 512) × (length rows.now ≡ 1536) }
     requires rows_value { rising_from 0 (records_in live rows.now) ≡ true }
     ensures { RowsSay live rows.now (λ d. reply_piece d i passed_hash_check) (flag_reply result) }
@@ -41,7 +31,7 @@ pub fn passed_hash_check(rows: &[u32], live: usize, i: usize) -> FlagOf
     flag_of(rows, live, i, 1)
 }
 
-pub fn locked(rows: &[u32], live: usize, i: usize) -> FlagOf
+pub fn locked(rows: &[u32], live: usize, i: usize) -> Option<bool>
     requires live_bound { (live ≤ 512) × (length rows.now ≡ 1536) }
     requires rows_value { rising_from 0 (records_in live rows.now) ≡ true }
     ensures { RowsSay live rows.now (λ d. reply_piece d i locked?) (flag_reply result) }
@@ -49,7 +39,7 @@ pub fn locked(rows: &[u32], live: usize, i: usize) -> FlagOf
     flag_of(rows, live, i, 2)
 }
 
-pub fn hashing(rows: &[u32], live: usize, i: usize) -> FlagOf
+pub fn hashing(rows: &[u32], live: usize, i: usize) -> Option<bool>
     requires live_bound { (live ≤ 512) × (length rows.now ≡ 1536) }
     requires rows_value { rising_from 0 (records_in live rows.now) ≡ true }
     ensures { RowsSay live rows.now (λ d. reply_piece d i hashing?) (flag_reply result) }
@@ -63,10 +53,7 @@ pub fn is_hashing(rows: &[u32], live: usize, i: usize) -> bool
     requires rows_value { rising_from 0 (records_in live rows.now) ≡ true }
     ensures { RowsSay live rows.now (λ d. reply_piece d i is_hashing) (flag result) }
 {
-    let FlagOf::Flag(is) = flag_of(rows, live, i, 4) else {
-        return false;
-    };
-    is
+    flag_of(rows, live, i, 4).unwrap_or(false)
 }
 
 // Whether the piece is flushed, or passed while still a partial.
@@ -80,8 +67,5 @@ pub fn have_piece(cells: &[u16], rows: &[u32], live: usize, s: Shape, i: usize) 
     if flushed(cells, s, i) {
         return true;
     }
-    let FlagOf::Flag(passed) = flag_of(rows, live, i, 1) else {
-        return false;
-    };
-    passed
+    flag_of(rows, live, i, 1).unwrap_or(false)
 }

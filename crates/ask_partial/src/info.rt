@@ -11,7 +11,7 @@ use ask_piece::blocks_in_piece;
 use memory_counts::{finished, requested, writing};
 use memory_fields::flushed;
 use memory_layout::Shape;
-use memory_records::{Found, row};
+use memory_records::row;
 use memory_rows::find;
 use types::{u16_to_u64, u32_to_usize, u64_to_u16};
 
@@ -80,7 +80,7 @@ pub fn piece_info(
     requires i_lt_pieces { i < s.pieces }
     ensures { info_reply result ≡ reply_piece (picker_in live rows.now words.now cells.now) i piece_info }
 {
-    let Found::At(k) = find(rows, live, i) else {
+    let Some(k) = find(rows, live, i) else {
         return unopened(words, cells, s, i);
     };
     info_at(rows, counts, k)
@@ -101,7 +101,7 @@ pub fn is_piece_finished(
     ensures { flag result
         ≡ reply_piece (picker_in live rows.now words.now cells.now) i is_piece_finished }
 {
-    let Found::At(k) = find(rows, live, i) else {
+    let Some(k) = find(rows, live, i) else {
         return flushed(cells, s, i);
     };
     let there = u16_to_u64(finished(counts, k)) + u16_to_u64(writing(counts, k));

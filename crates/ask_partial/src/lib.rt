@@ -4,5 +4,5 @@
 mod flags;
 mod info;
 
-pub use flags::{FlagOf, hashing, have_piece, is_hashing, locked, passed_hash_check};
+pub use flags::{hashing, have_piece, is_hashing, locked, passed_hash_check};
 pub use info::{PieceInfo, info_at, is_piece_finished, piece_info};

@@ -35,5 +35,5 @@ pub fn payload_blocks_in_piece(words: &[u64], s: Shape, i: usize) -> u64
     let blocks = blocks_in_piece(words, s, i);
     let pad = memory_fields::pad_bytes(words, s, i);
     let pads = pad / geometry::block_size(head_word(words, 1));
-    if pads < blocks { blocks - pads } else { 0 }
+    blocks.saturating_sub(pads)
 }

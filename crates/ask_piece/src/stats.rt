@@ -25,7 +25,7 @@ pub struct PieceStats {
 fn bucket_of(rank: u16) -> u16
     ensures { result ≡ rank - 1 }
 {
-    if rank > 0 { rank - 1 } else { 0 }
+    rank.saturating_sub(1)
 }
 
 // Peers that have the piece, with the seeds.

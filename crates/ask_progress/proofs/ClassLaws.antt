@@ -13,11 +13,17 @@ use Rattle.model.specs.ask.Questions.{reply_picker, flag, one, is_finished, is_s
 use Rattle.model.specs.ask.Questions.{count_where, num_have, num_filtered, num_have_filtered}
 use Rattle.model.proofs.base.Counts.{length-from}
 use Rattle.model.proofs.sound.PartialLaws.{size_filter_le}
-use Rattle.ask_totals.specs.declared.count.Which.TheVariants.{Settled, Left}
-use Rattle.ask_totals.specs.Totals.{passes_in}
+use Rattle.ask_totals.specs.Totals.{Test, tested}
 use Rattle.ask_totals.proofs.CountLaws.{size_more}
 
 -- ---- one piece
+-- had or filtered; had and filtered, or neither
+abbrev pub settled : Test
+settled h f = h || f
+
+abbrev pub left : Test
+left h f = beq h f
+
 settled_bit : (h f : Bool) → bit (h || f) * 1 ≡ bit h * 1 + bit (f && not h) * 1
 settled_bit true true = refl
 settled_bit true false = refl
@@ -64,13 +70,13 @@ module _ (h f : ℕ → Bool) where
 -- ---- of a picker
 module _ (d : Picker) where
   -- all settled: those not filtered are no more than those had
-  pub finished_is : (r n : ℕ) → r ≡ count_where d (passes_in Settled d) → n ≡ pieces_in d → flag (eqb r n) ≡ reply_picker d is_finished
+  pub finished_is : (r n : ℕ) → r ≡ count_where d (tested settled d) → n ≡ pieces_in d → flag (eqb r n) ≡ reply_picker d is_finished
   unfolding reply_picker count_where pieces_where num_have num_filtered len
   finished_is r n e o =
       let l = from 0 (pieces_in d) in
       let a = settled_size (have_piece d) (filtered d) l in
       let m = length-from 0 (pieces_in d) in
-      let t = size_filter_le (passes_in Settled d) l in
+      let t = size_filter_le (tested settled d) l in
       let nh = len (filter (have_piece d) l) in
       let nf = len (filter (λ i. filtered d i && not (have_piece d i)) l) in
       ap flag (elim (dec_le (pieces_in d - nf) nh) [
@@ -83,12 +89,12 @@ module _ (d : Picker) where
   seeding_is r n e o = rw (e, o) refl
 
   -- what is counted is what is left of all
-  pub left_is : (r : ℕ) → r ≡ count_where d (passes_in Left d) → one r ≡ reply_picker d num_want_left
+  pub left_is : (r : ℕ) → r ≡ count_where d (tested left d) → one r ≡ reply_picker d num_want_left
   unfolding reply_picker count_where pieces_where num_have num_filtered num_have_filtered len
   left_is r e =
       let l = from 0 (pieces_in d) in
       let a = left_size (have_piece d) (filtered d) l in
       let b = settled_size (have_piece d) (filtered d) l in
       let m = length-from 0 (pieces_in d) in
-      let t = size_filter_le (passes_in Settled d) l in
+      let t = size_filter_le (tested settled d) l in
       ap one (omega (arith, a, b, m, t, e))

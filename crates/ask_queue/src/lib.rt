@@ -49,11 +49,9 @@ fn put_queue(
     ensures { InfosPut rows.now counts.now (nth [] queues.now q) n size out.old
         out.new }
 {
-    let mut j = 0;
-    while j < size {
+    for j in 0..size {
         let k = place_at(queues, q, j);
         put_info(out, n + j, info_at(rows, counts, k));
-        j += 1;
     }
 }
 
@@ -77,11 +75,9 @@ pub fn get_download_queue(
     let mut sizes = [0; 4];
     download_queues(cells, rows, live, s, &mut queues, &mut sizes);
     let mut n = 0;
-    let mut q = 0;
-    while q < 4 {
+    for q in 0..4 {
         put_queue(rows, counts, &queues, q, sizes[q], out, n);
         n += sizes[q];
-        q += 1;
     }
     n
 }

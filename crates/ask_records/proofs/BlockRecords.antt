@@ -1,4 +1,5 @@
 -- The records of blocks, and the answers that they are. Assumes nothing.
+use Rattle.std.specs.Prelude.{None, Some}
 use mathlib.Core.Path.{◌≡◌, refl, sym, ap, ap₂, ◌∙◌}
 use mathlib.Core.Bool.{Bool, true, false, cond}
 use mathlib.Core.List.{List, [], ◌∷◌}
@@ -11,7 +12,6 @@ use Rattle.model.specs.State.{Picker, Block, blocks_in_piece}
 use Rattle.model.specs.ask.Questions.{reply_piece, list_piece, peers_in, block_info, of_partial, numbers, one, ask_blocks_in_piece, get_downloaders}
 use Rattle.model.specs.ask.Questions.{blocks_for_piece}
 use Rattle.memory_records.specs.declared.record.DownloadingPiece.{DownloadingPiece as Record}
-use Rattle.memory_records.specs.declared.search.Found.TheVariants.{At, Nothing}
 use Rattle.memory_records.specs.Rows.{row_at, records_in}
 use Rattle.ask_picker.proofs.RecordRows.{record_row}
 use Rattle.memory_layout.specs.declared.shape.Shape.{Shape}
@@ -28,7 +28,6 @@ use Rattle.memory_rows.specs.Lookup.{picker_in, FoundIn}
 use Rattle.ask_picker.specs.Asked.{Asked}
 use Rattle.ask_picker.proofs.AskedLaws.{asked_rows}
 use Rattle.ask_piece.proofs.ReplyLaws.{one_is}
-use Rattle.ask_records.specs.declared.blocks.RecordsOf.TheVariants.{Records, Nothing as NoRecords}
 use Rattle.ask_records.specs.Records.{tells?, told_reply, peer_pair, peer_read, block_read, Lists, Written}
 use Rattle.ask_records.specs.Answers.{blocks_reply}
 use Rattle.ask_records.proofs.RecordLaws.{told_parts, told_reply_lem, concat_each, concat_none}
@@ -89,7 +88,7 @@ module _ (s : Shape) (live : ℕ) (rows words cells : List ℕ) (g : Asked s liv
     many_few = omega (arith, many_blocks, blocks_within s (records_in live rows) words cells g.stands.bounds i)
 
     -- no partial stands
-    pub downloaders_none : FoundIn live rows i Nothing → (before after : List ℕ) → Lists 2 peer_read (λ j. none ∷ []) many before after
+    pub downloaders_none : FoundIn live rows i None → (before after : List ℕ) → Lists 2 peer_read (λ j. none ∷ []) many before after
         → told_reply 2 peer_read many after ≡ list_piece here i get_downloaders
     unfolding list_piece peers_in tells?
     downloaders_none f before after l =
@@ -98,7 +97,7 @@ module _ (s : Shape) (live : ℕ) (rows words cells : List ℕ) (g : Asked s liv
         ∙ ap (λ (n : ℕ). replicate n none) (many_blocks ∙ blocks_of_is (records_in live rows) words cells i)
         ∙ ap (peers_in here i) (sym (f.is s words cells (asked_rows s live rows words cells g))))
 
-    module _ (k : ℕ) (f : FoundIn live rows i (At k)) (p : ℕ) (e : p ≡ (row_at rows k).info_idx) where
+    module _ (k : ℕ) (f : FoundIn live rows i (Some k)) (p : ℕ) (e : p ≡ (row_at rows k).info_idx) where
       blocks_there : (partial_in here k).blocks ≡ tabulate many (block_held words cells s.pieces s.blocks p)
       unfolding blocks_held
       blocks_there =
@@ -125,7 +124,7 @@ module _ (s : Shape) (live : ℕ) (rows words cells : List ℕ) (g : Asked s liv
 
       pub blocks_some : (before after : List ℕ)
           → Lists 4 block_read (λ j. block_info (block_held words cells s.pieces s.blocks p j)) many before after
-          → blocks_reply after (Records many) ≡ list_piece here i blocks_for_piece
+          → blocks_reply after (Some many) ≡ list_piece here i blocks_for_piece
       unfolding list_piece blocks_reply of_partial block_info tells?
       blocks_some before after l =
           told_reply_lem 4 block_read (λ j. block_info (block_held words cells s.pieces s.blocks p j)) many before after l (λ j. refl)
@@ -135,7 +134,7 @@ module _ (s : Shape) (live : ℕ) (rows words cells : List ℕ) (g : Asked s liv
           (sym (f.is s words cells (asked_rows s live rows words cells g)).1)
 
   -- no partial stands
-  pub blocks_none : FoundIn live rows i Nothing → (out : List ℕ) → blocks_reply out NoRecords ≡ list_piece here i blocks_for_piece
+  pub blocks_none : FoundIn live rows i None → (out : List ℕ) → blocks_reply out None ≡ list_piece here i blocks_for_piece
   unfolding list_piece blocks_reply of_partial
   blocks_none f out =
       ap (of_partial (λ d. numbers (concat_map block_info d.blocks))) (sym (f.is s words cells (asked_rows s live rows words cells g)))

@@ -12,16 +12,9 @@ use crate::words::{bit_of, peer_or_zero, put_words};
 use ask_piece::blocks_in_piece;
 use memory_blocks::get_block;
 use memory_layout::Shape;
-use memory_records::{Found, row};
+use memory_records::row;
 use memory_rows::find;
 use types::{u16_to_u64, u32_to_usize, u64_to_usize};
-
-// How many records were written, where a partial stands.
-#[derive(Drop)]
-pub enum RecordsOf {
-    Records(usize),
-    Nothing,
-}
 
 // Those of the first blocks of place p.
 fn blocks_at(words: &[u64], cells: &[u16], s: Shape, p: usize, many: usize, out: &mut [u64])
@@ -31,8 +24,7 @@ fn blocks_at(words: &[u64], cells: &[u16], s: Shape, p: usize, many: usize, out:
     ensures { Lists 4 block_read (λ j. block_info (block_held words.now cells.now s.pieces s.blocks p j))
         many out.old out.new }
 {
-    let mut j = 0;
-    while j < many {
+    for j in 0..many {
         let x = get_block(words, cells, s, p, j);
         let block = [
             u16_to_u64(x.state),
@@ -41,7 +33,6 @@ fn blocks_at(words: &[u64], cells: &[u16], s: Shape, p: usize, many: usize, out:
             peer_or_zero(x.has_peer, x.peer),
         ];
         put_words(out, 4 * j, &block);
-        j += 1;
     }
 }
 
@@ -53,7 +44,7 @@ pub fn blocks_for_piece(
     s: Shape,
     i: usize,
     out: &mut [u64],
-) -> RecordsOf
+) -> Option<usize>
     requires asked { Asked s live rows.now words.now cells.now }
     requires i_lt_pieces { i < s.pieces }
     requires blocks_in_bounds { 4 * s.blocks ≤ length out.old }
@@ -62,10 +53,8 @@ pub fn blocks_for_piece(
     ensures written { Written 4 (records_in result) out.old out.new }
 {
     let many = u64_to_usize(blocks_in_piece(words, s, i));
-    let Found::At(k) = find(rows, live, i) else {
-        return RecordsOf::Nothing;
-    };
+    let k = find(rows, live, i)?;
     let place = u32_to_usize(row(rows, k).info_idx);
     blocks_at(words, cells, s, place, many, out);
-    RecordsOf::Records(many)
+    Some(many)
 }

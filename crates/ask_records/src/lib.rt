@@ -5,6 +5,6 @@ mod blocks;
 mod peers;
 mod words;
 
-pub use blocks::{RecordsOf, blocks_for_piece};
+pub use blocks::blocks_for_piece;
 pub use peers::get_downloaders;
 pub use words::{bit_of, put_words};

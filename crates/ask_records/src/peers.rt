@@ -12,7 +12,7 @@ use crate::words::{bit_of, peer_or_zero, put_words};
 use ask_piece::blocks_in_piece;
 use memory_blocks::get_block;
 use memory_layout::Shape;
-use memory_records::{Found, row};
+use memory_records::row;
 use memory_rows::find;
 use types::{u32_to_usize, u64_to_usize};
 
@@ -25,12 +25,10 @@ fn peers_at(words: &[u64], cells: &[u16], s: Shape, p: usize, many: usize, out: 
         (λ j. (block_held words.now cells.now s.pieces s.blocks p j).peer ∷ []) many out.old
         out.new }
 {
-    let mut j = 0;
-    while j < many {
+    for j in 0..many {
         let x = get_block(words, cells, s, p, j);
         let pair = [bit_of(x.has_peer), peer_or_zero(x.has_peer, x.peer)];
         put_words(out, 2 * j, &pair);
-        j += 1;
     }
 }
 
@@ -39,11 +37,9 @@ fn no_peers(many: usize, out: &mut [u64])
     requires { 2 * many ≤ length out.old }
     ensures { Lists 2 peer_read (λ j. none ∷ []) many out.old out.new }
 {
-    let mut j = 0;
-    while j < many {
+    for j in 0..many {
         let pair = [0, 0];
         put_words(out, 2 * j, &pair);
-        j += 1;
     }
 }
 
@@ -65,7 +61,7 @@ pub fn get_downloaders(
     ensures written { Written 2 result out.old out.new }
 {
     let many = u64_to_usize(blocks_in_piece(words, s, i));
-    let Found::At(k) = find(rows, live, i) else {
+    let Some(k) = find(rows, live, i) else {
         no_peers(many, out);
         return many;
     };

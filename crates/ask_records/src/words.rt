@@ -7,7 +7,7 @@ ghost use Rattle.ask_records.specs.Records.{WordsPut};
 pub fn bit_of(truth: bool) -> u64
     ensures { result ≡ bit truth }
 {
-    if truth { 1 } else { 0 }
+    u64::from(truth)
 }
 
 // The peer, or 0 where there is none: what stands in memory beside a has-peer of 0 means nothing.
@@ -22,10 +22,5 @@ pub fn put_words(out: &mut [u64], at: usize, row: &[u64])
     requires { at + length row.now ≤ length out.old }
     ensures { WordsPut at (length row.now) row.now out.old out.new }
 {
-    let n = row.len();
-    let mut f = 0;
-    while f < n {
-        out[at + f] = row[f];
-        f += 1;
-    }
+    out[at..at + row.len()].copy_from_slice(row);
 }

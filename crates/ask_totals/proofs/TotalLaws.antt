@@ -16,10 +16,9 @@ use Rattle.memory_fields.specs.Reading.{CellsSay, WordsSay}
 use Rattle.memory_rows.specs.Lookup.{picker_in}
 use Rattle.ask_picker.specs.Asked.{Asked}
 use Rattle.ask_picker.proofs.AskedLaws.{some_piece, pad_small, asked_rows, asked_queues, asked_rise}
-use Rattle.ask_totals.specs.declared.count.Which.{Which}
 use Rattle.ask_totals.specs.declared.count.PieceCount.{PieceCount}
 use Rattle.ask_totals.specs.Marks.{PiecesLow, Marked}
-use Rattle.ask_totals.specs.Totals.{passes, passes_in, Counted}
+use Rattle.ask_totals.specs.Totals.{Test, tested, Counted}
 use Rattle.ask_totals.proofs.MarkLaws.{mark_says}
 use Rattle.ask_totals.proofs.CountLaws.{bit_less, Counting, counting_next, counting_end}
 
@@ -32,48 +31,47 @@ module _ (s : Shape) (live : ℕ) (rows words cells : List ℕ) (g : Asked s liv
   pub asked_pieces : pieces_in (picker_in live rows words cells) ≡ s.pieces
   asked_pieces = pieces_number s (records_in live rows) words cells g.stands.bounds
 
-  module _ (which : Which) (i num pads : ℕ) (last : Bool)
-      (v : Counting (picker_in live rows words cells) (passes_in which (picker_in live rows words cells)) i num pads last) where
+  module _ (t : Test) (i num pads : ℕ) (last : Bool)
+      (v : Counting (picker_in live rows words cells) (tested t (picker_in live rows words cells)) i num pads last) where
     -- piece i is counted or not
     pub total_next : (marks : List ℕ) → Marked rows live marks → i < s.pieces → (flush : Bool)
         → CellsSay s cells (λ d. (piece_at d i).flushed) flush
         → (priority : ℕ) → CellsSay s cells (λ d. (piece_at d i).priority) priority
-        → (x : Bool) → x ≡ passes which (flush || eqb (get_or marks i 0) 1) (eqb priority 0)
+        → (x : Bool) → x ≡ t (flush || eqb (get_or marks i 0) 1) (eqb priority 0)
         → (pad : ℕ) → WordsSay s words (λ d. (piece_at d i).pad_bytes) pad
         → (a b : ℕ) → a ≡ bit x * 1 → b ≡ bit x * pad
-        → Counting (picker_in live rows words cells) (passes_in which (picker_in live rows words cells)) (i + 1) (num + a) (pads + b) x
+        → Counting (picker_in live rows words cells) (tested t (picker_in live rows words cells)) (i + 1) (num + a) (pads + b) x
     unfolding have_piece filtered
     total_next marks m h flush ef priority ep x ex pad ew a b ea eb =
         let d = picker_in live rows words cells in
         let records = records_in live rows in
         let q = g.stands.bounds in
-        let t = ex ∙ ap₂ (passes which) (ap₂ ◌||◌ (ef.is records words q)
+        let said = ex ∙ ap₂ t (ap₂ ◌||◌ (ef.is records words q)
         (mark_says s live rows words cells (asked_rows s live rows words cells g) (asked_rise s live rows words cells g) marks m i))
         (ap (λ (n : ℕ). eqb n 0) (ep.is records words q)) in
         let w = ew.is records cells q in
-        counting_next d (passes_in which d) i num pads last v (omega (arith, asked_pieces)) x t pad w
+        counting_next d (tested t d) i num pads last v (omega (arith, asked_pieces)) x said pad w
         (omega (arith, w, pad_small s records words cells g.stands i h)) a b ea eb
 
-    -- a number that is added has room
-    pub pads_room : (pad b : ℕ) (x : Bool) → WordsSay s words (λ d. (piece_at d i).pad_bytes) pad → i < s.pieces → b ≡ bit x * pad
-        → pads + b ≤ 17179869184
-    pads_room pad b x ew h eb =
-        let w = ew.is (records_in live rows) cells g.stands.bounds in
-        omega (
-          arith,
-          bit_less x pad,
-          v.small,
-          w,
-          pad_small s (records_in live rows) words cells g.stands i h,
-          g.stands.bounds.spans.in_cells.sizes.many,
-        )
+  -- a number that is added has room
+  pub pads_room : (i pads pad b : ℕ) (x : Bool) → pads ≤ i * 4194304 → WordsSay s words (λ d. (piece_at d i).pad_bytes) pad → i < s.pieces → b ≡ bit x * pad
+      → pads + b ≤ (i + 1) * 4194304
+  pads_room i pads pad b x small ew h eb =
+      let w = ew.is (records_in live rows) cells g.stands.bounds in
+      omega (
+        arith,
+        bit_less x pad,
+        small,
+        w,
+        pad_small s (records_in live rows) words cells g.stands i h,
+      )
 
   -- all pieces are
-  pub total_end : (which : Which) (i : ℕ) (r : PieceCount)
-      → Counting (picker_in live rows words cells) (passes_in which (picker_in live rows words cells)) i r.num_pieces r.pad_bytes
+  pub total_end : (t : Test) (i : ℕ) (r : PieceCount)
+      → Counting (picker_in live rows words cells) (tested t (picker_in live rows words cells)) i r.num_pieces r.pad_bytes
       r.last_piece → s.pieces ≤ i
-      → Counted (picker_in live rows words cells) (passes_in which (picker_in live rows words cells)) r
-  total_end which i r v h =
+      → Counted (picker_in live rows words cells) (tested t (picker_in live rows words cells)) r
+  total_end t i r v h =
       let some = some_piece s (records_in live rows) words cells g.stands in
-      counting_end (picker_in live rows words cells) (passes_in which (picker_in live rows words cells)) i r v (omega (arith, asked_pieces))
+      counting_end (picker_in live rows words cells) (tested t (picker_in live rows words cells)) i r v (omega (arith, asked_pieces))
       (omega (arith, asked_pieces))

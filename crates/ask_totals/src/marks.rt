@@ -14,10 +14,8 @@ pub fn mark_passed(rows: &[u32], live: usize, marks: &mut [u16; 4096])
     ensures { Marked rows.now live marks.new }
 {
     *marks = [0; 4096];
-    let mut k = 0;
-    while k < live {
+    for k in 0..live {
         let piece = u32_to_usize(rows[k]);
         marks[piece] = (rows[1024 + k] % 2) as u16;
-        k += 1;
     }
 }

@@ -10,7 +10,7 @@ ghost use Rattle.ask_partial.specs.Flags.{flag_reply, RowsCellsSay};
 ghost use Rattle.link_piece_questions.specs.Lending.{shaped};
 ghost use Rattle.link_piece_questions.specs.Answers.{flag_told};
 
-use crate::answers::{Told, flagged};
+use crate::answers::Told;
 use link_lists::Geometry;
 use memory_layout::Shape;
 
@@ -20,7 +20,7 @@ pub extern "C" fn aq_passed_hash_check(rows: &[u32], live: usize, i: usize) -> T
     requires rows_value { rising_from 0 (records_in live rows.now) ≡ true }
     ensures { RowsSay live rows.now (λ d. reply_piece d i passed_hash_check) (flag_reply (flag_told result)) }
 {
-    flagged(ask_partial::passed_hash_check(rows, live, i))
+    Told::from(ask_partial::passed_hash_check(rows, live, i))
 }
 
 #[unsafe(no_mangle)]
@@ -29,7 +29,7 @@ pub extern "C" fn aq_locked(rows: &[u32], live: usize, i: usize) -> Told
     requires rows_value { rising_from 0 (records_in live rows.now) ≡ true }
     ensures { RowsSay live rows.now (λ d. reply_piece d i locked?) (flag_reply (flag_told result)) }
 {
-    flagged(ask_partial::locked(rows, live, i))
+    Told::from(ask_partial::locked(rows, live, i))
 }
 
 #[unsafe(no_mangle)]
@@ -38,7 +38,7 @@ pub extern "C" fn aq_hashing(rows: &[u32], live: usize, i: usize) -> Told
     requires rows_value { rising_from 0 (records_in live rows.now) ≡ true }
     ensures { RowsSay live rows.now (λ d. reply_piece d i hashing?) (flag_reply (flag_told result)) }
 {
-    flagged(ask_partial::hashing(rows, live, i))
+    Told::from(ask_partial::hashing(rows, live, i))
 }
 
 #[unsafe(no_mangle)]

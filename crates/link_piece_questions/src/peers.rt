@@ -9,7 +9,7 @@ ghost use Rattle.ask_block.specs.Blocks.{peer_reply};
 ghost use Rattle.link_piece_questions.specs.Lending.{shaped};
 ghost use Rattle.link_piece_questions.specs.Answers.{peer_told};
 
-use crate::answers::{Told, peered};
+use crate::answers::Told;
 use link_lists::Geometry;
 use memory_layout::Shape;
 
@@ -33,7 +33,7 @@ pub extern "C" fn aq_get_downloader(
         blocks: g.blocks,
         places: g.places,
     };
-    peered(ask_block::get_downloader(words, cells, rows, live, s, i, j))
+    Told::from(ask_block::get_downloader(words, cells, rows, live, s, i, j))
 }
 
 #[unsafe(no_mangle)]
@@ -56,5 +56,5 @@ pub extern "C" fn aq_block_peer(
         blocks: g.blocks,
         places: g.places,
     };
-    peered(ask_block::block_peer(words, cells, rows, live, s, i, j))
+    Told::from(ask_block::block_peer(words, cells, rows, live, s, i, j))
 }

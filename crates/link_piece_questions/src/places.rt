@@ -11,7 +11,7 @@ ghost use Rattle.ask_places.specs.Placed.{placed_reply};
 ghost use Rattle.link_piece_questions.specs.Lending.{shaped};
 ghost use Rattle.link_piece_questions.specs.Answers.{placed_told};
 
-use crate::answers::{Told, placed};
+use crate::answers::Told;
 use link_lists::Geometry;
 use memory_layout::Shape;
 
@@ -20,7 +20,7 @@ pub extern "C" fn aq_partial_at(rows: &[u32], live: usize, k: usize) -> Told
     requires { (live ≤ 512) × (length rows.now ≡ 1536) }
     ensures { RowsSay live rows.now (λ d. reply d (partial_at k)) (placed_reply (placed_told result)) }
 {
-    placed(ask_places::partial_at(rows, live, k))
+    Told::from(ask_places::partial_at(rows, live, k))
 }
 
 #[unsafe(no_mangle)]
@@ -34,7 +34,7 @@ pub extern "C" fn aq_recent_extent(words: &[u64], g: Geometry, k: usize) -> Told
         blocks: g.blocks,
         places: g.places,
     };
-    placed(ask_places::recent_extent(words, s, k))
+    Told::from(ask_places::recent_extent(words, s, k))
 }
 
 #[unsafe(no_mangle)]
@@ -48,5 +48,5 @@ pub extern "C" fn aq_list_place(words: &[u64], g: Geometry, k: usize) -> Told
         blocks: g.blocks,
         places: g.places,
     };
-    placed(ask_places::list_place(words, s, k))
+    Told::from(ask_places::list_place(words, s, k))
 }

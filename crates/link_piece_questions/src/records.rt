@@ -9,7 +9,7 @@ ghost use Rattle.ask_records.specs.Answers.{records_in, blocks_reply};
 ghost use Rattle.link_piece_questions.specs.Lending.{shaped};
 ghost use Rattle.link_piece_questions.specs.Answers.{records_told};
 
-use crate::answers::{Told, recorded};
+use crate::answers::Told;
 use link_lists::Geometry;
 use memory_layout::Shape;
 
@@ -35,5 +35,5 @@ pub extern "C" fn aq_blocks_for_piece(
         blocks: g.blocks,
         places: g.places,
     };
-    recorded(ask_records::blocks_for_piece(words, cells, rows, live, s, i, out))
+    Told::from(ask_records::blocks_for_piece(words, cells, rows, live, s, i, out))
 }

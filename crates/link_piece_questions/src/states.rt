@@ -10,7 +10,7 @@ ghost use Rattle.ask_block.specs.Blocks.{number_reply};
 ghost use Rattle.link_piece_questions.specs.Lending.{shaped};
 ghost use Rattle.link_piece_questions.specs.Answers.{number_told};
 
-use crate::answers::{Told, numbered};
+use crate::answers::Told;
 use link_lists::Geometry;
 use memory_layout::Shape;
 
@@ -126,7 +126,7 @@ pub extern "C" fn aq_block_state(
         blocks: g.blocks,
         places: g.places,
     };
-    numbered(ask_block::block_state(words, cells, rows, live, s, i, j))
+    Told::from(ask_block::block_state(words, cells, rows, live, s, i, j))
 }
 
 #[unsafe(no_mangle)]
@@ -149,5 +149,5 @@ pub extern "C" fn aq_block_num_peers(
         blocks: g.blocks,
         places: g.places,
     };
-    numbered(ask_block::block_num_peers(words, cells, rows, live, s, i, j))
+    Told::from(ask_block::block_num_peers(words, cells, rows, live, s, i, j))
 }

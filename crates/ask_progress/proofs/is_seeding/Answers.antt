@@ -9,4 +9,4 @@ use Rattle.ask_progress.proofs.is_seeding.Goals as goal
 pub returns : goal.returns
 unfolding num_have
 returns c = let n = asked_pieces c.args.s c.args.live c.args.rows.now c.args.words.now c.args.cells.now c.requires in
-    seeding_is _ _ _ c.counted.ensures.pieces (c.usize_to_u64.ensures ∙ sym n)
+    seeding_is _ _ _ (c.counted.ensures (λ h f. h) (λ h f r p. search rules)).pieces (c.usize_to_u64.ensures ∙ sym n)

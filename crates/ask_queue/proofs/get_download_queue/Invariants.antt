@@ -12,6 +12,3 @@ use Rattle.ask_queue.proofs.get_download_queue.Given as goal
 
 abbrev pub invariant-loop-q : goal.invariant-loop-q
 invariant-loop-q l = Infos (picker_in l.live l.rows l.words l.cells) l.sizes l.q l.n l.initial.out l.out
-
-abbrev pub decreases-loop-q : goal.decreases-loop-q
-decreases-loop-q l = 4 - l.q

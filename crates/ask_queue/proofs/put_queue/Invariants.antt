@@ -10,6 +10,3 @@ use Rattle.ask_queue.proofs.put_queue.Given as goal
 
 abbrev pub invariant-loop-j : goal.invariant-loop-j
 invariant-loop-j l = (l.j ≤ l.size) × InfosPut l.rows l.counts (nth [] l.queues l.q) l.n l.j l.initial.out l.out
-
-abbrev pub decreases-loop-j : goal.decreases-loop-j
-decreases-loop-j l = l.size - l.j

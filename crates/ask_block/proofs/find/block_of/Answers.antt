@@ -16,17 +16,17 @@ find-requires c = record {
       c.args.rows.now c.args.words.now c.args.cells.now c.requires.asked;
 }
 
-pub returns-in_default : goal.returns-in_default
-returns-in_default c = let f = subst (FoundIn c.args.live c.args.rows.now c.args.i) c.in_default.is c.find.ensures.picker in
-    block_missing c.args.s c.args.live c.args.rows.now c.args.words.now c.args.cells.now c.requires.asked c.args.i c.args.j f
+pub returns-in_err-k : goal.returns-in_err-k
+returns-in_err-k c = let f = subst (FoundIn c.args.live c.args.rows.now c.args.i) c.in_err-k.was c.find.ensures.picker in
+    rw c.from_residual.ensures (block_missing c.args.s c.args.live c.args.rows.now c.args.words.now c.args.cells.now c.requires.asked c.args.i c.args.j f)
 
 pub row-requires : goal.row-requires
-row-requires c = let f = subst (FoundIn c.args.live c.args.rows.now c.args.i) c.in-At.is c.find.ensures.picker in
+row-requires c = let f = subst (FoundIn c.args.live c.args.rows.now c.args.i) c.in_ok-k.was c.find.ensures.picker in
     let n = (asked_queues c.args.s c.args.live c.args.rows.now c.args.words.now c.args.cells.now c.requires.asked).few in
     (omega (arith, f.row.0), c.requires.asked.wide)
 
 pub get_block-requires : goal.get_block-requires
-get_block-requires c = let f = subst (FoundIn c.args.live c.args.rows.now c.args.i) c.in-At.is c.find.ensures.picker in
+get_block-requires c = let f = subst (FoundIn c.args.live c.args.rows.now c.args.i) c.in_ok-k.was c.find.ensures.picker in
     let e = c.u32_to_usize-place.ensures ∙ ap (λ (r : Record). r.info_idx) c.row.ensures in record {
       spans = c.requires.asked.stands.bounds.spans;
       p_lt_places = (
@@ -37,7 +37,7 @@ get_block-requires c = let f = subst (FoundIn c.args.live c.args.rows.now c.args
     }
 
 pub returns : goal.returns
-returns c = let f = subst (FoundIn c.args.live c.args.rows.now c.args.i) c.in-At.is c.find.ensures.picker in
+returns c = let f = subst (FoundIn c.args.live c.args.rows.now c.args.i) c.in_ok-k.was c.find.ensures.picker in
     let e = c.u32_to_usize-place.ensures ∙ ap (λ (r : Record). r.info_idx) c.row.ensures in
     block_told c.args.s c.args.live c.args.rows.now c.args.words.now c.args.cells.now c.requires.asked c.args.i c.args.j _ f c.requires.i_lt_pieces.1 _ _ e
     c.get_block.ensures

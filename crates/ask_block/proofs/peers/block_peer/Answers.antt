@@ -19,5 +19,5 @@ returns-in_default c = let d = picker_in c.args.live c.args.rows.now c.args.word
 pub returns : goal.returns
 unfolding reply_block of_block_there peer_reply
 returns c = let d = picker_in c.args.live c.args.rows.now c.args.words.now c.args.cells.now in
-    let t = subst (BlockTold (block_in (partial_of d c.args.i) c.args.j)) c.in-Block.is c.block_of.ensures in
+    let t = subst (BlockTold (block_in (partial_of d c.args.i) c.args.j)) c.in-Some.is c.block_of.ensures in
     ap peer_reply c.peer_of.ensures ∙ peer_reply_lem _ ∙ asked_of d c.args.i c.args.j block_peer _ t.0

@@ -19,10 +19,10 @@ returns-in_default c = let d = picker_in c.args.live c.args.rows.now c.args.word
 pub returns-then-x-eq0 : goal.returns-then-x-eq0
 unfolding peer_reply
 returns-then-x-eq0 c = let d = picker_in c.args.live c.args.rows.now c.args.words.now c.args.cells.now in
-    let t = subst (BlockTold (block_in (partial_of d c.args.i) c.args.j)) c.in-Block.is c.block_of.ensures in
+    let t = subst (BlockTold (block_in (partial_of d c.args.i) c.args.j)) c.in-Some.is c.block_of.ensures in
     downloader_free d c.args.i c.args.j _ t.0 t.1 c.if-x-eq0.true
 
 pub returns : goal.returns
 returns c = let d = picker_in c.args.live c.args.rows.now c.args.words.now c.args.cells.now in
-    let t = subst (BlockTold (block_in (partial_of d c.args.i) c.args.j)) c.in-Block.is c.block_of.ensures in
+    let t = subst (BlockTold (block_in (partial_of d c.args.i) c.args.j)) c.in-Some.is c.block_of.ensures in
     ap peer_reply c.peer_of.ensures ∙ peer_reply_lem _ ∙ downloader_busy d c.args.i c.args.j _ t.0 t.1 c.if-x-eq0.false

@@ -31,7 +31,7 @@ returns-in_default c = let d = picker_in c.args.live c.args.rows.now c.args.word
 pub returns : goal.returns
 unfolding block_test same_block_state
 returns c = let d = picker_in c.args.live c.args.rows.now c.args.words.now c.args.cells.now in
-    let t = subst (BlockTold (block_in (partial_of d c.args.i) c.args.j)) c.in-Block.is c.block_of.ensures in
+    let t = subst (BlockTold (block_in (partial_of d c.args.i) c.args.j)) c.in-Some.is c.block_of.ensures in
     let e = (subst (CellsSay c.args.s c.args.cells.now (λ d. (piece_at d c.args.i).flushed)) c.if-flushed.false c.flushed.ensures
     ).is (records_in c.args.live c.args.rows.now) c.args.words.now c.requires.asked.stands.bounds in
     finished_open d c.args.i c.args.j e _ (ap (λ (n : ℕ). eqb n 3) t.1 ∙ ap (block_test (λ x. same_block_state x.state Finished)) (sym

@@ -21,5 +21,5 @@ returns-in_default c = let d = picker_in c.args.live c.args.rows.now c.args.word
 pub returns : goal.returns
 unfolding reply_block block_test same_block_state
 returns c = let d = picker_in c.args.live c.args.rows.now c.args.words.now c.args.cells.now in
-    let t = subst (BlockTold (block_in (partial_of d c.args.i) c.args.j)) c.in-Block.is c.block_of.ensures in
+    let t = subst (BlockTold (block_in (partial_of d c.args.i) c.args.j)) c.in-Some.is c.block_of.ensures in
     ap (λ (n : ℕ). flag (eqb n 1)) t.1 ∙ asked_of d c.args.i c.args.j is_requested _ t.0

@@ -19,5 +19,5 @@ returns-in_default c = let d = picker_in c.args.live c.args.rows.now c.args.word
 pub returns : goal.returns
 unfolding reply_block num_peers_of block_of
 returns c = let d = picker_in c.args.live c.args.rows.now c.args.words.now c.args.cells.now in
-    let t = subst (BlockTold (block_in (partial_of d c.args.i) c.args.j)) c.in-Block.is c.block_of.ensures in
+    let t = subst (BlockTold (block_in (partial_of d c.args.i) c.args.j)) c.in-Some.is c.block_of.ensures in
     asked_of d c.args.i c.args.j num_peers_block _ t.0

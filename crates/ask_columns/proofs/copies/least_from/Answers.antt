@@ -13,16 +13,5 @@ pub loop-k-init : goal.loop-k-init
 unfolding copies_from tabulate least_of count
 loop-k-init c = (omega arith, refl)
 
-pub copies_at-requires : goal.copies_at-requires
-copies_at-requires c = record {
-  cells_span = c.requires.cells_span;
-  few_copies = c.requires.few_copies;
-  i_lt_pieces = omega (arith, c.requires.many_bound, c.loop-k-test);
-}
-
 pub loop-k-preserved : goal.loop-k-preserved
 loop-k-preserved c = (omega (arith, c.loop-k-test), c.lesser-lowest.ensures ∙ least_next _ _ _ _ c.loop-k.k _ _ c.loop-k.invariant.1 c.copies_at.ensures)
-
-pub returns : goal.returns
-returns c = let e : c.loop-k.k ≡ c.args.many = omega (arith, c.loop-k.invariant.0, c.loop-k-test) in
-    c.loop-k.invariant.1 ∙ ap (λ (k : ℕ). least_of c.args.start (copies_from c.args.cells.now c.args.s.pieces c.args.i k)) e

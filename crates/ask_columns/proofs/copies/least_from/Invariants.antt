@@ -11,6 +11,3 @@ use Rattle.ask_columns.proofs.copies.least_from.Given as goal
 
 abbrev pub invariant-loop-k : goal.invariant-loop-k
 invariant-loop-k l = (l.k ≤ l.many) × (l.lowest ≡ least_of l.start (copies_from l.cells l.s.pieces l.i l.k))
-
-abbrev pub decreases-loop-k : goal.decreases-loop-k
-decreases-loop-k l = l.many - l.k

@@ -9,6 +9,3 @@ use Rattle.ask_columns.proofs.lists.fill.Given as goal
 
 abbrev pub invariant-loop-i : goal.invariant-loop-i
 invariant-loop-i l = (l.i ≤ l.s.pieces) × ColumnFilled l.cells l.s.pieces l.f l.more l.i l.initial.out l.out
-
-abbrev pub decreases-loop-i : goal.decreases-loop-i
-decreases-loop-i l = l.s.pieces - l.i

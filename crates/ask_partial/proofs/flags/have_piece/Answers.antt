@@ -1,13 +1,10 @@
 -- `have_piece` meets its contract. Assumes nothing.
 use Rattle.ask_partial.proofs.FlagLaws.{have_says, have_flushed}
-use Rattle.ask_picker.specs.Telling.{RowsSay}
-use Rattle.ask_partial.specs.Flags.{flag_found}
 use Rattle.memory_fields.specs.Reading.{CellsSay}
 use Rattle.model.specs.State.{piece_at}
 use Rattle.model.specs.ask.Questions.{reply_piece, flag}
-use Rattle.model.specs.change.Partials.{partial_of}
 use mathlib.Core.Logic.{inl}
-use mathlib.Core.Path.{refl, ap, subst}
+use mathlib.Core.Path.{refl, ap, subst, ◌∙◌}
 use borrow.Author.Rules.{rules}
 use Rattle.ask_partial.proofs.flags.have_piece.Goals as goal
 
@@ -23,16 +20,8 @@ flag_of-requires c = record {
   weight = inl refl;
 }
 
-pub returns-in_default : goal.returns-in_default
-unfolding reply_piece
-returns-in_default c = let e = subst (CellsSay c.args.s c.args.cells.now (λ d. (piece_at d c.args.i).flushed)) c.if-flushed.false c.flushed.ensures in
-    let f = subst (RowsSay c.args.live c.args.rows.now (λ d. flag_found 1 (partial_of d c.args.i))) c.in_default.is
-    c.flag_of.ensures in
-    record { is = λ words v. ap flag ((have_says c.args.live c.args.rows.now c.args.i _ c.args.s c.args.cells.now _ e f).is words v) }
-
 pub returns : goal.returns
 unfolding reply_piece
 returns c = let e = subst (CellsSay c.args.s c.args.cells.now (λ d. (piece_at d c.args.i).flushed)) c.if-flushed.false c.flushed.ensures in
-    let f = subst (RowsSay c.args.live c.args.rows.now (λ d. flag_found 1 (partial_of d c.args.i))) c.in-Flag.is
-    c.flag_of.ensures in
-    record { is = λ words v. ap flag ((have_says c.args.live c.args.rows.now c.args.i _ c.args.s c.args.cells.now _ e f).is words v) }
+    let f = have_says c.args.live c.args.rows.now c.args.i c.flag_of.result c.args.s c.args.cells.now _ e c.flag_of.ensures in
+    record { is = λ words v. ap flag (c.unwrap_or.ensures ∙ f.is words v) }

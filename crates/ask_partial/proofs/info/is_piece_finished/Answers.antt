@@ -19,12 +19,12 @@ returns-in_default c = let f = subst (FoundIn c.args.live c.args.rows.now c.args
     finished_none c.args.s c.args.live c.args.rows.now c.args.counts.now c.args.words.now c.args.cells.now c.requires.asked_counts c.args.i _ f c.flushed.ensures
 
 pub finished-requires : goal.finished-requires
-finished-requires c = let f = subst (FoundIn c.args.live c.args.rows.now c.args.i) c.in-At.is c.find.ensures.picker in
+finished-requires c = let f = subst (FoundIn c.args.live c.args.rows.now c.args.i) c.in-Some.is c.find.ensures.picker in
     let n = (asked_queues c.args.s c.args.live c.args.rows.now c.args.words.now c.args.cells.now c.requires.asked_counts.asked).few in
     (omega (arith, f.row.0), c.requires.asked_counts.wide)
 
 pub writing-requires : goal.writing-requires
-writing-requires c = let f = subst (FoundIn c.args.live c.args.rows.now c.args.i) c.in-At.is c.find.ensures.picker in
+writing-requires c = let f = subst (FoundIn c.args.live c.args.rows.now c.args.i) c.in-Some.is c.find.ensures.picker in
     let n = (asked_queues c.args.s c.args.live c.args.rows.now c.args.words.now c.args.cells.now c.requires.asked_counts.asked).few in
     (omega (arith, f.row.0), c.requires.asked_counts.wide)
 
@@ -37,7 +37,7 @@ blocks_in_piece-requires c = record {
 }
 
 pub returns : goal.returns
-returns c = let f = subst (FoundIn c.args.live c.args.rows.now c.args.i) c.in-At.is c.find.ensures.picker in
+returns c = let f = subst (FoundIn c.args.live c.args.rows.now c.args.i) c.in-Some.is c.find.ensures.picker in
     finished_some c.args.s c.args.live c.args.rows.now c.args.counts.now c.args.words.now c.args.cells.now c.requires.asked_counts c.args.i _ _ _ _ _ f
     c.finished.ensures c.writing.ensures c.blocks_in_piece.ensures
     (ap₂ ◌+◌ c.u16_to_u64.ensures c.u16_to_u64-2.ensures)

@@ -24,7 +24,7 @@ returns-in_default c = let f = subst (FoundIn c.args.live c.args.rows.now c.args
     info_none c.args.s c.args.live c.args.rows.now c.args.counts.now c.args.words.now c.args.cells.now c.requires.asked_counts c.args.i _ f c.unopened.ensures
 
 pub info_at-requires : goal.info_at-requires
-info_at-requires c = let f = subst (FoundIn c.args.live c.args.rows.now c.args.i) c.in-At.is c.find.ensures.picker in
+info_at-requires c = let f = subst (FoundIn c.args.live c.args.rows.now c.args.i) c.in-Some.is c.find.ensures.picker in
     let n = (asked_queues c.args.s c.args.live c.args.rows.now c.args.words.now c.args.cells.now c.requires.asked_counts.asked).few in
     record {
       k_bound = (omega (arith, f.row.0), c.requires.asked_counts.asked.wide);
@@ -32,5 +32,5 @@ info_at-requires c = let f = subst (FoundIn c.args.live c.args.rows.now c.args.i
     }
 
 pub returns : goal.returns
-returns c = let f = subst (FoundIn c.args.live c.args.rows.now c.args.i) c.in-At.is c.find.ensures.picker in
+returns c = let f = subst (FoundIn c.args.live c.args.rows.now c.args.i) c.in-Some.is c.find.ensures.picker in
     info_some c.args.s c.args.live c.args.rows.now c.args.counts.now c.args.words.now c.args.cells.now c.requires.asked_counts c.args.i _ _ f c.info_at.ensures

@@ -1,5 +1,5 @@
 -- `payload_blocks_in_piece` meets its contract. Assumes nothing.
-use mathlib.Core.Path.{refl, ap, ◌∙◌}
+use mathlib.Core.Path.{ap, ◌∙◌}
 use native.Mathlib.Omega.{arith}
 use borrow.Author.Rules.{rules}
 use Rattle.model.specs.Bep3.{block_length}
@@ -20,10 +20,6 @@ nonzero_div-pads c = omega (
   c.block_size.ensures ∙ ap block_length c.head_word.ensures,
 )
 
-pub returns-then-pads-blocks : goal.returns-then-pads-blocks
-returns-then-pads-blocks c = payload_says c.args.s c.args.words.now c.args.i _ _ _ _ c.blocks_in_piece-blocks.ensures c.pad_bytes-pad.ensures
-    (c.block_size.ensures ∙ ap block_length c.head_word.ensures) refl
-
-pub returns-else-pads-blocks : goal.returns-else-pads-blocks
-returns-else-pads-blocks c = payload_says c.args.s c.args.words.now c.args.i _ _ _ _ c.blocks_in_piece-blocks.ensures c.pad_bytes-pad.ensures
-    (c.block_size.ensures ∙ ap block_length c.head_word.ensures) (omega arith)
+pub returns : goal.returns
+returns c = payload_says c.args.s c.args.words.now c.args.i _ _ _ _ c.blocks_in_piece-blocks.ensures c.pad_bytes-pad.ensures
+    (c.block_size.ensures ∙ ap block_length c.head_word.ensures) c.saturating_sub.ensures

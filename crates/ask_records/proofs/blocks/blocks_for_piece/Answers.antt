@@ -24,20 +24,20 @@ find-requires c = record {
       c.args.rows.now c.args.words.now c.args.cells.now c.requires.asked;
 }
 
-pub returns-in_default : goal.returns-in_default
-returns-in_default c = let f = subst (FoundIn c.args.live c.args.rows.now c.args.i) c.in_default.is c.find.ensures.picker in
-    record {
+pub returns-in_err-k : goal.returns-in_err-k
+returns-in_err-k c = let f = subst (FoundIn c.args.live c.args.rows.now c.args.i) c.in_err-k.was c.find.ensures.picker in
+    rw c.from_residual.ensures record {
       result_after = blocks_none c.args.s c.args.live c.args.rows.now c.args.words.now c.args.cells.now c.requires.asked c.args.i f _;
       written = written_none _ _;
     }
 
 pub row-requires : goal.row-requires
-row-requires c = let f = subst (FoundIn c.args.live c.args.rows.now c.args.i) c.in-At.is c.find.ensures.picker in
+row-requires c = let f = subst (FoundIn c.args.live c.args.rows.now c.args.i) c.in_ok-k.was c.find.ensures.picker in
     let n = (asked_queues c.args.s c.args.live c.args.rows.now c.args.words.now c.args.cells.now c.requires.asked).few in
     (omega (arith, f.row.0), c.requires.asked.wide)
 
 pub blocks_at-requires : goal.blocks_at-requires
-blocks_at-requires c = let f = subst (FoundIn c.args.live c.args.rows.now c.args.i) c.in-At.is c.find.ensures.picker in
+blocks_at-requires c = let f = subst (FoundIn c.args.live c.args.rows.now c.args.i) c.in_ok-k.was c.find.ensures.picker in
     let m = many_says c.args.words.now c.args.i _ _ c.blocks_in_piece.ensures c.u64_to_usize-many.ensures in
     let e = c.u32_to_usize-place.ensures ∙ ap (λ (r : Record). r.info_idx) c.row.ensures in record {
       spans = c.requires.asked.stands.bounds.spans;
@@ -58,7 +58,7 @@ pub shape_of-out : goal.shape_of-out
 shape_of-out c = c.blocks_at.ensures.written.long
 
 pub returns : goal.returns
-returns c = let f = subst (FoundIn c.args.live c.args.rows.now c.args.i) c.in-At.is c.find.ensures.picker in
+returns c = let f = subst (FoundIn c.args.live c.args.rows.now c.args.i) c.in_ok-k.was c.find.ensures.picker in
     let m = many_says c.args.words.now c.args.i _ _ c.blocks_in_piece.ensures c.u64_to_usize-many.ensures in
     let e = c.u32_to_usize-place.ensures ∙ ap (λ (r : Record). r.info_idx) c.row.ensures in record {
       result_after = blocks_some c.args.s c.args.live c.args.rows.now c.args.words.now c.args.cells.now c.requires.asked c.args.i _ m _ f _ e _ _

@@ -40,12 +40,12 @@ returns-in_default c = let f = subst (FoundIn c.args.live c.args.rows.now c.args
     }
 
 pub row-requires : goal.row-requires
-row-requires c = let f = subst (FoundIn c.args.live c.args.rows.now c.args.i) c.in-At.is c.find.ensures.picker in
+row-requires c = let f = subst (FoundIn c.args.live c.args.rows.now c.args.i) c.in-Some.is c.find.ensures.picker in
     let n = (asked_queues c.args.s c.args.live c.args.rows.now c.args.words.now c.args.cells.now c.requires.asked).few in
     (omega (arith, f.row.0), c.requires.asked.wide)
 
 pub peers_at-requires : goal.peers_at-requires
-peers_at-requires c = let f = subst (FoundIn c.args.live c.args.rows.now c.args.i) c.in-At.is c.find.ensures.picker in
+peers_at-requires c = let f = subst (FoundIn c.args.live c.args.rows.now c.args.i) c.in-Some.is c.find.ensures.picker in
     let m = many_says c.args.words.now c.args.i _ _ c.blocks_in_piece.ensures c.u64_to_usize-many.ensures in
     let e = c.u32_to_usize-place.ensures ∙ ap (λ (r : Record). r.info_idx) c.row.ensures in record {
       spans = c.requires.asked.stands.bounds.spans;
@@ -66,7 +66,7 @@ pub shape_of-out : goal.shape_of-out
 shape_of-out c = c.peers_at.ensures.written.long
 
 pub returns : goal.returns
-returns c = let f = subst (FoundIn c.args.live c.args.rows.now c.args.i) c.in-At.is c.find.ensures.picker in
+returns c = let f = subst (FoundIn c.args.live c.args.rows.now c.args.i) c.in-Some.is c.find.ensures.picker in
     let m = many_says c.args.words.now c.args.i _ _ c.blocks_in_piece.ensures c.u64_to_usize-many.ensures in
     let e = c.u32_to_usize-place.ensures ∙ ap (λ (r : Record). r.info_idx) c.row.ensures in record {
       out_after = downloaders_some c.args.s c.args.live c.args.rows.now c.args.words.now c.args.cells.now c.requires.asked c.args.i _ m _ f _ e _ _

@@ -12,6 +12,3 @@ use Rattle.ask_records.proofs.peers.peers_at.Given as goal
 
 abbrev pub invariant-loop-j : goal.invariant-loop-j
 invariant-loop-j l = (l.j ≤ l.many) × Lists 2 peer_read (λ k. (block_held l.words l.cells l.s.pieces l.s.blocks l.p k).peer ∷ []) l.j l.initial.out l.out
-
-abbrev pub decreases-loop-j : goal.decreases-loop-j
-decreases-loop-j l = l.many - l.j

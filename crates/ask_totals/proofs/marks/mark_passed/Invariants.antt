@@ -9,6 +9,3 @@ use Rattle.ask_totals.proofs.marks.mark_passed.Given as goal
 
 abbrev pub invariant-loop-k : goal.invariant-loop-k
 invariant-loop-k l = (l.k ≤ l.live) × Marked l.rows l.k l.marks
-
-abbrev pub decreases-loop-k : goal.decreases-loop-k
-decreases-loop-k l = l.live - l.k

@@ -6,4 +6,4 @@ use Rattle.ask_totals.proofs.totals.have.Goals as goal
 
 pub returns : goal.returns
 unfolding reply_picker
-returns c = count_reply_lem _ _ _ c.counted.ensures
+returns c = count_reply_lem _ _ _ (c.counted.ensures (λ h f. h) (λ h f r p. search rules))

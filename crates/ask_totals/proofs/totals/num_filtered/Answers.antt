@@ -1,9 +1,10 @@
 -- `num_filtered` meets its contract. Assumes nothing.
 use mathlib.Core.Path.{ap}
+use mathlib.Core.Bool.{not, ◌&&◌}
 use borrow.Author.Rules.{rules}
 use Rattle.model.specs.ask.Questions.{reply_picker, one, num_filtered}
 use Rattle.ask_totals.proofs.totals.num_filtered.Goals as goal
 
 pub returns : goal.returns
 unfolding reply_picker num_filtered
-returns c = ap one c.counted.ensures.pieces
+returns c = ap one (c.counted.ensures (λ h f. f && not h) (λ h f r p. search rules)).pieces

@@ -6,4 +6,4 @@ use Rattle.ask_totals.proofs.totals.num_have.Goals as goal
 
 pub returns : goal.returns
 unfolding reply_picker num_have
-returns c = ap one c.counted.ensures.pieces
+returns c = ap one (c.counted.ensures (λ h f. h) (λ h f r p. search rules)).pieces

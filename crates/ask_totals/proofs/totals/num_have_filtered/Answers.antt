@@ -1,9 +1,10 @@
 -- `num_have_filtered` meets its contract. Assumes nothing.
 use mathlib.Core.Path.{ap}
+use mathlib.Core.Bool.{◌&&◌}
 use borrow.Author.Rules.{rules}
 use Rattle.model.specs.ask.Questions.{reply_picker, one, num_have_filtered}
 use Rattle.ask_totals.proofs.totals.num_have_filtered.Goals as goal
 
 pub returns : goal.returns
 unfolding reply_picker num_have_filtered
-returns c = ap one c.counted.ensures.pieces
+returns c = ap one (c.counted.ensures (λ h f. f && h) (λ h f r p. search rules)).pieces

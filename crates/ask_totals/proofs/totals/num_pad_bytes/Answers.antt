@@ -1,9 +1,10 @@
 -- `num_pad_bytes` meets its contract. Assumes nothing.
 use mathlib.Core.Path.{ap}
+use mathlib.Core.Bool.{true}
 use borrow.Author.Rules.{rules}
 use Rattle.model.specs.ask.Questions.{reply_picker, one}
 use Rattle.ask_totals.proofs.totals.num_pad_bytes.Goals as goal
 
 pub returns : goal.returns
 unfolding reply_picker
-returns c = ap one c.counted.ensures.pad_bytes
+returns c = ap one (c.counted.ensures (λ h f. true) (λ h f r p. search rules)).pad_bytes

@@ -1,4 +1,5 @@
 -- `want` meets its contract. Assumes nothing.
+use mathlib.Core.Bool.{not}
 use borrow.Author.Rules.{rules}
 use Rattle.model.specs.ask.Questions.{reply_picker}
 use Rattle.ask_totals.proofs.CountLaws.{count_reply_lem}
@@ -6,4 +7,4 @@ use Rattle.ask_totals.proofs.totals.want.Goals as goal
 
 pub returns : goal.returns
 unfolding reply_picker
-returns c = count_reply_lem _ _ _ c.counted.ensures
+returns c = count_reply_lem _ _ _ (c.counted.ensures (λ h f. not f) (λ h f r p. search rules))

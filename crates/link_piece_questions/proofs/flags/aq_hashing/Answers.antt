@@ -3,4 +3,4 @@ use borrow.Author.Rules.{rules}
 use Rattle.link_piece_questions.proofs.flags.aq_hashing.Goals as goal
 
 pub returns : goal.returns
-returns c = rw c.flagged.ensures c.hashing.ensures
+returns c = rw c.from.ensures c.hashing.ensures

@@ -3,4 +3,4 @@ use borrow.Author.Rules.{rules}
 use Rattle.link_piece_questions.proofs.flags.aq_locked.Goals as goal
 
 pub returns : goal.returns
-returns c = rw c.flagged.ensures c.locked.ensures
+returns c = rw c.from.ensures c.locked.ensures

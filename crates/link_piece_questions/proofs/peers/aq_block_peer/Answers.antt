@@ -3,4 +3,4 @@ use borrow.Author.Rules.{rules}
 use Rattle.link_piece_questions.proofs.peers.aq_block_peer.Goals as goal
 
 pub returns : goal.returns
-returns c = rw c.peered.ensures c.block_peer.ensures
+returns c = rw c.from.ensures c.block_peer.ensures

@@ -3,4 +3,4 @@ use borrow.Author.Rules.{rules}
 use Rattle.link_piece_questions.proofs.peers.aq_get_downloader.Goals as goal
 
 pub returns : goal.returns
-returns c = rw c.peered.ensures c.get_downloader.ensures
+returns c = rw c.from.ensures c.get_downloader.ensures

@@ -3,4 +3,4 @@ use borrow.Author.Rules.{rules}
 use Rattle.link_piece_questions.proofs.places.aq_list_place.Goals as goal
 
 pub returns : goal.returns
-returns c = rw c.placed.ensures c.list_place.ensures
+returns c = rw c.from.ensures c.list_place.ensures

@@ -3,4 +3,4 @@ use borrow.Author.Rules.{rules}
 use Rattle.link_piece_questions.proofs.places.aq_partial_at.Goals as goal
 
 pub returns : goal.returns
-returns c = rw c.placed.ensures c.partial_at.ensures
+returns c = rw c.from.ensures c.partial_at.ensures

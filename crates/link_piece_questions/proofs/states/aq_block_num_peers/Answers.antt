@@ -3,4 +3,4 @@ use borrow.Author.Rules.{rules}
 use Rattle.link_piece_questions.proofs.states.aq_block_num_peers.Goals as goal
 
 pub returns : goal.returns
-returns c = rw c.numbered.ensures c.block_num_peers.ensures
+returns c = rw c.from.ensures c.block_num_peers.ensures
