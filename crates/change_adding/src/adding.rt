@@ -54,7 +54,7 @@ pub fn add_download_piece(
     let partial = add_partial(words, cells, rows, live, s, i, many, payload);
     let next = update_piece_state(words, cells, s, i, t, draws, used);
     Opening {
-        partial: partial,
+        partial,
         tally: t,
         used: next,
     }

@@ -4,19 +4,20 @@ ghost use Rattle.model.specs.Lists.{bit};
 ghost use Rattle.change_blocks.specs.Replacing.{Retallied};
 
 use change_state::Tally;
+use types::BlockState;
 
 // 1 for a block that is at work, and 0 for a free one.
 fn one_busy(state: u16) -> u16
     ensures { result ≡ bit (ltb 0 state) }
 {
-    if 0 < state { 1 } else { 0 }
+    u16::from(state > BlockState::None as u16)
 }
 
 // 1 for a block that is requested.
 fn one_requested(state: u16) -> u16
     ensures { result ≡ bit (eqb state 1) }
 {
-    if state == 1 { 1 } else { 0 }
+    u16::from(state == BlockState::Requested as u16)
 }
 
 // The numbers after one block went from the state with the number `old` to that with `new`.
@@ -26,9 +27,8 @@ pub fn retally(t: Tally, old: u16, new: u16) -> Tally
     ensures { Retallied t old new result }
 {
     Tally {
-        blocks: t.blocks,
         busy: t.busy - one_busy(old) + one_busy(new),
         requested: t.requested - one_requested(old) + one_requested(new),
-        hashing: t.hashing,
+        ..t
     }
 }

@@ -4,6 +4,7 @@ use mathlib.Core.Bool.{Bool, true, false}
 use mathlib.Core.List.{List}
 use Prim.Native.Nat.{ℕ, suc, ◌+◌, ◌≤◌, ◌<◌}
 use native.Mathlib.Omega.{arith}
+use native.Mathlib.Numerals.{add-one}
 use Rattle.model.specs.State.{Picker, piece_at}
 use Rattle.model.specs.change.Changes.{flushed_or_filtered, cursor_from, reverse_from}
 use Rattle.memory_records.specs.declared.record.DownloadingPiece.{DownloadingPiece as Record}
@@ -47,21 +48,22 @@ module _ (s : Shape) (cells : List ℕ) (i k : ℕ) (o : Scanned s cells cursor_
     }
 
   -- there is no piece k
-  pub up_ends : s.pieces ≤ k → CellsSay s cells (λ d. cursor_from d i) k
+  pub up_ends : s.pieces ≤ k → CellsSay s cells (λ d. cursor_from d i) s.pieces
   up_ends h = record {
     is = λ records words q.
-        sym (cursor_ends (decode records words cells) k (omega (arith, pieces_number s records words cells q))) ∙ o.left records words q;
+        let e : s.pieces ≡ k = omega (arith, o.within) in
+        e ∙ sym (cursor_ends (decode records words cells) k (omega (arith, pieces_number s records words cells q))) ∙ o.left records words q;
   }
 
 -- ---- downward
 module _ (s : Shape) (cells : List ℕ) (i k : ℕ) (o : Scanned s cells reverse_from i k) where
   module _ (m : ℕ) (h : k ≡ suc m) (t : Bool) (r : CellsSay s cells (λ d. flushed_or_filtered (piece_at d m)) t) where
     -- piece m is wanted
-    pub down_stops : t ≡ false → CellsSay s cells (λ d. reverse_from d i) k
+    pub down_stops : t ≡ false → CellsSay s cells (λ d. reverse_from d i) (m + 1)
     down_stops e = record {
       is = λ records words q.
           let d = decode records words cells in
-          h ∙ sym (reverse_stops d m (sym (r.is records words q) ∙ e)) ∙ sym (ap (reverse_from d) h) ∙ o.left records words q;
+          add-one m ∙ sym (reverse_stops d m (sym (r.is records words q) ∙ e)) ∙ sym (ap (reverse_from d) h) ∙ o.left records words q;
     }
 
     -- piece m is not
@@ -74,9 +76,9 @@ module _ (s : Shape) (cells : List ℕ) (i k : ℕ) (o : Scanned s cells reverse
     }
 
   -- there is none
-  pub down_ends : k ≡ 0 → CellsSay s cells (λ d. reverse_from d i) k
+  pub down_ends : k ≡ 0 → CellsSay s cells (λ d. reverse_from d i) 0
   down_ends h = record {
     is = λ records words q.
         let d = decode records words cells in
-        h ∙ sym (reverse_ends d) ∙ sym (ap (reverse_from d) h) ∙ o.left records words q;
+        sym (reverse_ends d) ∙ sym (ap (reverse_from d) h) ∙ o.left records words q;
   }

@@ -23,14 +23,12 @@ pub fn cursor_from(cells: &[u16], s: Shape, i: usize) -> usize
     requires i_le_pieces { i ≤ s.pieces }
     ensures { CellsSay s cells.now (λ d. cursor_from d i) result }
 {
-    let mut k = i;
-    while k < s.pieces {
+    for k in i..s.pieces {
         if !flushed_or_filtered(cells, s, k) {
             return k;
         }
-        k += 1;
     }
-    k
+    s.pieces
 }
 
 // One past the last piece below i that is still wanted, or 0.
@@ -39,12 +37,10 @@ pub fn reverse_from(cells: &[u16], s: Shape, i: usize) -> usize
     requires i_le_pieces { i ≤ s.pieces }
     ensures { CellsSay s cells.now (λ d. reverse_from d i) result }
 {
-    let mut k = i;
-    while k > 0 {
-        if !flushed_or_filtered(cells, s, k - 1) {
-            return k;
+    for k in (0..i).rev() {
+        if !flushed_or_filtered(cells, s, k) {
+            return k + 1;
         }
-        k -= 1;
     }
-    k
+    0
 }

@@ -22,12 +22,10 @@ pub fn is_recent(words: &[u64], s: Shape, e: u64) -> bool
     ensures { HeadSays words.now (λ d. member e d.recent_extents) result }
 {
     let many = num_recent_extents(words, s);
-    let mut k = 0;
-    while k < many {
+    for k in 0..many {
         if e == recent_extent(words, s, k) {
             return true;
         }
-        k += 1;
     }
     false
 }

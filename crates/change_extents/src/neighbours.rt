@@ -36,13 +36,11 @@ fn worth_among(cells: &[u16], s: Shape, i: usize, begin: usize, end: usize) -> b
     ensures { CellsSay s cells.now (λ d. worth_among d i begin end) result }
 {
     let mut met = false;
-    let mut k = begin;
-    while k < end {
+    for k in begin..end {
         if other_priority(cells, s, i, k) {
             return false;
         }
         met = unflushed_met(cells, s, i, k, met);
-        k += 1;
     }
     met
 }

@@ -35,6 +35,5 @@ pub fn turn_cursors(
 {
     if turned & !flushed(cells, s, i) {
         cursors_on_filter(words, cells, s, i, priority);
-        return;
     }
 }

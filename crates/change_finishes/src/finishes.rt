@@ -9,25 +9,23 @@ use change_state::Tally;
 use memory_blocks::{BlockInfo, get_block};
 use memory_layout::Shape;
 use memory_records::Edit;
-use types::usize_to_u32;
+use types::{BlockState, usize_to_u32};
 
 // The block on disk: one that was being written keeps its peer where no peer brings the news.
 fn finished_info(b: BlockInfo, has_peer: bool, peer: u64) -> BlockInfo
     ensures { FinishedInfo b has_peer peer result }
 {
-    if (b.state == 2) & !has_peer {
+    if (b.state == BlockState::Writing as u16) & !has_peer {
         return BlockInfo {
-            state: 3,
-            num_peers: b.num_peers,
-            has_peer: b.has_peer,
-            peer: b.peer,
+            state: BlockState::Finished as u16,
+            ..b
         };
     }
     BlockInfo {
-        state: 3,
-        num_peers: b.num_peers,
-        has_peer: has_peer,
-        peer: peer,
+        state: BlockState::Finished as u16,
+        has_peer,
+        peer,
+        ..b
     }
 }
 
@@ -55,13 +53,13 @@ pub fn finish_block(
         used words.new cells.new result.edit result.used }
 {
     let b = get_block(words, cells, s, p, j);
-    if b.state == 3 {
+    if b.state == BlockState::Finished as u16 {
         return Given {
             edit: Edit::Keep,
-            used: used,
+            used,
         };
     }
-    let after = retally(t, b.state, 3);
+    let after = retally(t, b.state, BlockState::Finished as u16);
     let x = finished_info(b, has_peer, peer);
     let next = set_block(words, cells, s, i, p, j, x, after, draws, used);
     if is_done(t.blocks, finished + 1, flags) {

@@ -7,7 +7,7 @@ use change_blocks::{retally, set_block};
 use memory_blocks::{BlockInfo, get_block};
 use memory_layout::Shape;
 use memory_records::DownloadingPiece;
-use types::u32_to_usize;
+use types::{BlockState, u32_to_usize};
 
 // What a mark that opens a piece answers: whether the block was marked, the number of the next draw, and the record to put in.
 #[derive(Drop)]
@@ -39,11 +39,11 @@ pub fn mark_first(
     let tally = o.tally;
     let p = u32_to_usize(partial.info_idx);
     let b = get_block(words, cells, s, p, j);
-    if b.state == 3 {
+    if b.state == BlockState::Finished as u16 {
         return Marked {
             answer: false,
             used: o.used,
-            partial: partial,
+            partial,
         };
     }
     let t = retally(tally, b.state, x.state);
@@ -51,6 +51,6 @@ pub fn mark_first(
     Marked {
         answer: true,
         used: next,
-        partial: partial,
+        partial,
     }
 }

@@ -1,4 +1,5 @@
 -- A partial locked or passed: the definition by what the rows and the counts say. Assumes nothing.
+use Rattle.std.specs.Prelude.{None, Some}
 use mathlib.Core.Path.{◌≡◌, sym, ap, ap₂, ◌∙◌, subst}
 use mathlib.Core.Bool.{Bool, true, false}
 use mathlib.Core.Option.{Option, some}
@@ -18,7 +19,6 @@ use Rattle.model.proofs.keep.KeepClose.{finished_rank}
 use Rattle.model.proofs.sound.PartialLaws.{drop_put}
 use Rattle.model.proofs.sound.SoundLaws.{well_formed_sound}
 use Rattle.memory_records.specs.declared.record.DownloadingPiece.{DownloadingPiece as Record}
-use Rattle.memory_records.specs.declared.search.Found.TheVariants.{At, Nothing}
 use Rattle.memory_records.specs.declared.edits.Edit.TheVariants.{Keep, Replace, Remove}
 use Rattle.memory_records.specs.Rows.{row_at, records_in}
 use Rattle.memory_layout.specs.declared.shape.Shape.{Shape}
@@ -39,7 +39,7 @@ use Rattle.change_flags.proofs.RowEdits.{rows-live, rows_kept, low, found_is_lem
 
 -- ---- locked
 module _ (live : ℕ) (rows : List ℕ) (i : ℕ) where
-  pub lock_nothing : FoundIn live rows i Nothing → EditAlone (lock_piece i) live rows Keep
+  pub lock_nothing : FoundIn live rows i None → EditAlone (lock_piece i) live rows Keep
   unfolding lock_piece lock_in
   lock_nothing f = record {
     changed = λ s words cells g many.
@@ -47,7 +47,7 @@ module _ (live : ℕ) (rows : List ℕ) (i : ℕ) where
     room = λ s h. keep_room s live h;
   }
 
-  pub lock_found : (k : ℕ) → FoundIn live rows i (At k) → (q r : Record) → q ≡ row_at rows k → Flagged false true q r
+  pub lock_found : (k : ℕ) → FoundIn live rows i (Some k) → (q r : Record) → q ≡ row_at rows k → Flagged false true q r
       → EditAlone (lock_piece i) live rows (Replace r)
   unfolding lock_piece lock_in
   lock_found k f q r e x = record {
@@ -86,14 +86,14 @@ module _ (s : Shape) (live : ℕ) (rows counts words cells : List ℕ) (g : Rows
   abbrev d : Picker
   d = decode (records_in live rows) words cells
 
-  pub pass_nothing : FoundIn live rows i Nothing → RowsChanged s (piece_passed i) live rows words cells Keep words cells
+  pub pass_nothing : FoundIn live rows i None → RowsChanged s (piece_passed i) live rows words cells Keep words cells
   unfolding piece_passed pass_in
   pass_nothing f =
       rows_kept s live rows words cells g.stands g.many (piece_passed i)
       (rw (f.is s words cells (rows-live s live rows words cells g.stands g.many)))
 
   -- row k holds the record `q` of its partial, which `t` says is locked
-  module _ (k : ℕ) (f : FoundIn live rows i (At k)) (q : Record) (eq : q ≡ row_at rows k) (t : Bool) (et : t ≡ bit_of q.flags 1) where
+  module _ (k : ℕ) (f : FoundIn live rows i (Some k)) (q : Record) (eq : q ≡ row_at rows k) (t : Bool) (et : t ≡ bit_of q.flags 1) where
     abbrev p : DownloadingPiece
     p = partial_in (decode (records_in live rows) words cells) k
 

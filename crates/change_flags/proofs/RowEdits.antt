@@ -1,4 +1,5 @@
 -- The one edit of the live rows that goes with a change: none, other flags of a partial, or a partial closed. Assumes nothing.
+use Rattle.std.specs.Prelude.{Some}
 use mathlib.Core.Path.{◌≡◌, sym, ap, ◌∙◌, subst}
 use mathlib.Core.Bool.{Bool, true, not}
 use mathlib.Core.Option.{some}
@@ -14,7 +15,6 @@ use Rattle.model.specs.change.Partials.{partial_of, replace_partial, drop_partia
 use Rattle.model.proofs.sound.PieceLaws.{size_each}
 use Rattle.model.proofs.sound.SoundLaws.{well_formed_sound}
 use Rattle.memory_records.specs.declared.record.DownloadingPiece.{DownloadingPiece as Record}
-use Rattle.memory_records.specs.declared.search.Found.TheVariants.{At}
 use Rattle.memory_records.specs.declared.edits.Edit.{Edit}
 use Rattle.memory_records.specs.declared.edits.Edit.TheVariants.{Keep, Replace, Remove}
 use Rattle.memory_records.specs.Records.{HasRoom, edited, rising_from, without_record}
@@ -94,7 +94,7 @@ module _ (s : Shape) (live : ℕ) (rows words cells : List ℕ) (g : Stands s (r
       }
 
   -- ---- the partial of piece i is number k
-  module _ (i k : ℕ) (f : FoundIn live rows i (At k)) where
+  module _ (i k : ℕ) (f : FoundIn live rows i (Some k)) where
     pub low : k < head_word words 7
     low = omega (arith, f.row.0, many)
 

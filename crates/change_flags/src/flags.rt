@@ -13,7 +13,7 @@ use memory_counts::finished;
 use memory_layout::Shape;
 use memory_partials::with_flags;
 use memory_piece_blocks::blocks_in_piece;
-use memory_records::{DownloadingPiece, Edit, Found, row};
+use memory_records::{DownloadingPiece, Edit, row};
 use memory_rows::find;
 use types::u16_to_usize;
 
@@ -23,7 +23,7 @@ pub fn lock_piece(rows: &[u32], live: usize, i: usize) -> Edit
     requires rows_value { rising_from 0 (records_in live rows.now) ≡ true }
     ensures { EditAlone (lock_piece i) live rows.now result }
 {
-    let Found::At(k) = find(rows, live, i) else {
+    let Some(k) = find(rows, live, i) else {
         return Edit::Keep;
     };
     let r = row(rows, k);
@@ -54,7 +54,7 @@ pub fn piece_passed(
         words.new cells.new }
     ensures room { EditRoom s live result }
 {
-    let Found::At(k) = find(rows, live, i) else {
+    let Some(k) = find(rows, live, i) else {
         return Edit::Keep;
     };
     let r = row(rows, k);

@@ -11,6 +11,7 @@ use change_state::Tally;
 use memory_blocks::{BlockInfo, get_block, put_block, release};
 use memory_layout::Shape;
 use memory_records::Edit;
+use types::BlockState;
 
 // A requester less of block j of the partial of piece i at place p, whose blocks have the numbers of `t`: the block is free once its last
 // one is gone. Nothing where it is not requested.
@@ -32,7 +33,7 @@ pub fn release_block(
         words.old cells.old words.new cells.new result.edit result.used }
 {
     let b = get_block(words, cells, s, p, j);
-    if b.state != 1 {
+    if b.state != BlockState::Requested as u16 {
         return Given {
             edit: Edit::Keep,
             used: 0,
@@ -50,12 +51,12 @@ pub fn release_block(
         return close_partial(words, cells, s, i, draws);
     }
     let x = BlockInfo {
-        state: 0,
+        state: BlockState::None as u16,
         num_peers: 0,
         has_peer: false,
-        peer: b.peer,
+        ..b
     };
-    let after = retally(t, 1, 0);
+    let after = retally(t, BlockState::Requested as u16, BlockState::None as u16);
     let next = set_block(words, cells, s, i, p, j, x, after, draws, 0);
     Given {
         edit: Edit::Keep,
@@ -82,23 +83,23 @@ pub fn cancel_block(
         words.old cells.old words.new cells.new result.edit result.used }
 {
     let b = get_block(words, cells, s, p, j);
-    if b.state == 3 {
+    if b.state == BlockState::Finished as u16 {
         return Given {
             edit: Edit::Keep,
             used: 0,
         };
     }
-    if b.state == 2 {
+    if b.state == BlockState::Writing as u16 {
         if is_last(t) {
             return close_partial(words, cells, s, i, draws);
         }
         let x = BlockInfo {
-            state: 0,
-            num_peers: b.num_peers,
-            has_peer: has_peer,
-            peer: peer,
+            state: BlockState::None as u16,
+            has_peer,
+            peer,
+            ..b
         };
-        let after = retally(t, 2, 0);
+        let after = retally(t, BlockState::Writing as u16, BlockState::None as u16);
         let next = set_block(words, cells, s, i, p, j, x, after, draws, 0);
         return Given {
             edit: Edit::Keep,
@@ -106,10 +107,9 @@ pub fn cancel_block(
         };
     }
     let x = BlockInfo {
-        state: b.state,
-        num_peers: b.num_peers,
-        has_peer: has_peer,
-        peer: peer,
+        has_peer,
+        peer,
+        ..b
     };
     put_block(words, cells, s, p, j, x);
     Given {

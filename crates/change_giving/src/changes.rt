@@ -12,7 +12,7 @@ use crate::blocks::{cancel_block, release_block};
 use change_returns::Given;
 use change_tally::standing_in;
 use memory_layout::Shape;
-use memory_records::{Edit, Found};
+use memory_records::Edit;
 use memory_rows::find;
 
 // The named peer no longer asks for block j of piece i. Only a requested block of a standing partial is given back.
@@ -36,7 +36,7 @@ pub fn abort_download(
         (edit_records result.edit (records_in live rows.now)) words.new cells.new result.used }
     ensures room { EditRoom s live result.edit }
 {
-    let Found::At(k) = find(rows, live, i) else {
+    let Some(k) = find(rows, live, i) else {
         return Given {
             edit: Edit::Keep,
             used: 0,
@@ -69,7 +69,7 @@ pub fn mark_as_canceled(
         (edit_records result.edit (records_in live rows.now)) words.new cells.new result.used }
     ensures room { EditRoom s live result.edit }
 {
-    let Found::At(k) = find(rows, live, i) else {
+    let Some(k) = find(rows, live, i) else {
         return Given {
             edit: Edit::Keep,
             used: 0,

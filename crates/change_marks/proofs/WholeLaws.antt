@@ -1,4 +1,5 @@
 -- The marks as whole changes, of the partial that the rows name. Assumes nothing.
+use Rattle.std.specs.Prelude.{Option as Optional, Some}
 use mathlib.Core.Path.{◌≡◌, sym, ap, ◌∙◌}
 use mathlib.Core.List.{List}
 use mathlib.Core.Option.{Option, some}
@@ -15,8 +16,6 @@ use Rattle.model.proofs.base.Truths.{both_true}
 use Rattle.model.proofs.keep.KeepBlocks.{block_in}
 use Rattle.model.proofs.sound.SoundLaws.{well_formed_sound}
 use Rattle.memory_records.specs.declared.record.DownloadingPiece.{DownloadingPiece as Record}
-use Rattle.memory_records.specs.declared.search.Found.{Found}
-use Rattle.memory_records.specs.declared.search.Found.TheVariants.{At}
 use Rattle.memory_records.specs.declared.edits.Edit.TheVariants.{Keep}
 use Rattle.memory_records.specs.Rows.{records_in}
 use Rattle.memory_layout.specs.declared.shape.Shape.{Shape}
@@ -43,7 +42,7 @@ module _ (s : Shape) (live : ℕ) (rows counts words cells : List ℕ) (g : Rows
   abbrev d : Picker
   d = decode (records_in live rows) words cells
 
-  module _ (k : ℕ) (found : Found) (e : found ≡ At k) (f : FoundIn live rows i found) (r : Standing)
+  module _ (k : ℕ) (found : Optional ℕ) (e : found ≡ Some k) (f : FoundIn live rows i found) (r : Standing)
       (y : StandsIn s words rows counts k r) (j : ℕ) (h : j < blocks_of words i) where
     -- its block's peers are at most 1,000
     pub request_beside : RequestBeside s words cells i r.place j r.tally

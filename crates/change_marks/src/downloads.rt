@@ -17,8 +17,8 @@ use change_tally::standing_in;
 use change_vacant::{Marking, first_state, open_mark, partial_of};
 use memory_blocks::BlockInfo;
 use memory_layout::Shape;
-use memory_records::{Edit, Found};
-use types::PickerOptions;
+use memory_records::Edit;
+use types::{BlockState, PickerOptions};
 
 // The named peer is asked for block j of piece i, which is not flushed. A piece without a partial is opened.
 pub fn mark_as_downloading(
@@ -47,13 +47,13 @@ pub fn mark_as_downloading(
 {
     let back = options.contains(PickerOptions::REVERSE);
     let affinity = options.contains(PickerOptions::PIECE_EXTENT_AFFINITY);
-    let Found::At(k) = partial_of(cells, rows, live, s, i) else {
+    let Some(k) = partial_of(cells, rows, live, s, i) else {
         let q = first_state(back);
         let x = BlockInfo {
-            state: 1,
+            state: BlockState::Requested as u16,
             num_peers: 1,
-            has_peer: has_peer,
-            peer: peer,
+            has_peer,
+            peer,
         };
         return open_mark(words, cells, rows, live, s, i, q, affinity, j, x, draws);
     };

@@ -17,7 +17,7 @@ use change_tally::standing_in;
 use change_vacant::{open_arrived, partial_of};
 use memory_blocks::BlockInfo;
 use memory_layout::Shape;
-use memory_records::Found;
+use types::BlockState;
 
 // Block j of piece i is on disk. A piece without a partial is opened, unless it is flushed; one that passed goes with its last block.
 pub fn mark_as_finished(
@@ -42,17 +42,16 @@ pub fn mark_as_finished(
         (edit_records result.edit (records_in live rows.now)) words.new cells.new result.used }
     ensures room { EditRoom s live result.edit }
 {
-    let Found::At(k) = partial_of(cells, rows, live, s, i) else {
+    let Some(k) = partial_of(cells, rows, live, s, i) else {
         let x = BlockInfo {
-            state: 3,
+            state: BlockState::Finished as u16,
             num_peers: 0,
-            has_peer: has_peer,
-            peer: peer,
+            has_peer,
+            peer,
         };
         let m = open_arrived(words, cells, rows, live, s, i, j, x, draws);
-        let edit = m.edit;
         return Given {
-            edit: edit,
+            edit: m.edit,
             used: m.used,
         };
     };

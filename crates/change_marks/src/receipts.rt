@@ -17,7 +17,8 @@ use change_tally::standing_in;
 use change_vacant::{Marking, open_arrived, partial_of};
 use memory_blocks::BlockInfo;
 use memory_layout::Shape;
-use memory_records::{Edit, Found};
+use memory_records::Edit;
+use types::BlockState;
 
 // The named peer brought block j of piece i, which is being written. A piece without a partial is opened, unless it is flushed.
 pub fn mark_as_writing(
@@ -42,12 +43,12 @@ pub fn mark_as_writing(
         (edit_records result.edit (records_in live rows.now)) words.new cells.new result.answer result.used }
     ensures room { EditRoom s live result.edit }
 {
-    let Found::At(k) = partial_of(cells, rows, live, s, i) else {
+    let Some(k) = partial_of(cells, rows, live, s, i) else {
         let x = BlockInfo {
-            state: 2,
+            state: BlockState::Writing as u16,
             num_peers: 0,
-            has_peer: has_peer,
-            peer: peer,
+            has_peer,
+            peer,
         };
         return open_arrived(words, cells, rows, live, s, i, j, x, draws);
     };

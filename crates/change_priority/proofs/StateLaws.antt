@@ -1,4 +1,5 @@
 -- The numbers of the partial found, the state after the list, and the answer. Assumes nothing.
+use Rattle.std.specs.Prelude.{None, Option as Optional, Some}
 use mathlib.Core.Path.{◌≡◌, refl, sym, ap, ◌∙◌, subst}
 use mathlib.Core.Bool.{Bool, true, false, not, true≢false}
 use mathlib.Core.Logic.{◌≢◌}
@@ -18,8 +19,6 @@ use Rattle.model.proofs.keep.KeepCursors.{Turned, cursors_on_filter_turned}
 use Rattle.model.proofs.sound.SoundBody.{sound_body}
 use Rattle.model.proofs.sound.SoundLaws.{well_formed_sound}
 use Rattle.memory_records.specs.declared.record.DownloadingPiece.{DownloadingPiece as Record}
-use Rattle.memory_records.specs.declared.search.Found.{Found}
-use Rattle.memory_records.specs.declared.search.Found.TheVariants.{At, Nothing}
 use Rattle.memory_records.specs.Records.{rising_from}
 use Rattle.memory_records.specs.Rows.{records_in}
 use Rattle.memory_layout.specs.declared.shape.Shape.{Shape}
@@ -62,10 +61,10 @@ module _ (s : Shape) (live : ℕ) (rows counts words cells : List ℕ) (g : Rows
 
 -- ---- the partial found
 module _ (s : Shape) (live : ℕ) (rows counts words : List ℕ) (i : ℕ) where
-  pub found_asks : (k : ℕ) (r : Found) → r ≡ At k → FoundIn live rows i r → TalliesAt s live rows counts words
+  pub found_asks : (k : ℕ) (r : Optional ℕ) → r ≡ Some k → FoundIn live rows i r → TalliesAt s live rows counts words
       → TalliesBeside s words rows counts k i
   found_asks k r e f a =
-      let f' : FoundIn live rows i (At k) = subst (FoundIn live rows i) e f in
+      let f' : FoundIn live rows i (Some k) = subst (FoundIn live rows i) e f in
       record {
         live = live;
         cells = a.cells;
@@ -75,11 +74,11 @@ module _ (s : Shape) (live : ℕ) (rows counts words : List ℕ) (i : ℕ) where
         piece = f'.row.1;
       }
 
-  pub found_tallied : (k : ℕ) (r : Found) → r ≡ At k → FoundIn live rows i r → (t : Tally) → Tallied s words rows counts k t
+  pub found_tallied : (k : ℕ) (r : Optional ℕ) → r ≡ Some k → FoundIn live rows i r → (t : Tally) → Tallied s words rows counts k t
       → TalliedAt s live rows counts words i t
   found_tallied k r e f t y = record {
     is = λ cells g o d p.
-        let f' : FoundIn live rows i (At k) = subst (FoundIn live rows i) e f in
+        let f' : FoundIn live rows i (Some k) = subst (FoundIn live rows i) e f in
         let q : partial_in (picker_in live rows words cells) k ≡ d = same (sym (f'.is s words cells g).1 ∙ p) in
         subst (IsTally t) q (y.is live cells g o);
   }
@@ -87,10 +86,10 @@ module _ (s : Shape) (live : ℕ) (rows counts words : List ℕ) (i : ℕ) where
       same : {x y : DownloadingPiece} → some x ≡ some y → x ≡ y
       same e = cc
 
-  pub none_tallied : (r : Found) → r ≡ Nothing → FoundIn live rows i r → (t : Tally) → TalliedAt s live rows counts words i t
+  pub none_tallied : (r : Optional ℕ) → r ≡ None → FoundIn live rows i r → (t : Tally) → TalliedAt s live rows counts words i t
   none_tallied r e f t = record {
     is = λ cells g o d p.
-        let f' : FoundIn live rows i Nothing = subst (FoundIn live rows i) e f in
+        let f' : FoundIn live rows i None = subst (FoundIn live rows i) e f in
         absurd (true≢false (clash (sym (f'.is s words cells g) ∙ p)));
   }
     where

@@ -13,8 +13,8 @@ use change_state::{Tally, update_piece_state};
 use change_tally::tally_of;
 use memory_fields::{priority as priority_at, state};
 use memory_layout::Shape;
-use memory_records::Found;
 use memory_rows::find;
+use types::DownloadQueue;
 
 // Whether the priority turned from or to 0, and how many draws are used.
 #[derive(Drop)]
@@ -30,8 +30,8 @@ fn tally_at(words: &[u64], s: Shape, rows: &[u32], live: usize, counts: &[u16], 
     ensures { TalliedAt s live rows.now counts.now words.now i result }
 {
     match find(rows, live, i) {
-        Found::At(k) => tally_of(words, rows, counts, s, k, i),
-        Found::Nothing => Tally {
+        Some(k) => tally_of(words, rows, counts, s, k, i),
+        None => Tally {
             blocks: 0,
             busy: 0,
             requested: 0,
@@ -59,7 +59,7 @@ fn store_priority(
     ensures { Went s (priority_stored draws.now i priority turned) (records_in live rows.now)
         words.old cells.old 0 (records_in live rows.now) words.new cells.new result }
 {
-    if state(cells, s, i) == 4 {
+    if state(cells, s, i) == DownloadQueue::Open as u16 {
         return list_priority(words, cells, s, i, priority, turned, draws);
     }
     let t = tally_at(words, s, rows, live, counts, i);
@@ -96,8 +96,5 @@ pub fn set_piece_priority(
     let used = store_priority(
         words, cells, s, rows, live, counts, i, priority, turned, draws,
     );
-    PrioritySet {
-        turned: turned,
-        used: used,
-    }
+    PrioritySet { turned, used }
 }

@@ -8,6 +8,7 @@ use change_blocks::{retally, set_block};
 use change_state::Tally;
 use memory_blocks::{BlockInfo, get_block, put_block};
 use memory_layout::Shape;
+use types::BlockState;
 
 // Block j of the partial of piece i at place p, whose blocks have the numbers of `t`, was brought by a peer. One that was received before
 // only changes its peer.
@@ -31,25 +32,24 @@ pub fn write_block(
         words.new cells.new result }
 {
     let b = get_block(words, cells, s, p, j);
-    if 2 <= b.state {
+    if b.state >= BlockState::Writing as u16 {
         let kept = BlockInfo {
-            state: b.state,
-            num_peers: b.num_peers,
-            has_peer: has_peer,
-            peer: peer,
+            has_peer,
+            peer,
+            ..b
         };
         put_block(words, cells, s, p, j, kept);
         return Marked {
             answer: false,
-            used: used,
+            used,
         };
     }
-    let after = retally(t, b.state, 2);
+    let after = retally(t, b.state, BlockState::Writing as u16);
     let x = BlockInfo {
-        state: 2,
+        state: BlockState::Writing as u16,
         num_peers: 0,
-        has_peer: has_peer,
-        peer: peer,
+        has_peer,
+        peer,
     };
     let next = set_block(words, cells, s, i, p, j, x, after, draws, used);
     Marked {

@@ -8,6 +8,7 @@ use change_receipts::Marked;
 use change_state::Tally;
 use memory_blocks::{BlockInfo, get_block};
 use memory_layout::Shape;
+use types::BlockState;
 
 // Block j of the partial of piece i at place p, whose blocks have the numbers of `t`, is asked for by a peer, `back` under REVERSE. One
 // that was received is not asked for again.
@@ -32,18 +33,18 @@ pub fn request_block(
         words.new cells.new result }
 {
     let b = get_block(words, cells, s, p, j);
-    if 2 <= b.state {
+    if b.state >= BlockState::Writing as u16 {
         return Marked {
             answer: false,
-            used: used,
+            used,
         };
     }
-    let after = retally(t, b.state, 1);
+    let after = retally(t, b.state, BlockState::Requested as u16);
     let x = BlockInfo {
-        state: 1,
+        state: BlockState::Requested as u16,
         num_peers: b.num_peers + 1,
-        has_peer: has_peer,
-        peer: peer,
+        has_peer,
+        peer,
     };
     let turned = make_piece_reverse(words, cells, s, i, back, t.requested, draws, used);
     let next = set_block(words, cells, s, i, p, j, x, after, draws, turned);

@@ -1,4 +1,5 @@
 -- A whole change on the partial that the rows name, if one stands. Assumes nothing.
+use Rattle.std.specs.Prelude.{None, Option as Optional, Some}
 use mathlib.Core.Path.{◌≡◌, refl, sym, ap, ◌∙◌, subst}
 use mathlib.Core.Bool.{Bool, true, false}
 use mathlib.Core.List.{List}
@@ -11,8 +12,6 @@ use Rattle.model.specs.list.Order.{Drawing, drawing}
 use Rattle.model.specs.change.Partials.{partial_of, blocks_in_state, drop_partial}
 use Rattle.model.proofs.sound.SoundLaws.{well_formed_sound}
 use Rattle.memory_records.specs.declared.record.DownloadingPiece.{DownloadingPiece as Record}
-use Rattle.memory_records.specs.declared.search.Found.{Found}
-use Rattle.memory_records.specs.declared.search.Found.TheVariants.{At, Nothing}
 use Rattle.memory_records.specs.declared.edits.Edit.{Edit}
 use Rattle.memory_records.specs.declared.edits.Edit.TheVariants.{Keep, Remove}
 use Rattle.memory_records.specs.Records.{edited, rising_from}
@@ -63,12 +62,12 @@ module _ (s : Shape) (live : ℕ) (rows counts words cells : List ℕ) (g : Rows
   closing_room i false = kept_room
 
   -- no row is the piece's
-  pub nothing_found : (i : ℕ) (found : Found) → found ≡ Nothing → FoundIn live rows i found → partial_of d i ≡ none
+  pub nothing_found : (i : ℕ) (found : Optional ℕ) → found ≡ None → FoundIn live rows i found → partial_of d i ≡ none
   nothing_found i found n f = (subst (FoundIn live rows i) n f).is s words cells live-rows
 
   -- ---- row k is the one found
-  module _ (i k : ℕ) (found : Found) (e : found ≡ At k) (f : FoundIn live rows i found) where
-    found_at : FoundIn live rows i (At k)
+  module _ (i k : ℕ) (found : Optional ℕ) (e : found ≡ Some k) (f : FoundIn live rows i found) where
+    found_at : FoundIn live rows i (Some k)
     found_at = subst (FoundIn live rows i) e f
 
     pub partial_found : partial_of d i ≡ some (partial_in d k)
@@ -120,7 +119,7 @@ module _ (s : Shape) (live : ℕ) (rows counts words cells : List ℕ) (g : Rows
     abbrev whole : (w : Drawing) → Drawing
     whole w = change (partial_of w.picker i) w
 
-    pub whole_nothing : (found : Found) → found ≡ Nothing → FoundIn live rows i found → change none (drawing 0 d) ≡ drawing 0 d
+    pub whole_nothing : (found : Optional ℕ) → found ≡ None → FoundIn live rows i found → change none (drawing 0 d) ≡ drawing 0 d
         → Done s (λ w. change (partial_of w.picker i) w) rs words cells (edit_records Keep rs) words cells 0 × EditRoom s live Keep
     unfolding edit_records drawing
     whole_nothing found n f e = (
@@ -130,7 +129,7 @@ module _ (s : Shape) (live : ℕ) (rows counts words cells : List ℕ) (g : Rows
       kept_room,
     )
 
-    module _ (k : ℕ) (found : Found) (e : found ≡ At k) (f : FoundIn live rows i found) (words' cells' : List ℕ) (next : ℕ) where
+    module _ (k : ℕ) (found : Optional ℕ) (e : found ≡ Some k) (f : FoundIn live rows i found) (words' cells' : List ℕ) (next : ℕ) where
       here : change (some (partial_in d k)) (drawing 0 d) ≡ whole (drawing 0 d)
       unfolding drawing
       here = ap (λ (o : Option DownloadingPiece). change o (drawing 0 d)) (sym (partial_found i k found e f))

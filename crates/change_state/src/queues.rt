@@ -13,15 +13,10 @@ use types::DownloadQueue;
 fn queue_from(v: u16) -> DownloadQueue
     ensures { result ≡ queue_from v }
 {
-    match v {
-        0 => DownloadQueue::Downloading,
-        1 => DownloadQueue::Full,
-        2 => DownloadQueue::Finished,
-        3 => DownloadQueue::ZeroPrio,
-        5 => DownloadQueue::DownloadingReverse,
-        6 => DownloadQueue::FullReverse,
-        _ => DownloadQueue::Open,
-    }
+    let Ok(n) = u8::try_from(v) else {
+        return DownloadQueue::Open;
+    };
+    DownloadQueue::try_from(n).unwrap_or(DownloadQueue::Open)
 }
 
 // The queue of piece i.
@@ -38,17 +33,12 @@ pub fn queue_at(cells: &[u16], s: Shape, i: usize) -> DownloadQueue
 pub fn queue_number(q: DownloadQueue) -> u16
     ensures { (result ≡ queue_number q) × (result < 7) }
 {
-    let n = q.number();
-    n as u16
+    u16::from(q.number())
 }
 
 // A piece that is in queue `current` stays there: the new one is the same, or says to leave it.
 pub fn is_left(q: DownloadQueue, current: DownloadQueue) -> bool
     ensures { result ≡ (same_queue q current || is_open q) }
 {
-    let n = q.number();
-    if n == 4 {
-        return true;
-    }
-    n == current.number()
+    (q == current) | (q == DownloadQueue::Open)
 }

@@ -30,10 +30,7 @@ fn in_direction(current: DownloadQueue, q: DownloadQueue) -> DownloadQueue
 fn is_idle(busy: u16, hashing: bool) -> bool
     ensures { result ≡ eqb (busy + bit hashing) 0 }
 {
-    if hashing {
-        return false;
-    }
-    busy == 0
+    (busy == 0) & !hashing
 }
 
 // The state that these blocks and this priority give; Open where the piece is left as it is.

@@ -37,9 +37,9 @@ pub fn standing_in(
     let tally = tally_of(words, rows, counts, s, k, i);
     let held = finished(counts, k);
     Standing {
-        place: place,
+        place,
         flags: record.flags,
-        tally: tally,
+        tally,
         finished: held,
     }
 }

@@ -1,4 +1,5 @@
 -- The marks of a piece without a partial as whole changes. Assumes nothing.
+use Rattle.std.specs.Prelude.{None, Option}
 use mathlib.Core.Path.{◌≡◌, refl, sym, ap, subst, ◌∙◌}
 use mathlib.Core.Bool.{Bool, true, false, cond}
 use mathlib.Core.List.{List}
@@ -15,8 +16,6 @@ use Rattle.model.specs.change.Changes.{mark_downloading_in, mark_as_downloading,
 use Rattle.model.specs.Calls.{no_partial_left}
 use Rattle.model.proofs.sound.SoundLaws.{well_formed_sound}
 use Rattle.memory_records.specs.declared.record.DownloadingPiece.{DownloadingPiece as Record}
-use Rattle.memory_records.specs.declared.search.Found.{Found}
-use Rattle.memory_records.specs.declared.search.Found.TheVariants.{Nothing}
 use Rattle.memory_records.specs.declared.edits.Edit.TheVariants.{Keep}
 use Rattle.memory_records.specs.Rows.{records_in}
 use Rattle.memory_layout.specs.declared.shape.Shape.{Shape}
@@ -140,7 +139,7 @@ module _ (s : Shape) (live : ℕ) (rows words cells : List ℕ) (i : ℕ) (g : R
 
 -- where the rows name none
 pub rows_vacant : (s : Shape) (live : ℕ) (rows counts words cells : List ℕ) → RowsStand s live rows counts words cells → (i : ℕ)
-    (found : Found) → found ≡ Nothing → FoundIn live rows i found → RowsVacant s live rows words cells i
+    (found : Option ℕ) → found ≡ None → FoundIn live rows i found → RowsVacant s live rows words cells i
 rows_vacant s live rows counts words cells g i found n f = record {
   stands = g.stands;
   many = g.many;

@@ -55,10 +55,9 @@ pub fn open_mark(
     ensures room { EditRoom s live result.edit }
 {
     let m = mark_opening(words, cells, rows, live, s, i, q, affinity, j, x, draws, 0);
-    let partial = m.partial;
     Marking {
         answer: m.answer,
-        edit: Edit::Insert(partial),
+        edit: Edit::Insert(m.partial),
         used: m.used,
     }
 }

@@ -24,11 +24,7 @@ pub extern "C" fn ch_inc_refcount(
     ensures { ChangedBy (shaped g.pieces g.blocks g.places) (inc_refcount draws.now i)
         words.old cells.old words.new cells.new result }
 {
-    let s = Shape {
-        pieces: g.pieces,
-        blocks: g.blocks,
-        places: g.places,
-    };
+    let s = Shape::from(g);
     change_counts::inc_refcount(words, cells, s, i, draws)
 }
 
@@ -46,11 +42,7 @@ pub extern "C" fn ch_dec_refcount(
     ensures { ChangedBy (shaped g.pieces g.blocks g.places) (dec_refcount draws.now i)
         words.old cells.old words.new cells.new result }
 {
-    let s = Shape {
-        pieces: g.pieces,
-        blocks: g.blocks,
-        places: g.places,
-    };
+    let s = Shape::from(g);
     change_counts::dec_refcount(words, cells, s, i, draws)
 }
 
@@ -60,11 +52,7 @@ pub extern "C" fn ch_inc_refcount_all(words: &mut [u64], cells: &[u16], g: Geome
     ensures { ChangeMade (shaped g.pieces g.blocks g.places) inc_refcount_all
         words.old words.new cells.now cells.now }
 {
-    let s = Shape {
-        pieces: g.pieces,
-        blocks: g.blocks,
-        places: g.places,
-    };
+    let s = Shape::from(g);
     change_seeds::inc_refcount_all(words, cells, s);
 }
 
@@ -74,10 +62,6 @@ pub extern "C" fn ch_dec_refcount_all(words: &mut [u64], cells: &mut [u16], g: G
     ensures { ChangeMade (shaped g.pieces g.blocks g.places) dec_refcount_all
         words.old words.new cells.old cells.new }
 {
-    let s = Shape {
-        pieces: g.pieces,
-        blocks: g.blocks,
-        places: g.places,
-    };
+    let s = Shape::from(g);
     change_seeds::dec_refcount_all(words, cells, s);
 }

@@ -37,11 +37,7 @@ pub extern "C" fn ch_piece_passed(
     ensures { RowsChanged (shaped g.pieces g.blocks g.places) (piece_passed i) live rows.now
         words.old cells.old (edit_named result) words.new cells.new }
 {
-    let s = Shape {
-        pieces: g.pieces,
-        blocks: g.blocks,
-        places: g.places,
-    };
+    let s = Shape::from(g);
     let edit = change_flags::piece_passed(words, cells, rows, live, counts, s, i);
     told(true, 0, edit)
 }

@@ -35,16 +35,11 @@ pub extern "C" fn ch_abort_download(
         (edit_records (edit_named result) (records_in live rows.now))
         words.new cells.new result.used }
 {
-    let s = Shape {
-        pieces: g.pieces,
-        blocks: g.blocks,
-        places: g.places,
-    };
+    let s = Shape::from(g);
     let given = change_giving::abort_download(
         words, cells, rows, live, counts, s, i, j, has_peer, peer, draws,
     );
-    let edit = given.edit;
-    told(true, given.used, edit)
+    told(true, given.used, given.edit)
 }
 
 #[unsafe(no_mangle)]
@@ -68,14 +63,9 @@ pub extern "C" fn ch_mark_as_canceled(
         (edit_records (edit_named result) (records_in live rows.now))
         words.new cells.new result.used }
 {
-    let s = Shape {
-        pieces: g.pieces,
-        blocks: g.blocks,
-        places: g.places,
-    };
+    let s = Shape::from(g);
     let given = change_giving::mark_as_canceled(
         words, cells, rows, live, counts, s, i, j, has_peer, peer, draws,
     );
-    let edit = given.edit;
-    told(true, given.used, edit)
+    told(true, given.used, given.edit)
 }

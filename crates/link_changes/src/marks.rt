@@ -43,17 +43,12 @@ pub extern "C" fn ch_mark_as_downloading(
         (records_in live rows.now) words.old cells.old
         (edit_records (edit_named result) (records_in live rows.now)) words.new cells.new result.answer result.used }
 {
-    let s = Shape {
-        pieces: g.pieces,
-        blocks: g.blocks,
-        places: g.places,
-    };
+    let s = Shape::from(g);
     let asked = PickerOptions(options);
     let m = change_marks::mark_as_downloading(
         words, cells, rows, live, counts, s, i, j, has_peer, peer, asked, draws,
     );
-    let edit = m.edit;
-    told(m.answer, m.used, edit)
+    told(m.answer, m.used, m.edit)
 }
 
 #[unsafe(no_mangle)]
@@ -78,16 +73,11 @@ pub extern "C" fn ch_mark_as_writing(
         (records_in live rows.now) words.old cells.old
         (edit_records (edit_named result) (records_in live rows.now)) words.new cells.new result.answer result.used }
 {
-    let s = Shape {
-        pieces: g.pieces,
-        blocks: g.blocks,
-        places: g.places,
-    };
+    let s = Shape::from(g);
     let m = change_marks::mark_as_writing(
         words, cells, rows, live, counts, s, i, j, has_peer, peer, draws,
     );
-    let edit = m.edit;
-    told(m.answer, m.used, edit)
+    told(m.answer, m.used, m.edit)
 }
 
 #[unsafe(no_mangle)]
@@ -112,14 +102,9 @@ pub extern "C" fn ch_mark_as_finished(
         (records_in live rows.now) words.old cells.old
         (edit_records (edit_named result) (records_in live rows.now)) words.new cells.new result.used }
 {
-    let s = Shape {
-        pieces: g.pieces,
-        blocks: g.blocks,
-        places: g.places,
-    };
+    let s = Shape::from(g);
     let m = change_marks::mark_as_finished(
         words, cells, rows, live, counts, s, i, j, has_peer, peer, draws,
     );
-    let edit = m.edit;
-    told(true, m.used, edit)
+    told(true, m.used, m.edit)
 }

@@ -30,11 +30,7 @@ pub extern "C" fn ch_set_piece_priority(
     ensures { Said (shaped g.pieces g.blocks g.places) draws.now i priority (records_in live rows.now)
         words.old cells.old words.new cells.new (priority_set result) }
 {
-    let s = Shape {
-        pieces: g.pieces,
-        blocks: g.blocks,
-        places: g.places,
-    };
+    let s = Shape::from(g);
     let r = change_priority::set_piece_priority(
         words, cells, s, rows, live, counts, i, priority, draws,
     );

@@ -24,13 +24,15 @@ pub struct Geometry {
 }
 
 // The same for the crates below.
-fn shape(g: Geometry) -> Shape
-    ensures { result ≡ shaped g.pieces g.blocks g.places }
-{
-    Shape {
-        pieces: g.pieces,
-        blocks: g.blocks,
-        places: g.places,
+impl From<Geometry> for Shape {
+    ghost from_gives = { λ g s. s ≡ shaped g.pieces g.blocks g.places };
+
+    fn from(g: Geometry) -> Shape {
+        Shape {
+            pieces: g.pieces,
+            blocks: g.blocks,
+            places: g.places,
+        }
     }
 }
 
@@ -40,7 +42,7 @@ pub fn ls_rank(words: &[u64], cells: &[u16], g: Geometry, i: usize) -> u16
     requires i_lt_pieces { i < g.pieces }
     ensures { RankOf words.now cells.now i result }
 {
-    memory_ranks::rank_at(words, cells, shape(g), i)
+    memory_ranks::rank_at(words, cells, Shape::from(g), i)
 }
 
 // The list mended after piece i came from rank `old` to the one it has. Answers how many draws were used.
@@ -58,7 +60,7 @@ pub fn ls_update(
     ensures { ListBecame (shaped g.pieces g.blocks g.places) (update draws.now old i)
         words.old words.new cells.now 0 result }
 {
-    let s = shape(g);
+    let s = Shape::from(g);
     memory_update::update(words, cells, s, i, old, draws, 0)
 }
 
@@ -69,7 +71,7 @@ pub fn ls_update_pieces(words: &mut [u64], cells: &[u16], g: Geometry, draws: &[
     ensures { ListBecame (shaped g.pieces g.blocks g.places) (update_pieces draws.now)
         words.old words.new cells.now 0 result }
 {
-    let s = shape(g);
+    let s = Shape::from(g);
     memory_rebuild::update_pieces(words, cells, s, draws, 0)
 }
 
@@ -90,7 +92,7 @@ pub fn ls_queue_place(
     ensures { result
         ≡ nth 512 (places_in (queue_from q) (picker_in live rows.now words.now cells.now)) k }
 {
-    let s = shape(g);
+    let s = Shape::from(g);
     let mut queues = [[0; 512]; 4];
     let mut sizes = [0; 4];
     memory_queues::download_queues(cells, rows, live, s, &mut queues, &mut sizes);

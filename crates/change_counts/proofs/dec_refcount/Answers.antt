@@ -1,17 +1,9 @@
 -- `dec_refcount` meets its contract. Assumes nothing.
 use mathlib.Core.List.{[]}
 use native.Mathlib.Omega.{arith}
-use borrow.Author.Rules.{rules}
 use Rattle.change_steps.proofs.MendLaws.{begun_works}
 use Rattle.change_counts.proofs.CountLaws.{left_low, peer_went}
 use Rattle.change_counts.proofs.dec_refcount.Goals as goal
-
-pub leave_one-count-requires : goal.leave_one-count-requires
-leave_one-count-requires c = record {
-  stands_beside = c.requires.stands_beside;
-  i_lt_pieces = c.requires.i_lt_pieces;
-  nonzero = c.requires.nonzero;
-}
 
 pub set_peer_count-requires : goal.set_peer_count-requires
 set_peer_count-requires c = let w = begun_works c.args.s _ c.args.words.now c.args.cells.now _ _ 0 c.leave_one-count.ensures.begun c.requires.stands_beside in

@@ -1,15 +1,8 @@
 -- `inc_refcount` meets its contract. Assumes nothing.
 use native.Mathlib.Omega.{arith}
-use borrow.Author.Rules.{rules}
 use Rattle.change_steps.proofs.MendLaws.{beside_works}
 use Rattle.change_counts.proofs.CountLaws.{count_room, peer_came}
 use Rattle.change_counts.proofs.inc_refcount.Goals as goal
-
-pub peer_count-count-requires : goal.peer_count-count-requires
-peer_count-count-requires c = record {
-  cells_span = c.requires.stands_beside.stands.bounds.spans.in_cells;
-  i_lt_pieces = c.requires.i_lt_pieces;
-}
 
 pub overflow_add-count : goal.overflow_add-count
 overflow_add-count c = record {

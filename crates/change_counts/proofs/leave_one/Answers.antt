@@ -1,14 +1,7 @@
 -- `leave_one` meets its contract. Assumes nothing.
 use mathlib.Core.List.{[]}
-use borrow.Author.Rules.{rules}
 use Rattle.change_counts.proofs.CountLaws.{peer_left, seed_there, seed_left}
 use Rattle.change_counts.proofs.leave_one.Goals as goal
-
-pub peer_count-count-requires : goal.peer_count-count-requires
-peer_count-count-requires c = record {
-  cells_span = c.requires.stands_beside.stands.bounds.spans.in_cells;
-  i_lt_pieces = c.requires.i_lt_pieces;
-}
 
 pub returns-then-count-gt0 : goal.returns-then-count-gt0
 returns-then-count-gt0 c = peer_left c.args.s [] c.args.i c.requires.i_lt_pieces c.args.words.now c.args.cells.now c.peer_count-count.result c.peer_count-count.ensures

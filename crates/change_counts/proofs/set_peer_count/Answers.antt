@@ -1,22 +1,8 @@
 -- `set_peer_count` meets its contract: the count is stored, then the list mended. Assumes nothing.
-use borrow.Author.Rules.{rules}
 use Rattle.model.specs.State.{with_peer_count}
 use Rattle.change_steps.proofs.FieldMends.{field_asks, field_mended}
 use Rattle.change_counts.proofs.CountLaws.{count_range}
 use Rattle.change_counts.proofs.set_peer_count.Goals as goal
-
-pub rank_at-old-requires : goal.rank_at-old-requires
-rank_at-old-requires c = record {
-  spans = c.requires.works_beside.works.bounds.spans;
-  ranges = c.requires.works_beside.works.ranges;
-  i_lt_pieces = c.requires.i_lt_pieces.0;
-}
-
-pub set_peer_count-requires : goal.set_peer_count-requires
-set_peer_count-requires c = record {
-  cells_span = c.requires.works_beside.works.bounds.spans.in_cells;
-  i_lt_pieces = c.requires.i_lt_pieces.0;
-}
 
 pub update-requires : goal.update-requires
 update-requires c = let k = field_asks c.args.s c.args.i (with_peer_count c.args.count) c.args.words.now c.args.cells.now _ c.set_peer_count.ensures

@@ -1,20 +1,6 @@
 -- `make_piece_reverse` meets its contract. Assumes nothing.
-use borrow.Author.Rules.{rules}
 use Rattle.change_direction.proofs.TurnLaws.{reverse_made, reverse_left}
 use Rattle.change_direction.proofs.make_piece_reverse.Goals as goal
-
-pub queue_at-q-requires : goal.queue_at-q-requires
-queue_at-q-requires c = record {
-  cells_span = c.requires.works_beside.works.bounds.spans.in_cells;
-  i_lt_pieces = c.requires.i_lt_pieces;
-}
-
-pub set_direction-requires : goal.set_direction-requires
-set_direction-requires c = record {
-  works_beside = c.requires.works_beside;
-  i_lt_pieces = c.requires.i_lt_pieces;
-  used_in_bounds = c.requires.used_in_bounds;
-}
 
 pub returns-then-back-is_reverse : goal.returns-then-back-is_reverse
 returns-then-back-is_reverse c = let

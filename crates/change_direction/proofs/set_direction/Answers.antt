@@ -1,23 +1,8 @@
 -- `set_direction` meets its contract: the state is stored, then the list given up or mended. Assumes nothing.
 use mathlib.Core.Path.{sym, ◌∙◌}
-use native.Mathlib.Omega.{arith}
-use borrow.Author.Rules.{rules}
 use Rattle.change_state.proofs.MoveLaws.{state_asks}
 use Rattle.change_direction.proofs.TurnLaws.{direction_dirty, direction_mended}
 use Rattle.change_direction.proofs.set_direction.Goals as goal
-
-pub rank_at-old-requires : goal.rank_at-old-requires
-rank_at-old-requires c = record {
-  spans = c.requires.works_beside.works.bounds.spans;
-  ranges = c.requires.works_beside.works.ranges;
-  i_lt_pieces = c.requires.i_lt_pieces;
-}
-
-pub set_state-requires : goal.set_state-requires
-set_state-requires c = record {
-  cells_span = c.requires.works_beside.works.bounds.spans.in_cells;
-  i_lt_pieces = (c.requires.i_lt_pieces, omega (arith, c.queue_number-n.ensures.1));
-}
 
 pub rank_at-new-requires : goal.rank_at-new-requires
 rank_at-new-requires c = let k = state_asks c.args.s c.args.i c.requires.i_lt_pieces c.args.q c.queue_number-n.result c.queue_number-n.ensures.0 c.args.words.now
@@ -27,9 +12,6 @@ rank_at-new-requires c = let k = state_asks c.args.s c.args.i c.requires.i_lt_pi
       ranges = k.0.ranges;
       i_lt_pieces = c.requires.i_lt_pieces;
     }
-
-pub mark_dirty-requires : goal.mark_dirty-requires
-mark_dirty-requires c = c.requires.works_beside.works.bounds.spans.in_words
 
 pub returns-then-gains_bucket : goal.returns-then-gains_bucket
 returns-then-gains_bucket c = direction_dirty c.args.s c.args.i c.requires.i_lt_pieces c.args.q c.queue_number-n.result c.queue_number-n.ensures.0 c.args.words.now

@@ -4,9 +4,6 @@ use mathlib.Core.Path.{ap}
 use Rattle.model.specs.Bep3.{bit_of}
 use Rattle.change_tally.proofs.hashing.Goals as goal
 
-pub row-record-requires : goal.row-record-requires
-row-record-requires c = c.requires
-
 pub returns : goal.returns
 unfolding bit_of
 returns c = ap (λ (r : Record). bit_of r.flags 2) c.row-record.ensures

@@ -1,5 +1,4 @@
 -- `ls_queue_place` asks of its caller what the queues ask, and answers a place of the row. Assumes nothing.
-use borrow.Author.Rules.{rules}
 use mathlib.Core.Path.{sym, subst, ◌∙◌}
 use native.Mathlib.Omega.{arith}
 use Rattle.model.specs.Lists.{nth}
@@ -11,7 +10,7 @@ use Rattle.link_lists.proofs.ls_queue_place.Goals as goal
 
 pub download_queues-requires : goal.download_queues-requires
 download_queues-requires c = let a = c.args in
-    let e = sym c.shape-s.ensures in
+    let e = sym c.from-s.ensures in
     let rows = subst (λ s. LiveRows s a.live a.rows.now a.words.now a.cells.now) e c.requires.live_rows in
     record {
       cells_span = rows.bounds.spans.in_cells;
@@ -23,7 +22,7 @@ download_queues-requires c = let a = c.args in
 pub returns-then-sizes-q : goal.returns-then-sizes-q
 unfolding nth
 returns-then-sizes-q c = let a = c.args in
-    let e = sym c.shape-s.ensures in
+    let e = sym c.from-s.ensures in
     let rows = subst (λ s. LiveRows s a.live a.rows.now a.words.now a.cells.now) e c.requires.live_rows in
     queue_ends _ _ _ (c.download_queues.ensures.places a.words.now rows) _ c.requires.q_bound _
     (omega (arith, c.if-sizes-q.true))
@@ -31,7 +30,7 @@ returns-then-sizes-q c = let a = c.args in
 pub place_at-requires : goal.place_at-requires
 unfolding nth
 place_at-requires c = let a = c.args in
-    let e = sym c.shape-s.ensures in
+    let e = sym c.from-s.ensures in
     let rows = subst (λ s. LiveRows s a.live a.rows.now a.words.now a.cells.now) e c.requires.live_rows in
     let held = c.download_queues.ensures.places a.words.now rows in
     (c.requires.q_bound, place_low _ _ _ held _ c.requires.q_bound _ c.requires.cells_value (omega (arith, c.if-sizes-q.false)))
@@ -39,7 +38,7 @@ place_at-requires c = let a = c.args in
 pub returns : goal.returns
 unfolding nth
 returns c = let a = c.args in
-    let e = sym c.shape-s.ensures in
+    let e = sym c.from-s.ensures in
     let rows = subst (λ s. LiveRows s a.live a.rows.now a.words.now a.cells.now) e c.requires.live_rows in
     let held = c.download_queues.ensures.places a.words.now rows in
     c.place_at.ensures ∙ queue_place _ _ _ held _ c.requires.q_bound _ (omega (arith, c.if-sizes-q.false))

@@ -1,5 +1,4 @@
 -- `ls_rank` asks of its caller what `rank_at` asks. Assumes nothing.
-use borrow.Author.Rules.{rules}
 use mathlib.Core.Path.{sym, subst, ap, ◌∙◌}
 use Prim.Native.Nat.{◌<◌}
 use Rattle.memory_layout.specs.declared.shape.Shape.{Shape}
@@ -8,7 +7,7 @@ use Rattle.link_lists.proofs.ls_rank.Goals as goal
 
 pub rank_at-requires : goal.rank_at-requires
 rank_at-requires c = let a = c.args in
-    let e = sym c.shape.ensures in
+    let e = sym c.from.ensures in
     let bounds = subst (λ s. ListBounds s a.words.now a.cells.now) e c.requires.list_bounds in
     record {
       spans = bounds.spans;
@@ -17,4 +16,4 @@ rank_at-requires c = let a = c.args in
     }
 
 pub returns : goal.returns
-returns c = c.rank_at.ensures.is (ap (λ (s : Shape). s.pieces) c.shape.ensures ∙ c.requires.list_bounds.pieces)
+returns c = c.rank_at.ensures.is (ap (λ (s : Shape). s.pieces) c.from.ensures ∙ c.requires.list_bounds.pieces)

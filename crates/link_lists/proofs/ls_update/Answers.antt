@@ -1,5 +1,4 @@
 -- `ls_update` asks of its caller what `update` asks, and answers what that answers. Assumes nothing.
-use borrow.Author.Rules.{rules}
 use mathlib.Core.Path.{sym, subst}
 use Prim.Native.Nat.{◌<◌}
 use native.Mathlib.Omega.{arith}
@@ -10,7 +9,7 @@ use Rattle.link_lists.proofs.ls_update.Goals as goal
 
 pub update-requires : goal.update-requires
 update-requires c = let a = c.args in
-    let e = sym c.shape-s.ensures in
+    let e = sym c.from-s.ensures in
     let bounds = subst (λ s. ListBounds s a.words.now a.cells.now) e c.requires.list_bounds in
     let was = subst (λ s. ListBefore s a.words.now a.cells.now a.old a.i) e c.requires.list_before in
     record {
@@ -24,4 +23,4 @@ pub returns : goal.returns
 returns c = let a = c.args in
     let u = c.update in
     subst (λ s. ListBecame s (update a.draws.now a.old a.i) a.words.now u.new.words a.cells.now 0 u.result)
-    c.shape-s.ensures u.ensures
+    c.from-s.ensures u.ensures

@@ -1,5 +1,4 @@
 -- `told` gives each edit its number and the numbers of its record. Assumes nothing.
-use borrow.Author.Rules.{rules}
 use mathlib.Core.Path.{refl, sym}
 use Rattle.link_outcomes.specs.Outcomes.{edit_named}
 use Rattle.link_outcomes.proofs.told.Goals as goal

@@ -2,7 +2,6 @@
 use mathlib.Core.Path.{refl}
 use Rattle.memory_opening.proofs.AddLaws.{bounds_shape}
 use Rattle.change_adding.proofs.AddLaws.{rows_bounds, fresh_fits, add_beside, add_done}
-use borrow.Author.Rules.{rules}
 use Rattle.change_adding.proofs.adding.add_download_piece.Goals as goal
 
 pub blocks_in_piece-many-requires : goal.blocks_in_piece-many-requires

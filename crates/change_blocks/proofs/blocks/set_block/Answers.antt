@@ -1,5 +1,4 @@
 -- `set_block` meets its contract. Assumes nothing.
-use borrow.Author.Rules.{rules}
 use Rattle.change_blocks.proofs.SetLaws.{put_places, put_beside, block_set}
 use Rattle.change_blocks.proofs.blocks.set_block.Goals as goal
 

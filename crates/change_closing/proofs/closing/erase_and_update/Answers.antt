@@ -1,20 +1,6 @@
 -- `erase_and_update` meets its contract: the partial is closed, then the list mended. Assumes nothing.
-use borrow.Author.Rules.{rules}
 use Rattle.change_closing.proofs.ErasingLaws.{erased_asks, erased_mended}
 use Rattle.change_closing.proofs.closing.erase_and_update.Goals as goal
-
-pub rank_at-old-requires : goal.rank_at-old-requires
-rank_at-old-requires c = record {
-  spans = c.requires.partial_beside.has.works.bounds.spans;
-  ranges = c.requires.partial_beside.has.works.ranges;
-  i_lt_pieces = c.requires.i_lt_pieces;
-}
-
-pub erase_download_piece-requires : goal.erase_download_piece-requires
-erase_download_piece-requires c = record {
-  partial_beside = c.requires.partial_beside;
-  i_lt_pieces = c.requires.i_lt_pieces;
-}
 
 pub update-requires : goal.update-requires
 update-requires c = let k = erased_asks c.args.s c.args.i c.args.words.now c.args.cells.now _ _ c.erase_download_piece.ensures c.rank_at-old.result

@@ -1,6 +1,4 @@
 -- `erase_download_piece` meets its contract: one partial less is counted, then the state stored. Assumes nothing.
-use native.Mathlib.Omega.{arith}
-use borrow.Author.Rules.{rules}
 use Rattle.change_closing.proofs.ErasingLaws.{some_partial, erased}
 use Rattle.change_closing.proofs.closing.erase_download_piece.Goals as goal
 
@@ -8,12 +6,6 @@ pub drop_partial-requires : goal.drop_partial-requires
 drop_partial-requires c = record {
   words_span = c.requires.partial_beside.has.works.bounds.spans.in_words;
   nonzero = some_partial c.args.s c.args.i c.args.words.now c.args.cells.now c.requires.partial_beside;
-}
-
-pub set_state-requires : goal.set_state-requires
-set_state-requires c = record {
-  cells_span = c.requires.partial_beside.has.works.bounds.spans.in_cells;
-  i_lt_pieces = (c.requires.i_lt_pieces, omega (arith, c.queue_number-n.ensures.1));
 }
 
 pub returns : goal.returns

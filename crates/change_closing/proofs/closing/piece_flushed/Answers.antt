@@ -1,15 +1,8 @@
 -- `piece_flushed` meets its contract: the partial is closed, flushed stored, a cursor at the piece moved on. Assumes nothing.
-use borrow.Author.Rules.{rules}
 use Rattle.memory_layout.proofs.StandingLaws.{cells_span_kept}
 use Rattle.change_closing.proofs.ErasingLaws.{erased_spans}
 use Rattle.change_closing.proofs.FlushLaws.{flushed}
 use Rattle.change_closing.proofs.closing.piece_flushed.Goals as goal
-
-pub erase_download_piece-requires : goal.erase_download_piece-requires
-erase_download_piece-requires c = record {
-  partial_beside = c.requires.partial_beside;
-  i_lt_pieces = c.requires.i_lt_pieces;
-}
 
 pub set_flushed-requires : goal.set_flushed-requires
 set_flushed-requires c = record {

@@ -1,6 +1,5 @@
 -- `advance_cursors` meets its contract. Assumes nothing.
 use Rattle.change_cursors.proofs.MoveLaws.{moved_both, moved_front, moved_back, moved_neither}
-use borrow.Author.Rules.{rules}
 use Rattle.change_cursors.proofs.cursors.advance_cursors.Goals as goal
 
 pub returns-then-at_front-at_back : goal.returns-then-at_front-at_back

@@ -1,6 +1,5 @@
 -- `cursors_on_filter` meets its contract. Assumes nothing.
 use Rattle.change_cursors.proofs.MoveLaws.{filtered, unfiltered_met, unfiltered}
-use borrow.Author.Rules.{rules}
 use Rattle.change_cursors.proofs.cursors.cursors_on_filter.Goals as goal
 
 pub returns-then-priority-eq0 : goal.returns-then-priority-eq0

@@ -1,6 +1,5 @@
 -- `empty_range` meets its contract. Assumes nothing.
 use Rattle.change_cursors.proofs.MoveLaws.{range_emptied}
-use borrow.Author.Rules.{rules}
 use Rattle.change_cursors.proofs.cursors.empty_range.Goals as goal
 
 pub returns : goal.returns

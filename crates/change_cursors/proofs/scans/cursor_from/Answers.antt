@@ -1,10 +1,8 @@
 -- `cursor_from` meets its contract. Assumes nothing.
-use Prim.Native.Nat.{◌-◌}
 use native.Mathlib.Omega.{arith}
 use borrow.Author.Tests.{not-true, not-false}
 use Rattle.model.specs.change.Changes.{cursor_from}
-use Rattle.change_cursors.proofs.ScanLaws.{Scanned, scan_begins, up_stops, up_passes, up_ends}
-use borrow.Author.Rules.{rules}
+use Rattle.change_cursors.proofs.ScanLaws.{scan_begins, up_stops, up_passes, up_ends}
 use Rattle.change_cursors.proofs.scans.cursor_from.Goals as goal
 
 pub loop-k-init : goal.loop-k-init

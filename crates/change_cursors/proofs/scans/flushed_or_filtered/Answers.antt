@@ -4,7 +4,6 @@ use mathlib.Core.Bool.{Bool, ◌||◌}
 use Prim.Native.Nat.{ℕ}
 use lib.Dec.{eqb}
 use Rattle.model.specs.change.Changes.{flushed_or_filtered}
-use borrow.Author.Rules.{rules}
 use Rattle.change_cursors.proofs.scans.flushed_or_filtered.Goals as goal
 
 pub returns : goal.returns

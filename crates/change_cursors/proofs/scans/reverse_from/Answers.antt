@@ -3,8 +3,7 @@ use Prim.Native.Nat.{◌-◌}
 use native.Mathlib.Omega.{arith}
 use borrow.Author.Tests.{not-true, not-false}
 use Rattle.model.specs.change.Changes.{reverse_from}
-use Rattle.change_cursors.proofs.ScanLaws.{Scanned, scan_begins, down_stops, down_passes, down_ends}
-use borrow.Author.Rules.{rules}
+use Rattle.change_cursors.proofs.ScanLaws.{scan_begins, down_stops, down_passes, down_ends}
 use Rattle.change_cursors.proofs.scans.reverse_from.Goals as goal
 
 pub loop-k-init : goal.loop-k-init

@@ -7,6 +7,3 @@ use Rattle.change_extents.proofs.neighbours.worth_among.Given as goal
 
 abbrev pub invariant-loop-k : goal.invariant-loop-k
 invariant-loop-k l = Weighed l.s l.cells l.i l.begin l.end l.met l.k
-
-abbrev pub decreases-loop-k : goal.decreases-loop-k
-decreases-loop-k l = l.end - l.k

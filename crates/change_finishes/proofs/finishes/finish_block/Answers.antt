@@ -1,7 +1,6 @@
 -- `finish_block` meets its contract: the block is left, or replaced, and the piece may go with it. Assumes nothing.
 use mathlib.Core.Path.{refl, sym, ◌∙◌}
 use native.Mathlib.Omega.{arith}
-use borrow.Author.Rules.{rules}
 use Rattle.change_blocks.proofs.StandingLaws.{stands_there, block_places, retally_asks}
 use Rattle.change_finishes.proofs.DoneLaws.{peer_fits_lem}
 use Rattle.change_finishes.proofs.FinishLaws.{finish_beside, finish_few, finish_left, flush_asks, finish_kept, finish_flushed}
@@ -15,9 +14,9 @@ get_block-b-requires c = let all = block_places c.args.s c.args.words.now c.args
       p_lt_places = all.1;
     }
 
-pub returns-then-b-eq3 : goal.returns-then-b-eq3
-returns-then-b-eq3 c = finish_left c.args.s _ c.args.i c.args.p c.args.j c.args.t c.args.flags c.args.finished c.args.words.now c.args.cells.now c.args.used
-    c.get_block-b.result c.get_block-b.ensures c.args.has_peer c.args.peer c.if-b-eq3.true
+pub returns-then-b : goal.returns-then-b
+returns-then-b c = finish_left c.args.s _ c.args.i c.args.p c.args.j c.args.t c.args.flags c.args.finished c.args.words.now c.args.cells.now c.args.used
+    c.get_block-b.result c.get_block-b.ensures c.args.has_peer c.args.peer c.if-b.true
 
 pub retally-after-requires : goal.retally-after-requires
 retally-after-requires c = let all = retally_asks c.args.s c.args.words.now c.args.cells.now c.args.i c.args.p c.args.j c.args.t c.get_block-b.result c.get_block-b.ensures _ refl
@@ -43,7 +42,7 @@ overflow_add-finished c = let m = finish_few c.args.s c.args.words.now c.args.ce
 
 pub piece_flushed-requires : goal.piece_flushed-requires
 piece_flushed-requires c = let b = flush_asks c.args.s _ c.args.i c.args.p c.args.j c.args.t c.args.flags c.args.finished c.args.words.now c.args.cells.now c.args.used
-    c.get_block-b.result c.get_block-b.ensures c.args.has_peer c.args.peer c.if-b-eq3.false c.retally-after.result c.retally-after.ensures
+    c.get_block-b.result c.get_block-b.ensures c.args.has_peer c.args.peer c.if-b.false c.retally-after.result c.retally-after.ensures
     c.finished_info-x.result c.finished_info-x.ensures _ _ c.set_block-next.result c.set_block-next.ensures
     (peer_fits_lem c.args.has_peer c.args.peer c.ranges.peer.fits) c.requires.finish_beside in
     record {
@@ -51,18 +50,15 @@ piece_flushed-requires c = let b = flush_asks c.args.s _ c.args.i c.args.p c.arg
       i_lt_pieces = c.requires.i_lt_pieces;
     }
 
-pub usize_to_u32-requires : goal.usize_to_u32-requires
-usize_to_u32-requires c = omega (arith, c.requires.i_lt_pieces, c.requires.finish_beside.placed.there.stands.works.bounds.spans.in_words.sizes.many)
-
 pub returns-then-is_done : goal.returns-then-is_done
 returns-then-is_done c = finish_flushed c.args.s _ c.args.i c.args.p c.args.j c.args.t c.args.flags c.args.finished c.args.words.now c.args.cells.now c.args.used
-    c.get_block-b.result c.get_block-b.ensures c.args.has_peer c.args.peer c.if-b-eq3.false c.retally-after.result c.retally-after.ensures
+    c.get_block-b.result c.get_block-b.ensures c.args.has_peer c.args.peer c.if-b.false c.retally-after.result c.retally-after.ensures
     c.finished_info-x.result c.finished_info-x.ensures _ _ c.set_block-next.result c.set_block-next.ensures
     (peer_fits_lem c.args.has_peer c.args.peer c.ranges.peer.fits) (sym c.if-is_done.true ∙ c.is_done.ensures) c.usize_to_u32.result
     c.usize_to_u32.ensures _ _ c.piece_flushed.ensures
 
 pub returns : goal.returns
 returns c = finish_kept c.args.s _ c.args.i c.args.p c.args.j c.args.t c.args.flags c.args.finished c.args.words.now c.args.cells.now c.args.used
-    c.get_block-b.result c.get_block-b.ensures c.args.has_peer c.args.peer c.if-b-eq3.false c.retally-after.result c.retally-after.ensures
+    c.get_block-b.result c.get_block-b.ensures c.args.has_peer c.args.peer c.if-b.false c.retally-after.result c.retally-after.ensures
     c.finished_info-x.result c.finished_info-x.ensures _ _ c.set_block-next.result c.set_block-next.ensures
     (peer_fits_lem c.args.has_peer c.args.peer c.ranges.peer.fits) (sym c.if-is_done.false ∙ c.is_done.ensures)

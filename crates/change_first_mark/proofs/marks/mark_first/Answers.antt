@@ -2,7 +2,6 @@
 use mathlib.Core.Path.{refl}
 use Rattle.change_blocks.proofs.SetLaws.{put_places}
 use Rattle.change_first_mark.proofs.FirstLaws.{first_beside, first_tally, first_left, first_set}
-use borrow.Author.Rules.{rules}
 use Rattle.change_first_mark.proofs.marks.mark_first.Goals as goal
 
 pub get_block-b-requires : goal.get_block-b-requires
@@ -13,9 +12,9 @@ get_block-b-requires c = record {
       c.requires.held_beside);
 }
 
-pub returns-then-b-eq3 : goal.returns-then-b-eq3
-returns-then-b-eq3 c = first_left c.args.s c.args.i c.args.o c.args.j _ c.u32_to_usize-p.ensures c.args.words.now c.args.cells.now c.requires.held_beside.block
-    c.get_block-b.result c.get_block-b.ensures _ c.args.x c.if-b-eq3.true _ refl refl refl
+pub returns-then-b : goal.returns-then-b
+returns-then-b c = first_left c.args.s c.args.i c.args.o c.args.j _ c.u32_to_usize-p.ensures c.args.words.now c.args.cells.now c.requires.held_beside.block
+    c.get_block-b.result c.get_block-b.ensures _ c.args.x c.if-b.true _ refl refl refl
 
 pub retally-t-requires : goal.retally-t-requires
 retally-t-requires c = let all = first_tally c.args.s c.args.i c.args.o c.args.j _ c.u32_to_usize-p.ensures c.args.words.now c.args.cells.now c.requires.held_beside.block
@@ -36,5 +35,5 @@ set_block-next-requires c = record {
 
 pub returns : goal.returns
 returns c = first_set c.args.s c.args.i c.args.o c.args.j _ c.u32_to_usize-p.ensures c.args.words.now c.args.cells.now c.requires.held_beside.block
-    c.get_block-b.result c.get_block-b.ensures _ c.args.x c.if-b-eq3.false c.requires.state_bound _ c.retally-t.ensures _ _
+    c.get_block-b.result c.get_block-b.ensures _ c.args.x c.if-b.false c.requires.state_bound _ c.retally-t.ensures _ _
     c.set_block-next.result c.set_block-next.ensures _ refl refl refl

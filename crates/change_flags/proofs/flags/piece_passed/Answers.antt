@@ -1,6 +1,5 @@
 -- `piece_passed` meets its contract. Assumes nothing.
 use mathlib.Core.Path.{subst}
-use borrow.Author.Rules.{rules}
 use Rattle.memory_layout.proofs.StandingLaws.{stands_shape}
 use Rattle.memory_records.specs.Rows.{records_in}
 use Rattle.memory_rows.specs.Lookup.{FoundIn}
@@ -25,11 +24,11 @@ returns-in_default c = let w = rows_within c.args.s c.args.live c.args.rows.now 
     }
 
 pub row-r-requires : goal.row-r-requires
-row-r-requires c = let x = subst (FoundIn c.args.live c.args.rows.now c.args.i) c.in-At.is c.find.ensures.picker in
+row-r-requires c = let x = subst (FoundIn c.args.live c.args.rows.now c.args.i) c.in-Some.is c.find.ensures.picker in
     (row_there c.args.s c.args.live c.args.rows.now c.args.words.now c.args.cells.now c.requires.rows_stand.stands c.requires.rows_stand.many c.args.i _ x, c.requires.rows_stand.long_rows)
 
 pub returns-then-is_locked : goal.returns-then-is_locked
-returns-then-is_locked c = let x = subst (FoundIn c.args.live c.args.rows.now c.args.i) c.in-At.is c.find.ensures.picker in
+returns-then-is_locked c = let x = subst (FoundIn c.args.live c.args.rows.now c.args.i) c.in-Some.is c.find.ensures.picker in
     let w = rows_within c.args.s c.args.live c.args.rows.now c.args.words.now c.args.cells.now c.requires.rows_stand.stands c.requires.rows_stand.many in
     let b = pass_locked c.args.s c.args.live c.args.rows.now c.args.counts.now c.args.words.now c.args.cells.now c.requires.rows_stand c.args.i _ x
     c.row-r.result c.row-r.ensures c.is_locked.result c.is_locked.ensures c.if-is_locked.true in
@@ -45,11 +44,11 @@ blocks_in_piece-many-requires c = record {
 }
 
 pub finished-requires : goal.finished-requires
-finished-requires c = let x = subst (FoundIn c.args.live c.args.rows.now c.args.i) c.in-At.is c.find.ensures.picker in
+finished-requires c = let x = subst (FoundIn c.args.live c.args.rows.now c.args.i) c.in-Some.is c.find.ensures.picker in
     (row_there c.args.s c.args.live c.args.rows.now c.args.words.now c.args.cells.now c.requires.rows_stand.stands c.requires.rows_stand.many c.args.i _ x, c.requires.rows_stand.long_counts)
 
 pub piece_flushed-requires : goal.piece_flushed-requires
-piece_flushed-requires c = let x = subst (FoundIn c.args.live c.args.rows.now c.args.i) c.in-At.is c.find.ensures.picker in record {
+piece_flushed-requires c = let x = subst (FoundIn c.args.live c.args.rows.now c.args.i) c.in-Some.is c.find.ensures.picker in record {
   partial_beside = record {
     records = records_in c.args.live c.args.rows.now;
     has = has_partial c.args.s c.args.live c.args.rows.now c.args.words.now c.args.cells.now c.requires.rows_stand.stands c.requires.rows_stand.many c.args.i _ x;
@@ -58,7 +57,7 @@ piece_flushed-requires c = let x = subst (FoundIn c.args.live c.args.rows.now c.
 }
 
 pub returns-then-many-u16_to_usize : goal.returns-then-many-u16_to_usize
-returns-then-many-u16_to_usize c = let x = subst (FoundIn c.args.live c.args.rows.now c.args.i) c.in-At.is c.find.ensures.picker in
+returns-then-many-u16_to_usize c = let x = subst (FoundIn c.args.live c.args.rows.now c.args.i) c.in-Some.is c.find.ensures.picker in
     let w = rows_within c.args.s c.args.live c.args.rows.now c.args.words.now c.args.cells.now c.requires.rows_stand.stands c.requires.rows_stand.many in
     let b = pass_flushed c.args.s c.args.live c.args.rows.now c.args.counts.now c.args.words.now c.args.cells.now c.requires.rows_stand c.args.i _ x
     c.row-r.result c.row-r.ensures c.is_locked.result c.is_locked.ensures c.if-is_locked.false
@@ -70,7 +69,7 @@ returns-then-many-u16_to_usize c = let x = subst (FoundIn c.args.live c.args.row
     }
 
 pub returns : goal.returns
-returns c = let x = subst (FoundIn c.args.live c.args.rows.now c.args.i) c.in-At.is c.find.ensures.picker in
+returns c = let x = subst (FoundIn c.args.live c.args.rows.now c.args.i) c.in-Some.is c.find.ensures.picker in
     let w = rows_within c.args.s c.args.live c.args.rows.now c.args.words.now c.args.cells.now c.requires.rows_stand.stands c.requires.rows_stand.many in
     let b = pass_flagged c.args.s c.args.live c.args.rows.now c.args.counts.now c.args.words.now c.args.cells.now c.requires.rows_stand c.args.i _ x
     c.row-r.result c.row-r.ensures c.is_locked.result c.is_locked.ensures c.if-is_locked.false

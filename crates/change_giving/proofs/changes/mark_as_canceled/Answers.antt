@@ -1,6 +1,5 @@
 -- `mark_as_canceled` meets its contract. Assumes nothing.
 use mathlib.Core.Path.{refl}
-use borrow.Author.Rules.{rules}
 use Rattle.types.specs.Peer.{named_peer}
 use Rattle.model.specs.change.Changes.{cancel_in, mark_as_canceled}
 use Rattle.change_blocks.specs.Replacing.{TallyAt}
@@ -26,7 +25,7 @@ returns-in_default c = let all = whole_nothing c.args.s c.args.live c.args.rows.
 
 pub standing_in-d-requires : goal.standing_in-d-requires
 standing_in-d-requires c = let all = standing_asks c.args.s c.args.live c.args.rows.now c.args.counts.now c.args.words.now c.args.cells.now c.requires.rows_stand c.args.i _
-    c.find.result c.in-At.is c.find.ensures.picker c.requires.i_lt_pieces.0 in
+    c.find.result c.in-Some.is c.find.ensures.picker c.requires.i_lt_pieces.0 in
     record {
       tallies_beside = all.0;
       i_lt_pieces = all.1.0;
@@ -35,7 +34,7 @@ standing_in-d-requires c = let all = standing_asks c.args.s c.args.live c.args.r
 
 pub cancel_block-requires : goal.cancel_block-requires
 cancel_block-requires c = let b = tally_beside c.args.s c.args.live c.args.rows.now c.args.counts.now c.args.words.now c.args.cells.now c.requires.rows_stand c.args.i _
-    c.find.result c.in-At.is c.find.ensures.picker c.standing_in-d.result c.standing_in-d.ensures c.args.j c.requires.i_lt_pieces.1 in
+    c.find.result c.in-Some.is c.find.ensures.picker c.standing_in-d.result c.standing_in-d.ensures c.args.j c.requires.i_lt_pieces.1 in
     record {
       tally_beside = b;
       i_lt_pieces = c.requires.i_lt_pieces.0;
@@ -44,10 +43,10 @@ cancel_block-requires c = let b = tally_beside c.args.s c.args.live c.args.rows.
 pub returns : goal.returns
 unfolding mark_as_canceled
 returns c = let h = tally_here c.args.s c.args.live c.args.rows.now c.args.counts.now c.args.words.now c.args.cells.now c.requires.rows_stand c.args.i _
-    c.find.result c.in-At.is c.find.ensures.picker c.standing_in-d.result c.standing_in-d.ensures c.args.j c.requires.i_lt_pieces.1 in
+    c.find.result c.in-Some.is c.find.ensures.picker c.standing_in-d.result c.standing_in-d.ensures c.args.j c.requires.i_lt_pieces.1 in
     let all = whole_found c.args.s c.args.live c.args.rows.now c.args.counts.now c.args.words.now c.args.cells.now c.requires.rows_stand c.args.i
     (λ found w. cancel_in c.args.draws.now c.args.i found c.args.j (named_peer c.args.has_peer c.args.peer) w)
-    _ c.find.result c.in-At.is c.find.ensures.picker _ _ c.cancel_block.result.used
+    _ c.find.result c.in-Some.is c.find.ensures.picker _ _ c.cancel_block.result.used
     (λ records k. TallyAt c.args.s records c.args.words.now c.args.cells.now c.args.i c.standing_in-d.result.place c.args.j c.standing_in-d.result.tally k) h
     c.cancel_block.result.edit c.cancel_block.ensures in
     record {

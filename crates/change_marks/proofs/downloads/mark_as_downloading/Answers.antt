@@ -1,18 +1,11 @@
 -- `mark_as_downloading` meets its contract: a block of the partial found, or of a piece without one, which is opened. Assumes nothing.
 use native.Mathlib.Omega.{arith}
-use borrow.Author.Rules.{rules}
 use Rattle.types.specs.Peer.{named_peer}
 use Rattle.model.specs.change.Changes.{reverse_asked, affinity_asked, mark_downloading_in, mark_as_downloading}
 use Rattle.change_returns.proofs.WholeLaws.{kept_room, standing_asks}
 use Rattle.change_vacant.proofs.VacantLaws.{vacant_room, rows_vacant, downloading_opened}
 use Rattle.change_marks.proofs.WholeLaws.{request_beside, marked_found}
 use Rattle.change_marks.proofs.downloads.mark_as_downloading.Goals as goal
-
-pub partial_of-requires : goal.partial_of-requires
-partial_of-requires c = record {
-  rows_beside = record { words = c.args.words.now; counts = c.args.counts.now; stand = c.requires.rows_stand };
-  i_lt_pieces = c.requires.i_lt_pieces.0;
-}
 
 pub open_mark-requires : goal.open_mark-requires
 open_mark-requires c = let v = rows_vacant c.args.s c.args.live c.args.rows.now c.args.counts.now c.args.words.now c.args.cells.now c.requires.rows_stand c.args.i
@@ -40,7 +33,7 @@ returns-in_default c = let v = rows_vacant c.args.s c.args.live c.args.rows.now 
 
 pub standing_in-d-requires : goal.standing_in-d-requires
 standing_in-d-requires c = let all = standing_asks c.args.s c.args.live c.args.rows.now c.args.counts.now c.args.words.now c.args.cells.now c.requires.rows_stand c.args.i _
-    c.partial_of.result c.in-At.is c.partial_of.ensures c.requires.i_lt_pieces.0 in
+    c.partial_of.result c.in-Some.is c.partial_of.ensures c.requires.i_lt_pieces.0 in
     record {
       tallies_beside = all.0;
       i_lt_pieces = all.1.0;
@@ -49,7 +42,7 @@ standing_in-d-requires c = let all = standing_asks c.args.s c.args.live c.args.r
 
 pub request_block-m-requires : goal.request_block-m-requires
 request_block-m-requires c = let b = request_beside c.args.s c.args.live c.args.rows.now c.args.counts.now c.args.words.now c.args.cells.now c.requires.rows_stand c.args.i _
-    c.partial_of.result c.in-At.is c.partial_of.ensures c.standing_in-d.result c.standing_in-d.ensures c.args.j
+    c.partial_of.result c.in-Some.is c.partial_of.ensures c.standing_in-d.result c.standing_in-d.ensures c.args.j
     c.requires.i_lt_pieces.1 in
     record {
       request_beside = b;
@@ -60,7 +53,7 @@ request_block-m-requires c = let b = request_beside c.args.s c.args.live c.args.
 pub returns : goal.returns
 unfolding mark_as_downloading reverse_asked
 returns c = let r = marked_found c.args.s c.args.live c.args.rows.now c.args.counts.now c.args.words.now c.args.cells.now c.requires.rows_stand c.args.i _
-    c.partial_of.result c.in-At.is c.partial_of.ensures c.standing_in-d.result c.standing_in-d.ensures c.args.j
+    c.partial_of.result c.in-Some.is c.partial_of.ensures c.standing_in-d.result c.standing_in-d.ensures c.args.j
     c.requires.i_lt_pieces.1
     (λ found w. mark_downloading_in c.args.draws.now c.args.i found c.args.j (named_peer c.args.has_peer c.args.peer) c.args.options.0 w) _ _
     c.request_block-m.result (c.request_block-m.ensures.marks c.args.options.0 c.contains-back.ensures) in

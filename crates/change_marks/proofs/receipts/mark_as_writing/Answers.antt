@@ -1,30 +1,12 @@
 -- `mark_as_writing` meets its contract: a block of the partial found, or of a piece that is opened unless it is flushed.
 -- Assumes nothing.
 use native.Mathlib.Omega.{arith}
-use borrow.Author.Rules.{rules}
 use Rattle.types.specs.Peer.{named_peer}
 use Rattle.model.specs.change.Changes.{mark_writing_in, mark_as_writing}
 use Rattle.change_returns.proofs.WholeLaws.{kept_room, standing_asks, tally_beside}
 use Rattle.change_vacant.proofs.VacantLaws.{rows_vacant, writing_opened}
 use Rattle.change_marks.proofs.WholeLaws.{marked_found}
 use Rattle.change_marks.proofs.receipts.mark_as_writing.Goals as goal
-
-pub partial_of-requires : goal.partial_of-requires
-partial_of-requires c = record {
-  rows_beside = record { words = c.args.words.now; counts = c.args.counts.now; stand = c.requires.rows_stand };
-  i_lt_pieces = c.requires.i_lt_pieces.0;
-}
-
-pub open_arrived-requires : goal.open_arrived-requires
-open_arrived-requires c = let v = rows_vacant c.args.s c.args.live c.args.rows.now c.args.counts.now c.args.words.now c.args.cells.now c.requires.rows_stand c.args.i
-    c.partial_of.result c.in_default.is c.partial_of.ensures in
-    record {
-      rows_vacant = v;
-      i_lt_pieces = c.requires.i_lt_pieces;
-      i_value = c.requires.i_value;
-      state_bound = omega arith;
-      min_draws_in_bounds = c.requires.min_draws_in_bounds;
-    }
 
 pub returns-in_default : goal.returns-in_default
 returns-in_default c = let v = rows_vacant c.args.s c.args.live c.args.rows.now c.args.counts.now c.args.words.now c.args.cells.now c.requires.rows_stand c.args.i
@@ -38,7 +20,7 @@ returns-in_default c = let v = rows_vacant c.args.s c.args.live c.args.rows.now 
 
 pub standing_in-d-requires : goal.standing_in-d-requires
 standing_in-d-requires c = let all = standing_asks c.args.s c.args.live c.args.rows.now c.args.counts.now c.args.words.now c.args.cells.now c.requires.rows_stand c.args.i _
-    c.partial_of.result c.in-At.is c.partial_of.ensures c.requires.i_lt_pieces.0 in
+    c.partial_of.result c.in-Some.is c.partial_of.ensures c.requires.i_lt_pieces.0 in
     record {
       tallies_beside = all.0;
       i_lt_pieces = all.1.0;
@@ -47,7 +29,7 @@ standing_in-d-requires c = let all = standing_asks c.args.s c.args.live c.args.r
 
 pub write_block-m-requires : goal.write_block-m-requires
 write_block-m-requires c = let b = tally_beside c.args.s c.args.live c.args.rows.now c.args.counts.now c.args.words.now c.args.cells.now c.requires.rows_stand c.args.i _
-    c.partial_of.result c.in-At.is c.partial_of.ensures c.standing_in-d.result c.standing_in-d.ensures c.args.j
+    c.partial_of.result c.in-Some.is c.partial_of.ensures c.standing_in-d.result c.standing_in-d.ensures c.args.j
     c.requires.i_lt_pieces.1 in
     record {
       tally_beside = b;
@@ -58,7 +40,7 @@ write_block-m-requires c = let b = tally_beside c.args.s c.args.live c.args.rows
 pub returns : goal.returns
 unfolding mark_as_writing
 returns c = let r = marked_found c.args.s c.args.live c.args.rows.now c.args.counts.now c.args.words.now c.args.cells.now c.requires.rows_stand c.args.i _
-    c.partial_of.result c.in-At.is c.partial_of.ensures c.standing_in-d.result c.standing_in-d.ensures c.args.j
+    c.partial_of.result c.in-Some.is c.partial_of.ensures c.standing_in-d.result c.standing_in-d.ensures c.args.j
     c.requires.i_lt_pieces.1
     (λ found w. mark_writing_in c.args.draws.now c.args.i found c.args.j (named_peer c.args.has_peer c.args.peer) w) _ _
     c.write_block-m.result c.write_block-m.ensures.marks in

@@ -1,7 +1,6 @@
 -- `record_if_asked` meets its contract. Assumes nothing.
 use borrow.Author.Tests.{not-true, not-false}
 use Rattle.change_opening.proofs.OpenLaws.{some_blocks, extent_asked, extent_left}
-use borrow.Author.Rules.{rules}
 use Rattle.change_opening.proofs.extents.record_if_asked.Goals as goal
 
 pub returns-then-not-affinity : goal.returns-then-not-affinity

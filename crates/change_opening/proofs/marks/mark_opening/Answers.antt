@@ -1,16 +1,7 @@
 -- `mark_opening` meets its contract. Assumes nothing.
 use native.Mathlib.Omega.{arith}
 use Rattle.change_opening.proofs.MarkLaws.{mark_beside, mark_draws, mark_done}
-use borrow.Author.Rules.{rules}
 use Rattle.change_opening.proofs.marks.mark_opening.Goals as goal
-
-pub open_piece-o-requires : goal.open_piece-o-requires
-open_piece-o-requires c = record {
-  vacant_beside = c.requires.vacant_beside;
-  live_lt_places = c.requires.live_lt_places;
-  i_lt_pieces = c.requires.i_lt_pieces.0;
-  used_in_bounds = omega (arith, c.requires.used_in_bounds);
-}
 
 pub mark_first-requires : goal.mark_first-requires
 mark_first-requires c = let d = mark_draws c.args.s _ c.args.i c.args.q c.args.affinity c.args.live c.args.rows.now c.args.words.now c.args.cells.now c.args.used _ _

@@ -1,15 +1,7 @@
 -- `open_piece` meets its contract. Assumes nothing.
 use native.Mathlib.Omega.{arith}
 use Rattle.change_opening.proofs.OpenLaws.{state_beside, state_draws, extent_beside, open_done}
-use borrow.Author.Rules.{rules}
 use Rattle.change_opening.proofs.openings.open_piece.Goals as goal
-
-pub set_state-next-requires : goal.set_state-next-requires
-set_state-next-requires c = record {
-  works_beside = record { records = c.requires.vacant_beside.records; works = c.requires.vacant_beside.stands.works };
-  i_lt_pieces = c.requires.i_lt_pieces;
-  used_in_bounds = omega (arith, c.requires.used_in_bounds);
-}
 
 pub record_if_asked-requires : goal.record_if_asked-requires
 record_if_asked-requires c = record {

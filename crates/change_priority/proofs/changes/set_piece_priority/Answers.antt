@@ -1,24 +1,10 @@
 -- `set_piece_priority` meets its contract. Assumes nothing.
-use borrow.Author.Rules.{rules}
 use Rattle.change_priority.proofs.StateLaws.{said_same, said_other}
 use Rattle.change_priority.proofs.changes.set_piece_priority.Goals as goal
-
-pub priority-old-requires : goal.priority-old-requires
-priority-old-requires c = record {
-  cells_span = c.requires.rows_stand.stands.bounds.spans.in_cells;
-  i_lt_pieces = c.requires.i_lt_pieces.0;
-}
 
 pub returns-then-priority-old : goal.returns-then-priority-old
 returns-then-priority-old c = said_same c.args.s _ c.args.i c.args.priority _ c.args.words.now c.args.cells.now c.requires.rows_stand.stands c.priority-old.result
     c.priority-old.ensures c.if-priority-old.true
-
-pub store_priority-used-requires : goal.store_priority-used-requires
-store_priority-used-requires c = record {
-  rows_stand = c.requires.rows_stand;
-  i_lt_pieces = c.requires.i_lt_pieces;
-  min_draws_in_bounds = c.requires.min_draws_in_bounds;
-}
 
 pub returns : goal.returns
 returns c = said_other c.args.s _ c.args.i c.args.priority _ c.args.words.now c.args.cells.now c.requires.rows_stand.stands c.priority-old.result

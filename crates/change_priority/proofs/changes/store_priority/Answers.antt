@@ -1,16 +1,9 @@
 -- `store_priority` meets its contract. Assumes nothing.
 use native.Mathlib.Omega.{arith}
-use borrow.Author.Rules.{rules}
 use Rattle.change_steps.proofs.MendLaws.{begun_works}
 use Rattle.change_priority.proofs.StepLaws.{listed_few}
 use Rattle.change_priority.proofs.StateLaws.{rows_beside, stored_open, stored_shut}
 use Rattle.change_priority.proofs.changes.store_priority.Goals as goal
-
-pub state-requires : goal.state-requires
-state-requires c = record {
-  cells_span = c.requires.rows_stand.stands.bounds.spans.in_cells;
-  i_lt_pieces = c.requires.i_lt_pieces.0;
-}
 
 pub list_priority-requires : goal.list_priority-requires
 list_priority-requires c = record {
@@ -18,15 +11,9 @@ list_priority-requires c = record {
   i_lt_pieces = c.requires.i_lt_pieces;
 }
 
-pub returns-then-state-eq4 : goal.returns-then-state-eq4
-returns-then-state-eq4 c = stored_open c.args.s _ c.args.i c.args.priority c.args.turned c.args.words.now c.args.cells.now c.state.result c.state.ensures
-    c.if-state-eq4.true _ _ c.list_priority.result c.list_priority.ensures _ c.requires.rows_stand.stands
-
-pub tally_at-t-requires : goal.tally_at-t-requires
-tally_at-t-requires c = record {
-  tallies_at = record { cells = c.args.cells.now; stand = c.requires.rows_stand };
-  i_lt_pieces = c.requires.i_lt_pieces.0;
-}
+pub returns-then-state : goal.returns-then-state
+returns-then-state c = stored_open c.args.s _ c.args.i c.args.priority c.args.turned c.args.words.now c.args.cells.now c.state.result c.state.ensures
+    c.if-state.true _ _ c.list_priority.result c.list_priority.ensures _ c.requires.rows_stand.stands
 
 pub list_priority-used-requires : goal.list_priority-used-requires
 list_priority-used-requires c = record {
@@ -45,5 +32,5 @@ update_piece_state-requires c = let b = rows_beside _ _ _ _ _ _ c.requires.rows_
 
 pub returns : goal.returns
 returns c = stored_shut c.args.s _ c.args.i c.args.priority c.args.turned c.args.words.now c.args.cells.now c.state.result c.state.ensures
-    c.requires.i_lt_pieces.0 c.if-state-eq4.false c.args.live c.args.rows.now c.args.counts.now c.requires.rows_stand c.tally_at-t.result c.tally_at-t.ensures _ _
+    c.requires.i_lt_pieces.0 c.if-state.false c.args.live c.args.rows.now c.args.counts.now c.requires.rows_stand c.tally_at-t.result c.tally_at-t.ensures _ _
     c.list_priority-used.result c.list_priority-used.ensures _ _ c.update_piece_state.result c.update_piece_state.ensures

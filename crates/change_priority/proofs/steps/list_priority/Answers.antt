@@ -1,15 +1,8 @@
 -- `list_priority` meets its contract. Assumes nothing.
 use native.Mathlib.Omega.{arith}
-use borrow.Author.Rules.{rules}
 use Rattle.change_steps.proofs.MendLaws.{begun_works}
 use Rattle.change_priority.proofs.StepLaws.{listed}
 use Rattle.change_priority.proofs.steps.list_priority.Goals as goal
-
-pub turn_cursors-requires : goal.turn_cursors-requires
-turn_cursors-requires c = record {
-  stands_beside = c.requires.stands_beside;
-  i_lt_pieces = c.requires.i_lt_pieces.0;
-}
 
 pub set_priority-requires : goal.set_priority-requires
 set_priority-requires c = record {

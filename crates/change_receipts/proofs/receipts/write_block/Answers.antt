@@ -1,7 +1,6 @@
 -- `write_block` meets its contract: the peer changes, or the block is replaced. Assumes nothing.
 use native.Mathlib.Omega.{arith}
 use mathlib.Core.Path.{refl}
-use borrow.Author.Rules.{rules}
 use Rattle.change_blocks.proofs.StandingLaws.{stands_there, block_places, state_low, retally_asks}
 use Rattle.change_receipts.proofs.ReceiptLaws.{write_kept, write_made}
 use Rattle.change_receipts.proofs.receipts.write_block.Goals as goal
@@ -23,9 +22,9 @@ put_block-requires c = let b = block_places c.args.s c.args.words.now c.args.cel
       state_bound = m;
     }
 
-pub returns-then-b-ge2 : goal.returns-then-b-ge2
-returns-then-b-ge2 c = write_kept c.args.s _ c.args.i c.args.p c.args.j c.args.t c.args.words.now c.args.cells.now c.args.used c.get_block-b.result c.get_block-b.ensures
-    c.if-b-ge2.true _ refl refl _ _ c.put_block.ensures
+pub returns-then-b : goal.returns-then-b
+returns-then-b c = write_kept c.args.s _ c.args.i c.args.p c.args.j c.args.t c.args.words.now c.args.cells.now c.args.used c.get_block-b.result c.get_block-b.ensures
+    c.if-b.true _ refl refl _ _ c.put_block.ensures
 
 pub retally-after-requires : goal.retally-after-requires
 retally-after-requires c = let all = retally_asks c.args.s c.args.words.now c.args.cells.now c.args.i c.args.p c.args.j c.args.t c.get_block-b.result c.get_block-b.ensures
@@ -46,4 +45,4 @@ set_block-next-requires c = let b = stands_there c.args.s c.args.words.now c.arg
 
 pub returns : goal.returns
 returns c = write_made c.args.s _ c.args.i c.args.p c.args.j c.args.t c.args.words.now c.args.cells.now c.args.used c.get_block-b.result c.get_block-b.ensures
-    c.if-b-ge2.false c.retally-after.result c.retally-after.ensures _ refl refl _ _ c.set_block-next.result c.set_block-next.ensures
+    c.if-b.false c.retally-after.result c.retally-after.ensures _ refl refl _ _ c.set_block-next.result c.set_block-next.ensures

@@ -1,7 +1,6 @@
 -- `request_block` meets its contract: the block is left, or replaced, with the piece turned before and back after it. Assumes nothing.
 use native.Mathlib.Omega.{arith}
 use mathlib.Core.Path.{refl}
-use borrow.Author.Rules.{rules}
 use Rattle.change_blocks.proofs.StandingLaws.{works_there, block_places, retally_asks}
 use Rattle.change_requests.proofs.RequestLaws.{one_more, request_refused, turned_asks, set_asks, request_made}
 use Rattle.change_requests.proofs.requests.request_block.Goals as goal
@@ -13,9 +12,9 @@ get_block-b-requires c = let all = block_places c.args.s c.args.words.now c.args
       p_lt_places = all.1;
     }
 
-pub returns-then-b-ge2 : goal.returns-then-b-ge2
-returns-then-b-ge2 c = request_refused c.args.s _ c.args.i c.args.p c.args.j c.args.back c.args.t c.args.words.now c.args.cells.now c.args.used c.get_block-b.result
-    c.get_block-b.ensures c.args.has_peer c.args.peer c.if-b-ge2.true
+pub returns-then-b : goal.returns-then-b
+returns-then-b c = request_refused c.args.s _ c.args.i c.args.p c.args.j c.args.back c.args.t c.args.words.now c.args.cells.now c.args.used c.get_block-b.result
+    c.get_block-b.ensures c.args.has_peer c.args.peer c.if-b.true
 
 pub retally-after-requires : goal.retally-after-requires
 retally-after-requires c = let all = retally_asks c.args.s c.args.words.now c.args.cells.now c.args.i c.args.p c.args.j c.args.t c.get_block-b.result c.get_block-b.ensures
@@ -61,5 +60,5 @@ unreverse_piece-last-requires c = let k = set_asks c.args.s _ c.args.i c.args.p 
 pub returns : goal.returns
 returns c = request_made c.args.s _ c.args.i c.args.p c.args.j c.args.back c.args.t c.args.words.now c.args.cells.now c.args.used c.get_block-b.result
     c.get_block-b.ensures _ _ c.make_piece_reverse-turned.result c.make_piece_reverse-turned.ensures c.retally-after.result
-    c.retally-after.ensures _ refl refl _ _ c.set_block-next.result c.set_block-next.ensures c.if-b-ge2.false _ _ c.unreverse_piece-last.result
+    c.retally-after.ensures _ refl refl _ _ c.set_block-next.result c.set_block-next.ensures c.if-b.false _ _ c.unreverse_piece-last.result
     c.unreverse_piece-last.ensures

@@ -1,8 +1,7 @@
 -- `lower_all` meets its contract. In the loop the first i counts are lowered. Assumes nothing.
-use Prim.Native.Nat.{◌-◌, ◌≤◌}
+use Prim.Native.Nat.{◌-◌}
 use native.Mathlib.Omega.{arith}
-use Rattle.change_seeds.proofs.PassLaws.{Passed, pass_none, pass_next, cell_there, pass_whole, all_lowered}
-use borrow.Author.Rules.{rules}
+use Rattle.change_seeds.proofs.PassLaws.{pass_none, pass_next, cell_there, pass_whole, all_lowered}
 use Rattle.change_seeds.proofs.lowering.lower_all.Goals as goal
 
 pub loop-i-init : goal.loop-i-init
@@ -17,7 +16,7 @@ bounds-cells-i-in-loop-i c = cell_there (λ n. n - 1) c.args.s c.args.cells.now 
 
 pub loop-i-preserved : goal.loop-i-preserved
 loop-i-preserved c = let h = cell_there (λ n. n - 1) c.args.s c.args.cells.now c.loop-i.cells c.loop-i.i c.requires c.loop-i.invariant.1 (omega arith) in
-    (omega arith, pass_next (λ n. n - 1) c.args.cells.now c.loop-i.i c.loop-i.cells c.one_less.result c.loop-i.invariant.1 h c.one_less.ensures)
+    (omega arith, pass_next (λ n. n - 1) c.args.cells.now c.loop-i.i c.loop-i.cells c.saturating_sub.result c.loop-i.invariant.1 h c.saturating_sub.ensures)
 
 pub shape_of-cells : goal.shape_of-cells
 shape_of-cells c = c.loop-i.invariant.1.long

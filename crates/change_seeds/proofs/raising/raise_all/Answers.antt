@@ -1,8 +1,7 @@
 -- `raise_all` meets its contract. In the loop the first i counts are raised. Assumes nothing.
-use Prim.Native.Nat.{suc, ◌-◌, ◌≤◌}
+use Prim.Native.Nat.{suc}
 use native.Mathlib.Omega.{arith}
-use Rattle.change_seeds.proofs.PassLaws.{Passed, pass_none, pass_next, cell_there, cell_fits, pass_whole, all_raised}
-use borrow.Author.Rules.{rules}
+use Rattle.change_seeds.proofs.PassLaws.{pass_none, pass_next, cell_there, cell_fits, pass_whole, all_raised}
 use Rattle.change_seeds.proofs.raising.raise_all.Goals as goal
 
 pub loop-i-init : goal.loop-i-init

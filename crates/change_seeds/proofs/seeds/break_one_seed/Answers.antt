@@ -2,7 +2,6 @@
 use native.Mathlib.Omega.{arith}
 use Rattle.memory_layout.proofs.StandingLaws.{words_span_kept}
 use Rattle.change_seeds.proofs.SeedLaws.{counts_fit, seed_broken}
-use borrow.Author.Rules.{rules}
 use Rattle.change_seeds.proofs.seeds.break_one_seed.Goals as goal
 
 pub seeds-n-requires : goal.seeds-n-requires

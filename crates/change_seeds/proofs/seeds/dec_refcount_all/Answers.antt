@@ -1,7 +1,6 @@
 -- `dec_refcount_all` meets its contract. Assumes nothing.
 use Rattle.memory_layout.proofs.StandingLaws.{words_span_kept}
 use Rattle.change_seeds.proofs.SeedLaws.{peers_went, seed_went}
-use borrow.Author.Rules.{rules}
 use Rattle.change_seeds.proofs.seeds.dec_refcount_all.Goals as goal
 
 pub seeds-n-requires : goal.seeds-n-requires

@@ -4,7 +4,6 @@ use mathlib.Core.Bool.{Bool}
 use borrow.Author.Tests.{not-true, not-false}
 use Rattle.change_seeds.specs.Seeds.{DirtyWhere}
 use Rattle.change_seeds.proofs.SeedLaws.{dirty_yes, dirty_no}
-use borrow.Author.Rules.{rules}
 use Rattle.change_seeds.proofs.seeds.mark_dirty_if.Goals as goal
 
 pub returns-then-not-test : goal.returns-then-not-test

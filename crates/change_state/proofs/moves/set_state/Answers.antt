@@ -1,21 +1,6 @@
 -- `set_state` meets its contract: the state is stored, then the list mended. Assumes nothing.
-use native.Mathlib.Omega.{arith}
-use borrow.Author.Rules.{rules}
 use Rattle.change_state.proofs.MoveLaws.{state_asks, state_set}
 use Rattle.change_state.proofs.moves.set_state.Goals as goal
-
-pub rank_at-old-requires : goal.rank_at-old-requires
-rank_at-old-requires c = record {
-  spans = c.requires.works_beside.works.bounds.spans;
-  ranges = c.requires.works_beside.works.ranges;
-  i_lt_pieces = c.requires.i_lt_pieces;
-}
-
-pub set_state-requires : goal.set_state-requires
-set_state-requires c = record {
-  cells_span = c.requires.works_beside.works.bounds.spans.in_cells;
-  i_lt_pieces = (c.requires.i_lt_pieces, omega (arith, c.queue_number-n.ensures.1));
-}
 
 pub update-requires : goal.update-requires
 update-requires c = let k = state_asks c.args.s c.args.i c.requires.i_lt_pieces c.args.q c.queue_number-n.result c.queue_number-n.ensures.0 c.args.words.now

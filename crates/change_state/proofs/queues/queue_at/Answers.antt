@@ -1,5 +1,4 @@
 -- `queue_at` meets its contract. Assumes nothing.
-use borrow.Author.Rules.{rules}
 use Rattle.change_state.proofs.QueueLaws.{queue_read}
 use Rattle.change_state.proofs.queues.queue_at.Goals as goal
 

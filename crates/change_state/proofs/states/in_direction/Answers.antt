@@ -1,6 +1,5 @@
 -- `in_direction` meets its contract. Assumes nothing.
 use mathlib.Core.Path.{sym, ◌∙◌}
-use borrow.Author.Rules.{rules}
 use Rattle.model.specs.change.Partials.{in_direction}
 use Rattle.change_state.proofs.states.in_direction.Goals as goal
 

@@ -1,6 +1,5 @@
 -- `new_state` meets its contract: its tests are the definition's, in its order. Assumes nothing.
 use mathlib.Core.Path.{sym, ◌∙◌}
-use borrow.Author.Rules.{rules}
 use Rattle.change_state.proofs.StateLaws.{zero_prio, left_open, some_free, some_requested, all_received}
 use Rattle.change_state.proofs.states.new_state.Goals as goal
 

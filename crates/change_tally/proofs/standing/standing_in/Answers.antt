@@ -1,6 +1,5 @@
 -- `standing_in` meets its contract. Assumes nothing.
 use mathlib.Core.Path.{ap, ◌∙◌}
-use borrow.Author.Rules.{rules}
 use Rattle.memory_records.specs.declared.record.DownloadingPiece.{DownloadingPiece as Record}
 use Rattle.change_tally.proofs.TallyLaws.{row_low}
 use Rattle.change_tally.proofs.standing.standing_in.Goals as goal

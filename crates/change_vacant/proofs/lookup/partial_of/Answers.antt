@@ -5,14 +5,8 @@ use Rattle.change_returns.proofs.WholeLaws.{find_asks}
 use Rattle.change_vacant.proofs.LookupLaws.{open_number, open_rows}
 use Rattle.change_vacant.proofs.lookup.partial_of.Goals as goal
 
-pub state-requires : goal.state-requires
-state-requires c = record {
-  cells_span = c.requires.rows_beside.stand.stands.bounds.spans.in_cells;
-  i_lt_pieces = c.requires.i_lt_pieces;
-}
-
-pub returns-then-state-eq4 : goal.returns-then-state-eq4
-returns-then-state-eq4 c = let e = sym (c.state.ensures.is _ c.requires.rows_beside.words c.requires.rows_beside.stand.stands.bounds) ∙ c.if-state-eq4.true in
+pub returns-then-state : goal.returns-then-state
+returns-then-state c = let e = sym (c.state.ensures.is _ c.requires.rows_beside.words c.requires.rows_beside.stand.stands.bounds) ∙ c.if-state.true in
     no_partial_lem c.args.live c.args.rows.now c.args.i
     (open_rows c.args.s c.args.live c.args.rows.now c.requires.rows_beside.counts c.requires.rows_beside.words c.args.cells.now c.requires.rows_beside.stand c.args.i (open_number _ e))
 
@@ -22,6 +16,3 @@ find-requires c = let all = find_asks c.args.s c.args.live c.args.rows.now c.req
       live_bound = all.0;
       rows_value = all.1;
     }
-
-pub returns : goal.returns
-returns c = c.find.ensures.picker

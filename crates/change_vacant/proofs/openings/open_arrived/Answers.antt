@@ -1,17 +1,10 @@
 -- `open_arrived` meets its contract. Assumes nothing.
 use mathlib.Core.Path.{sym, ◌∙◌}
 use native.Mathlib.Omega.{arith}
-use borrow.Author.Rules.{rules}
 use Rattle.memory_records.specs.Rows.{records_in}
 use Rattle.change_steps.proofs.RoomLaws.{keep_room}
 use Rattle.change_vacant.proofs.VacantLaws.{vacant_room, vacant_ignored, vacant_opened}
 use Rattle.change_vacant.proofs.openings.open_arrived.Goals as goal
-
-pub flushed-requires : goal.flushed-requires
-flushed-requires c = record {
-  cells_span = c.requires.rows_vacant.stands.bounds.spans.in_cells;
-  i_lt_pieces = c.requires.i_lt_pieces.0;
-}
 
 pub returns-then-flushed : goal.returns-then-flushed
 returns-then-flushed c = let b = vacant_ignored c.args.s c.args.live c.args.rows.now c.args.words.now c.args.cells.now c.args.i c.requires.rows_vacant _ c.args.j _

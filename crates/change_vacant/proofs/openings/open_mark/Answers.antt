@@ -1,6 +1,5 @@
 -- `open_mark` meets its contract. Assumes nothing.
 use native.Mathlib.Omega.{arith}
-use borrow.Author.Rules.{rules}
 use Rattle.change_steps.proofs.RoomLaws.{insert_room}
 use Rattle.change_vacant.proofs.OpenedLaws.{room_beside, opened_done}
 use Rattle.change_vacant.proofs.openings.open_mark.Goals as goal

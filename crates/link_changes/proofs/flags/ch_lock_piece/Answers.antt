@@ -1,13 +1,6 @@
 -- `ch_lock_piece` asks of its caller what `lock_piece` asks, and tells what that answers. Assumes nothing.
-use borrow.Author.Rules.{rules}
 use Rattle.link_changes.proofs.OutcomeLaws.{edit_told}
 use Rattle.link_changes.proofs.flags.ch_lock_piece.Goals as goal
-
-pub lock_piece-edit-requires : goal.lock_piece-edit-requires
-lock_piece-edit-requires c = record {
-  live_bound = c.requires.live_bound;
-  rows_value = c.requires.rows_value;
-}
 
 pub returns : goal.returns
 returns c = edit_told _ _ _ _ _ _ _ c.told.ensures c.lock_piece-edit.ensures
