@@ -8,7 +8,6 @@ ghost use Rattle.pick_pieces.specs.Whole.{loops_of};
 ghost use Rattle.pick_job.specs.Jobs.{answer_of};
 ghost use Rattle.pick.specs.Printed.{block_line, named, printed};
 
-use pick_job::JobAnswer;
 use pick_pieces::Picked;
 use std::io;
 use std::io::Write;
@@ -63,11 +62,15 @@ fn print_refusal<W: Write>(to: &mut W, why: Refusal) -> io::Result<()>
     }
 }
 
-pub fn print_answer<W: Write>(to: &mut W, told: JobAnswer, out: &[u64]) -> io::Result<()>
+pub fn print_answer<W: Write>(
+    to: &mut W,
+    told: Result<Picked, Refusal>,
+    out: &[u64],
+) -> io::Result<()>
     ensures { OnOk result (Appends (W.contents to.old) (W.contents to.new) (printed (answer_of out.now told))) }
 {
     match told {
-        JobAnswer::Refused(why) => print_refusal(to, why),
-        JobAnswer::Done(p) => print_picked(to, &p, out),
+        Err(why) => print_refusal(to, why),
+        Ok(p) => print_picked(to, &p, out),
     }
 }

@@ -12,6 +12,7 @@ pub fn read_full<R: Read>(from: &mut R, buf: &mut [u8]) -> io::Result<usize>
         (λ xs. take n buf.new ≡ take (length buf.old) xs)) }
 {
     let mut done = 0;
+    // No `for`: each read tells how far the next one begins.
     while done < buf.len() {
         let n = from.read(&mut buf[done..])?;
         if n == 0 {

@@ -1,30 +1,15 @@
 // The blocks set aside, appended as far as they are wanted.
-ghost use Rattle.std.specs.Prelude.{◌≡◌, ◌+◌, ◌≤◌, length};
-ghost use Rattle.model.specs.Lists.{least};
+ghost use Rattle.std.specs.Prelude.{◌+◌, ◌≤◌, length};
 ghost use Rattle.pick_append.specs.Appending.{Copied, Appended};
 
 use pick_state::PickNumbers;
-
-// The lesser of two numbers.
-fn least(a: usize, b: usize) -> usize
-    ensures { result ≡ least a b }
-{
-    if a <= b {
-        return a;
-    }
-    b
-}
 
 // The first n words set aside copied behind place `at` of the output.
 fn copy_blocks(out: &mut [u64], at: usize, aside: &[u64], n: usize)
     requires { (at + n ≤ length out.old) × (n ≤ length aside.now) }
     ensures { Copied at n aside.now out.old out.new }
 {
-    let mut k = 0;
-    while k < n {
-        out[at + k] = aside[k];
-        k += 1;
-    }
+    out[at..at + n].copy_from_slice(&aside[..n]);
 }
 
 // None is set aside from here on.
@@ -33,15 +18,12 @@ pub fn append_blocks(out: &mut [u64], aside: &[u64], t: PickNumbers) -> PickNumb
     ensures { Appended t result out.old out.new aside.now }
 {
     let end = t.end;
-    let n = least(t.aside, t.left);
+    let n = t.aside.min(t.left);
     copy_blocks(out, end, aside, n);
     PickNumbers {
         left: t.left - n,
-        asked: t.asked,
-        given: t.given,
-        used: t.used,
-        flags: t.flags,
         end: end + n,
         aside: 0,
+        ..t
     }
 }

@@ -18,13 +18,9 @@ fn with_run(t: PickNumbers, asked: usize, given: usize) -> PickNumbers
     ensures { result ≡ with_run asked given t }
 {
     PickNumbers {
-        left: t.left,
         asked: asked,
         given: given,
-        used: t.used,
-        flags: t.flags,
-        end: t.end,
-        aside: t.aside,
+        ..t
     }
 }
 

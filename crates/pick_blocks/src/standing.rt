@@ -7,7 +7,6 @@ ghost use Rattle.pick_free.specs.Picking.{Picks};
 ghost use Rattle.pick_blocks.specs.Blocks.{PartialRoom, PartialWorked};
 
 use memory_layout::Shape;
-use memory_records::Found;
 use memory_rows::find;
 use pick_partial::add_blocks_downloading;
 use pick_state::{PickNumbers, PickRequest};
@@ -37,7 +36,7 @@ pub fn add_standing(
     if q.options.contains(PickerOptions::PRIORITIZE_PARTIALS) {
         return t;
     }
-    let Found::At(k) = find(rows, live, i) else {
+    let Some(k) = find(rows, live, i) else {
         return t;
     };
     add_blocks_downloading(words, cells, rows, live, s, q, bytes, out, aside, t, k)

@@ -39,12 +39,10 @@ fn busy_at(
     ensures { BusyAt words.now cells.now s place many (named_peer q.has_peer q.peer) result blocks.new }
 {
     let mut n = 0;
-    let mut j = 0;
-    while j < many {
+    for j in 0..many {
         let b = get_block(words, cells, s, place, j);
         let busy = is_busy(b, q);
         n = push(blocks, n, j, busy);
-        j += 1;
     }
     n
 }

@@ -44,11 +44,9 @@ pub fn full_partials(
     ensures { FullRow s live rows.now cells.now q bytes.now result places.new }
 {
     let mut n = 0;
-    let mut k = 0;
-    while k < live {
+    for k in 0..live {
         let full = is_full(cells, rows, s, q, bytes, k);
         n = push(places, n, k, full);
-        k += 1;
     }
     if 200 < n {
         return 200;

@@ -40,12 +40,10 @@ fn all_flushed(cells: &[u16], s: Shape, first: usize, end: usize) -> bool
     requires end_le_pieces { end ≤ s.pieces }
     ensures { CellsSay s cells.now (λ d. every (λ i. (piece_at d i).flushed) (range first end)) result }
 {
-    let mut i = first;
-    while i < end {
+    for i in first..end {
         if !flushed(cells, s, i) {
             return false;
         }
-        i += 1;
     }
     true
 }
@@ -74,8 +72,7 @@ fn visit_extent(
         out.old aside.old ignored.old out.new aside.new ignored.new }
 {
     let mut cur = t;
-    let mut i = first;
-    while i < end {
+    for i in first..end {
         cur = visit_outside(
             words,
             cells,
@@ -94,7 +91,6 @@ fn visit_extent(
         if cur.left == 0 {
             return cur;
         }
-        i += 1;
     }
     cur
 }
@@ -131,11 +127,7 @@ fn extent_step(
         words, cells, rows, live, s, q, bytes, out, aside, ignored, t, first, end,
     );
     if r.left == 0 {
-        return ExtentWalk {
-            numbers: r,
-            found: x.found,
-            place: x.place,
-        };
+        return ExtentWalk { numbers: r, ..x };
     }
     if all_flushed(cells, s, first, end) {
         return ExtentWalk {
@@ -144,11 +136,7 @@ fn extent_step(
             place: k,
         };
     }
-    ExtentWalk {
-        numbers: r,
-        found: x.found,
-        place: x.place,
-    }
+    ExtentWalk { numbers: r, ..x }
 }
 
 // The recent extents in turn.
@@ -179,15 +167,13 @@ fn walk_extents(
         found: false,
         place: 0,
     };
-    let mut k = 0;
-    while k < n {
+    for k in 0..n {
         cur = extent_step(
             words, cells, rows, live, s, q, bytes, out, aside, ignored, cur, k,
         );
         if cur.numbers.left == 0 {
             return cur;
         }
-        k += 1;
     }
     cur
 }

@@ -107,6 +107,15 @@ pub record SameTold (s : Shape) (cells : List ℕ) (f g : Picker → ℕ) : Type
 pub same_start : (s : Shape) (cells : List ℕ) (f : Picker → ℕ) → SameTold s cells f f
 same_start s cells f = record { is = λ records words b. refl }
 
+-- the whole walk is left, down and up
+pub same_down : (s : Shape) (cells : List ℕ) (a : PickRequest) (n i : ℕ) → n ≤ i
+    → SameTold s cells (λ d. down_by a d (i - (i - n)) i) (λ d. down_by a d n i)
+same_down s cells a n i h = let e : i - (i - n) ≡ n = omega arith in rw e (same_start s cells (λ d. down_by a d n i))
+
+pub same_up : (s : Shape) (cells : List ℕ) (a : PickRequest) (n k : ℕ)
+    → SameTold s cells (λ d. up_by a d (k + n - k) k) (λ d. up_by a d n k)
+same_up s cells a n k = let e : k + n - k ≡ n = omega arith in rw e (same_start s cells (λ d. up_by a d n k))
+
 -- what is left is f: f' where the test passes, else x
 module _ (s : Shape) (cells : List ℕ) (f f' g : Picker → ℕ) (test : Picker → Bool) (x : ℕ)
     (step : (d : Picker) → f d ≡ cond (test d) (f' d) x) (c : SameTold s cells f g) (r : Bool) (told : CellsSay s cells test r) where
@@ -131,20 +140,18 @@ turn_end s cells f g x e c = record { is = λ records words b. sym (e (decode re
 
 module _ (a : PickRequest) (d : Picker) where
   -- one step down
-  pub down_step : (n i : ℕ) → 0 < n → down_by a d n i ≡ cond (can_pick a d (i - 1)) (down_by a d (n - 1) (i - 1)) i
+  pub down_step : (low i : ℕ) → low < i → down_by a d (i - low) i ≡ cond (can_pick a d (i - 1)) (down_by a d (i - 1 - low) (i - 1)) i
   unfolding down_by
-  down_step zero i h = absurd (omega arith)
-  down_step (suc n) i h = let e : suc n - 1 ≡ n = omega arith in rw e refl
+  down_step low i h = let e : i - low ≡ suc (i - 1 - low) = omega arith in rw e refl
 
   pub down_none : (n i : ℕ) → n ≡ 0 → down_by a d n i ≡ i
   unfolding down_by
   down_none n i e = rw e refl
 
   -- one step up
-  pub up_step : (n k : ℕ) → 0 < n → up_by a d n k ≡ cond (can_pick a d k) (up_by a d (n - 1) (k + 1)) k
+  pub up_step : (top k : ℕ) → k < top → up_by a d (top - k) k ≡ cond (can_pick a d k) (up_by a d (top - (k + 1)) (k + 1)) k
   unfolding up_by
-  up_step zero k h = absurd (omega arith)
-  up_step (suc n) k h = let e : suc n - 1 ≡ n = omega arith in rw (e, add-one k) refl
+  up_step top k h = let e : top - k ≡ suc (top - (k + 1)) = omega arith in rw (e, add-one k) refl
 
   pub up_none : (n k : ℕ) → n ≡ 0 → up_by a d n k ≡ k
   unfolding up_by

@@ -19,23 +19,11 @@ pub struct Span {
     pub end: usize,
 }
 
-fn lesser(a: usize, b: usize) -> usize
-    ensures { result ≡ least a b }
-{
-    if a <= b {
-        return a;
-    }
-    b
-}
-
 // The difference, and 0 where it is below.
 pub fn saturating_sub(a: usize, b: usize) -> usize
     ensures { result ≡ a - b }
 {
-    if b <= a {
-        return a - b;
-    }
-    0
+    a.saturating_sub(b)
 }
 
 // Down from piece i, by n at most, while the piece below can be picked.
@@ -44,16 +32,12 @@ fn down_by(cells: &[u16], s: Shape, q: PickRequest, bytes: &[u8], n: usize, i: u
     requires n_le_i { n ≤ i }
     ensures { (CellsSay s cells.now (λ d. down_by (request_of q bytes.now) d n i) result) × (result ≤ i) }
 {
-    let mut first = i;
-    let mut left = n;
-    while left > 0 {
-        if !can_pick(cells, s, q, bytes, first - 1) {
-            return first;
+    for k in (i - n..i).rev() {
+        if !can_pick(cells, s, q, bytes, k) {
+            return k + 1;
         }
-        first -= 1;
-        left -= 1;
     }
-    first
+    i - n
 }
 
 // Up from piece k, by n at most, while pieces can be picked.
@@ -62,16 +46,12 @@ fn up_by(cells: &[u16], s: Shape, q: PickRequest, bytes: &[u8], n: usize, k: usi
     requires n_bound { k + n ≤ 4294967296 }
     ensures { CellsSay s cells.now (λ d. up_by (request_of q bytes.now) d n k) result }
 {
-    let mut end = k;
-    let mut left = n;
-    while left > 0 {
+    for end in k..k + n {
         if !can_pick(cells, s, q, bytes, end) {
             return end;
         }
-        end += 1;
-        left -= 1;
     }
-    end
+    k + n
 }
 
 // The lowest piece that a span of n pieces around piece i may start at.
@@ -91,9 +71,9 @@ fn highest_end(aligned: bool, lowest: usize, first: usize, n: usize, pieces: usi
     ensures { result ≡ least (cond aligned lowest first + n) pieces }
 {
     if aligned {
-        return lesser(lowest + n, pieces);
+        return (lowest + n).min(pieces);
     }
-    lesser(first + n, pieces)
+    (first + n).min(pieces)
 }
 
 // A span of n pieces around piece i, as far as pieces can be picked.

@@ -1,4 +1,5 @@
 -- An image with a pick behind it: the image on its own, and what the definition's program answers. Assumes nothing.
+use Rattle.std.specs.Prelude.{Err, Ok}
 use mathlib.Core.Path.{◌≡◌, refl, sym, ap, subst, ◌∙◌}
 use mathlib.Core.Bool.{cond, ◌&&◌}
 use mathlib.Core.List.{List, [], ◌∷◌}
@@ -23,19 +24,18 @@ use Rattle.model.proofs.image.ImageLaws.{image-accepted, written_read}
 use Rattle.model.proofs.base.Truths.{both}
 use Rattle.image_records.specs.declared.pick.Pick.{Pick}
 use Rattle.image_records.specs.Records.{pick_numbers}
-use Rattle.image_judge.specs.declared.whole.JobRead.TheVariants.{Found, Fault}
 use Rattle.image_judge.specs.Verdicts.{job_verdict}
 use Rattle.pick_start.specs.Starting.{request_with}
 use Rattle.pick_job.specs.Jobs.{request_numbers, request_ones, limited}
 use Rattle.pick_job.proofs.PickLaws.{lent_named, asked_told}
 
 -- ---- a fault
-pub fault_told : (bytes : List ℕ) (k : ℕ) → Fault k ≡ job_verdict (whole (len bytes) (get_job bytes))
+pub fault_told : (bytes : List ℕ) (k : ℕ) → Err k ≡ job_verdict (whole (len bytes) (get_job bytes))
     → refused (IllFormedImage k) ≡ program bytes
 unfolding program job_verdict program_answer
 fault_told bytes k e = go (whole (len bytes) (get_job bytes)) e
   where
-    go : (r : Read Job) → Fault k ≡ job_verdict r → refused (IllFormedImage k) ≡ program_answer r
+    go : (r : Read Job) → Err k ≡ job_verdict r → refused (IllFormedImage k) ≡ program_answer r
     go (accepted x) f = let z : ◌≡◌ {A = ℕ} 0 1 = cc in absurd (omega arith)
     go (fault_at m) f = let z : k ≡ m = cc in ap (λ (n : ℕ). refused (IllFormedImage n)) z
 
@@ -119,10 +119,10 @@ module _ (bytes : List ℕ) (x : Job) (read : whole (len bytes) (get_job bytes) 
       })
 
 -- the judge's verdict
-pub job_got : (bytes : List ℕ) (p : Pick) → Found p ≡ job_verdict (whole (len bytes) (get_job bytes)) → JobGot bytes p
+pub job_got : (bytes : List ℕ) (p : Pick) → Ok p ≡ job_verdict (whole (len bytes) (get_job bytes)) → JobGot bytes p
 unfolding job_verdict
 job_got bytes p e = go (whole (len bytes) (get_job bytes)) refl e
   where
-    go : (r : Read Job) → whole (len bytes) (get_job bytes) ≡ r → Found p ≡ job_verdict r → JobGot bytes p
+    go : (r : Read Job) → whole (len bytes) (get_job bytes) ≡ r → Ok p ≡ job_verdict r → JobGot bytes p
     go (accepted x) q f = let z : pick_numbers x.ask ≡ p = cc in subst (JobGot bytes) z (job_parts bytes x q)
     go (fault_at k) q f = let z : ◌≡◌ {A = ℕ} 0 1 = cc in absurd (omega arith)

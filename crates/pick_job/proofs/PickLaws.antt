@@ -1,4 +1,5 @@
 -- A pick judged and made: what it answers is what the definition answers to the same request. Assumes nothing.
+use Rattle.std.specs.Prelude.{Err, Ok, Result, ⊤}
 use mathlib.Core.Path.{◌≡◌, refl, sym, ap, ◌∙◌}
 use mathlib.Core.Bool.{Bool, true, false}
 use mathlib.Core.List.{List, ◌∷◌}
@@ -35,12 +36,9 @@ use Rattle.pick_state.specs.declared.request.PickRequest.{PickRequest as Request
 use Rattle.pick_start.specs.Starting.{request_with}
 use Rattle.pick_pieces.specs.declared.pieces.Picked.{Picked}
 use Rattle.pick_pieces.specs.Whole.{PickRoom, PickGave}
-use Rattle.picker_calls.specs.declared.judgement.Judgement.{Judgement}
-use Rattle.picker_calls.specs.declared.judgement.Judgement.TheVariants.{Refused as No, Passed}
 use Rattle.picker_calls.specs.Outcomes.{judged}
 use Rattle.pick_judge.specs.Asking.{PickJudged}
 use Rattle.pick_judge.proofs.JudgeLaws.{many_each}
-use Rattle.pick_job.specs.declared.answer.JobAnswer.TheVariants.{Done}
 use Rattle.pick_job.specs.Jobs.{answer_of, ended, unless, pick_answered, request_numbers, request_ones, program_pick}
 
 -- ---- what is asked
@@ -102,23 +100,23 @@ room_told d q bytes lent free draws h =
 
 -- the judge's word on a picker that stands
 pub judged_here : (s : Shape) (live : ℕ) (rows words cells : List ℕ) → Asked s live rows words cells → (a : PickRequest) (free : ℕ)
-    (draws : Draws) (j : Judgement) → PickJudged s (do_pick_pieces a free draws) j
+    (draws : Draws) (j : Result ⊤ Refusal) → PickJudged s (do_pick_pieces a free draws) j
     → judged j ≡ refusal (picker_in live rows words cells) (do_pick_pieces a free draws)
 judged_here s live rows words cells t a free draws j g =
     g.is (picker_in live rows words cells) (pieces_number s (records_in live rows) words cells t.stands.bounds)
 
-module _ (d : Picker) (a : PickRequest) (free : ℕ) (draws : Draws) (j : Judgement)
+module _ (d : Picker) (a : PickRequest) (free : ℕ) (draws : Draws) (j : Result ⊤ Refusal)
     (h : judged j ≡ refusal d (do_pick_pieces a free draws)) where
-  pub refused_told : (why : Refusal) → j ≡ No why → refused why ≡ pick_answered d a free draws
+  pub refused_told : (why : Refusal) → j ≡ Err why → refused why ≡ pick_answered d a free draws
   unfolding pick_answered unless
   refused_told why e = ap (λ (r : Option Refusal). unless r (pick_pieces draws d a)) (ap judged (sym e) ∙ h)
 
-  pub passed_none : j ≡ Passed → refusal d (do_pick_pieces a free draws) ≡ none
+  pub passed_none : j ≡ (Ok tt) → refusal d (do_pick_pieces a free draws) ≡ none
   passed_none e = sym h ∙ ap judged e
 
   -- ---- made
-  pub done_told : j ≡ Passed → (after : Picker) (out out' : List ℕ) (p : Picked) → PickGave (pick_pieces draws d a) after 0 out out' p
-      → answer_of out' (Done p) ≡ pick_answered d a free draws
+  pub done_told : j ≡ (Ok tt) → (after : Picker) (out out' : List ℕ) (p : Picked) → PickGave (pick_pieces draws d a) after 0 out out' p
+      → answer_of out' (Ok p) ≡ pick_answered d a free draws
   unfolding pick_answered unless ended
   done_told e after out out' p g =
       (λ i. picked (g.blocks i) (g.flags i) (g.loops i) (g.used i))

@@ -1,4 +1,5 @@
 -- The picker of an image in the buffers of the program: they have room for it, and it stands there as a pick needs it. Assumes nothing.
+use Rattle.std.specs.Prelude.{Result, Ok, ⊤}
 use mathlib.Core.Path.{◌≡◌, sym, ap, ap₂, subst, ◌∙◌}
 use mathlib.Core.Bool.{Bool, true, false, cond, ◌&&◌}
 use mathlib.Core.List.{List}
@@ -29,8 +30,6 @@ use Rattle.memory_layout.specs.Good.{memory_refusal}
 use Rattle.memory_layout.proofs.OffsetLaws.{places_min, head_in}
 use Rattle.memory_layout.proofs.Meanings.{pieces_number, partials_number}
 use Rattle.check_partials.specs.Records.{CountsHeld}
-use Rattle.check_memory.specs.declared.verdict.Verdict.{Verdict}
-use Rattle.check_memory.specs.declared.verdict.Verdict.TheVariants.{Good}
 use Rattle.check_memory.specs.Verdicts.{refusal_of, Checked}
 use Rattle.check_memory.proofs.Passing.{stands_passes}
 use Rattle.memory_rows.specs.Lookup.{picker_in}
@@ -65,11 +64,11 @@ module _ {live : ℕ} {rows words cells : List ℕ} (t : Stored live rows words 
       ap (λ (n : ℕ). memory_refusal 64 (records_in n rows) words cells) live_is
       ∙ stands_passes t.shape (records_in live rows) words cells stand 64 few_places
 
-  module _ {counts : List ℕ} {v : Verdict} (c : Checked v 64 rows words cells counts) where
+  module _ {counts : List ℕ} {v : Result ⊤ Refusal} (c : Checked v 64 rows words cells counts) where
     pub never_refused : {X : Type 0} (why : Refusal) → refusal_of v ≡ some why → X
     never_refused why e = absurd (none-ne-some _ (sym (c.is ∙ passes) ∙ e))
 
-    module _ (good : v ≡ Good) (s : Shape) (shape : ShapeOf s words) where
+    module _ (good : v ≡ Ok tt) (s : Shape) (shape : ShapeOf s words) where
       stood : Stood s (head_word words 7) 64 rows counts words cells
       unfolding Admitted
       stood = good_stood words cells rows counts 64 v c good s shape t.asked.wide

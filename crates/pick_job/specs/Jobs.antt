@@ -1,5 +1,6 @@
 -- What the pick program answers to an image and a pick, in the definition's terms. Assumes nothing.
-use Rattle.std.specs.Prelude.{ℕ, ◌%◌, ◌≤◌, ◌≡◌, cond, ◌&&◌, List, [], leb, replicate}
+use Rattle.std.specs.Prelude.{ℕ, ◌%◌, ◌≤◌, ◌≡◌, cond, ◌&&◌, List, [], leb, replicate, Err, Ok, Result}
+use Rattle.pick_pieces.specs.declared.pieces.Picked.{Picked}
 use Rattle.std.proofs.Math.Option.{Option, none, some}
 use Rattle.types.specs.declared.refusal.Refusal.{Refusal}
 use Rattle.types.specs.declared.refusal.Refusal.TheVariants.{ShortMemory}
@@ -17,13 +18,11 @@ use Rattle.pick_state.specs.declared.request.PickRequest.{PickRequest as Request
 use Rattle.pick_state.specs.PickStates.{blocks_between}
 use Rattle.pick_start.specs.Starting.{request_with}
 use Rattle.pick_pieces.specs.Whole.{loops_of}
-use Rattle.pick_job.specs.declared.answer.JobAnswer.{JobAnswer}
-use Rattle.pick_job.specs.declared.answer.JobAnswer.TheVariants.{Refused, Done}
 
 -- the blocks are those that stand in the output up to its end
-abbrev pub answer_of : (out : List ℕ) (r : JobAnswer) → Answer
-answer_of out (Refused why) = refused why
-answer_of out (Done p) = picked (blocks_between 0 p.end out) p.flags (loops_of p) p.used
+abbrev pub answer_of : (out : List ℕ) (r : Result Picked Refusal) → Answer
+answer_of out (Err why) = refused why
+answer_of out (Ok p) = picked (blocks_between 0 p.end out) p.flags (loops_of p) p.used
 
 -- ---- a pick
 -- where it ended
@@ -73,5 +72,5 @@ pub record Stored (live : ℕ) (rows words cells : List ℕ) : Type 0 where
   pub few : shape.pieces ≤ 64
 
 -- the answer to the picker of an image
-abbrev pub ImageTold : (bytes : List ℕ) (p : Pick) (out : List ℕ) (r : JobAnswer) → Type 0
+abbrev pub ImageTold : (bytes : List ℕ) (p : Pick) (out : List ℕ) (r : Result Picked Refusal) → Type 0
 ImageTold bytes p out r = (d : Picker) → read_image bytes ≡ accepted d → answer_of out r ≡ limited d p

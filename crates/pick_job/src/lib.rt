@@ -1,11 +1,9 @@
 // The pick program without its input and output: bytes lent, an image and a pick record, and what the definition's program answers to them.
 #![tactic(auto)]
 
-mod answer;
 mod asking;
 mod picking;
 mod stored;
 mod whole;
 
-pub use answer::JobAnswer;
 pub use whole::job;

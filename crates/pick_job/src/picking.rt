@@ -8,15 +8,14 @@ ghost use Rattle.ask_picker.specs.Asked.{Asked};
 ghost use Rattle.pick_start.specs.Starting.{request_with};
 ghost use Rattle.pick_job.specs.Jobs.{answer_of, pick_answered, request_ones};
 
-use crate::answer::JobAnswer;
 use crate::asking::request;
 use bitfield::num_bytes;
 use image_records::Pick;
 use memory_layout::Shape;
 use pick_judge::judge_pick;
-use pick_pieces::pick_pieces;
+use pick_pieces::{Picked, pick_pieces};
 use pick_state::PickRequest;
-use picker_calls::Judgement;
+use types::Refusal;
 
 // With any bitfield, suggestions and draws.
 fn pick_with(
@@ -31,7 +30,7 @@ fn pick_with(
     suggestions: &[i32],
     draws: &[u32],
     out: &mut [u64],
-) -> JobAnswer
+) -> Result<Picked, Refusal>
     requires asked { (Asked s live rows.now words.old cells.now) × (q.bits ≡ s.pieces) }
     requires counts_held { (CountsHeld (picker_in live rows.now words.old cells.now) live counts.now) × (length counts.now ≡ 1536) }
     ensures { answer_of out.new result
@@ -39,26 +38,22 @@ fn pick_with(
         (request_with q bytes.now (each number_of suggestions.now)) (length out.old)
         draws.now }
 {
-    match judge_pick(s, q, bytes, suggestions, draws, out.len()) {
-        Judgement::Refused(why) => JobAnswer::Refused(why),
-        Judgement::Passed => {
-            let picked = pick_pieces(
-                words,
-                cells,
-                rows,
-                live,
-                counts,
-                s,
-                q,
-                bytes,
-                suggestions,
-                draws,
-                out,
-                0,
-            );
-            JobAnswer::Done(picked)
-        }
-    }
+    judge_pick(s, q, bytes, suggestions, draws, out.len())?;
+    let picked = pick_pieces(
+        words,
+        cells,
+        rows,
+        live,
+        counts,
+        s,
+        q,
+        bytes,
+        suggestions,
+        draws,
+        out,
+        0,
+    );
+    Ok(picked)
 }
 
 // The program's: a bitfield of ones, no suggestions, every draw 0.
@@ -71,7 +66,7 @@ pub fn pick_program(
     s: Shape,
     p: Pick,
     out: &mut [u64],
-) -> JobAnswer
+) -> Result<Picked, Refusal>
     requires asked { (Asked s live rows.now words.old cells.now) × (s.pieces ≤ 64) × (p.options < 65536) }
     requires counts_held { (CountsHeld (picker_in live rows.now words.old cells.now) live counts.now) × (length counts.now ≡ 1536) }
     ensures { answer_of out.new result

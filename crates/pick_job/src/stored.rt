@@ -4,14 +4,14 @@ ghost use Rattle.memory_rows.specs.Lookup.{picker_in};
 ghost use Rattle.image_store.specs.Given.{Image};
 ghost use Rattle.pick_job.specs.Jobs.{answer_of, program_pick, Stored, ImageTold};
 
-use crate::answer::JobAnswer;
 use crate::asking::within_limits;
 use crate::picking::pick_program;
-use check_memory::{Verdict, check_memory};
-use image_pieces::{HeadRead, read_head};
+use check_memory::check_memory;
+use image_pieces::read_head;
 use image_records::Pick;
 use image_store::store_image;
 use memory_layout::shape_of;
+use pick_pieces::Picked;
 use types::Refusal;
 
 // A picker that was just stored; the test of its memory counts the blocks of its partials.
@@ -22,32 +22,27 @@ fn pick_stored(
     live: usize,
     p: Pick,
     out: &mut [u64],
-) -> JobAnswer
+) -> Result<Picked, Refusal>
     requires { (Stored live rows.now words.old cells.now) × (p.options < 65536) × (length out.old ≡ 4351) }
     ensures { answer_of out.new result
         ≡ program_pick (picker_in live rows.now words.old cells.now) p }
 {
     let mut counts = [0; 1536];
-    match check_memory(words, cells, rows, 64, &mut counts) {
-        Verdict::Short => JobAnswer::Refused(Refusal::ShortMemory),
-        Verdict::IllFormed => JobAnswer::Refused(Refusal::IllFormedMemory),
-        Verdict::Good => {
-            let s = shape_of(words);
-            pick_program(words, cells, rows, live, &counts, s, p, out)
-        }
-    }
+    check_memory(words, cells, rows, 64, &mut counts)?;
+    let s = shape_of(words);
+    pick_program(words, cells, rows, live, &counts, s, p, out)
 }
 
 // An image and the numbers of a pick.
-pub fn pick_image(image: &[u8], p: Pick, out: &mut [u64]) -> JobAnswer
+pub fn pick_image(image: &[u8], p: Pick, out: &mut [u64]) -> Result<Picked, Refusal>
     requires { (Image image.now) × (p.options < 65536) × (length out.old ≡ 4351) }
     ensures { ImageTold image.now p out.new result }
 {
-    let HeadRead::Found(head) = read_head(image) else {
-        return JobAnswer::Refused(Refusal::ShortMemory);
+    let Some(head) = read_head(image) else {
+        return Err(Refusal::ShortMemory);
     };
     if !within_limits(head.total, head.size) {
-        return JobAnswer::Refused(Refusal::ShortMemory);
+        return Err(Refusal::ShortMemory);
     }
     let mut words = [0; 1168];
     let mut cells = [0; 3328];

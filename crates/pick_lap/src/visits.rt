@@ -22,14 +22,13 @@ use types::PickerFlags;
 fn arrive(x: RandomWalk, work: PickNumbers, marks: usize, place: usize, start: usize) -> RandomWalk
     ensures { result ≡ arrived start place marks work x }
 {
-    let seen = x.seen;
     RandomWalk {
         work: work,
         place: place,
         back: false,
-        seen: seen,
         over: place == start,
         marks: marks,
+        ..x
     }
 }
 

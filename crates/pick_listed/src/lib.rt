@@ -37,15 +37,7 @@ fn with_list_updated(
     ensures value { result ≡ with_used result.used t }
 {
     let used = update_pieces(words, cells, s, draws, t.used);
-    PickNumbers {
-        left: t.left,
-        asked: t.asked,
-        given: t.given,
-        used: used,
-        flags: t.flags,
-        end: t.end,
-        aside: t.aside,
-    }
+    PickNumbers { used: used, ..t }
 }
 
 // Both walks over a list that is right, up to where no block is wanted.

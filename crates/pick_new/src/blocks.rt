@@ -17,12 +17,9 @@ fn taken(t: PickNumbers, n: usize) -> PickNumbers
     let left = saturating_sub(t.left, n);
     PickNumbers {
         left: left,
-        asked: t.asked,
         given: t.given + n,
-        used: t.used,
-        flags: t.flags,
         end: t.end + n,
-        aside: t.aside,
+        ..t
     }
 }
 
@@ -34,10 +31,8 @@ pub fn take_blocks(out: &mut [u64], t: PickNumbers, i: usize, n: usize) -> PickN
 {
     let end = t.end;
     let base = i * 65536;
-    let mut j = 0;
-    while j < n {
+    for j in 0..n {
         out[end + j] = usize_to_u64(base + j);
-        j += 1;
     }
     taken(t, n)
 }
@@ -59,12 +54,10 @@ pub fn take_payload(out: &mut [u64], t: PickNumbers, i: usize, n: usize) -> Pick
 {
     let end = t.end;
     let base = i * 65536;
-    let mut j = 0;
-    while j < n {
+    for j in 0..n {
         out[end + j] = usize_to_u64(base + j);
-        j += 1;
-        if met_after(t, j) {
-            return taken(t, j);
+        if met_after(t, j + 1) {
+            return taken(t, j + 1);
         }
     }
     taken(t, n)

@@ -1,6 +1,5 @@
 // What an Open piece adds.
-ghost use Rattle.std.specs.Prelude.{◌≡◌, ◌+◌, ◌<◌};
-ghost use Rattle.model.specs.Lists.{least};
+ghost use Rattle.std.specs.Prelude.{◌+◌, ◌<◌};
 ghost use Rattle.model.specs.pick.Blocks.{add_new_piece};
 ghost use Rattle.pick_state.specs.Requests.{request_of};
 ghost use Rattle.pick_new.specs.Runs.{InBuffers, MarksDid, NewRoom};
@@ -11,15 +10,6 @@ use memory_layout::Shape;
 use memory_piece_blocks::payload_blocks;
 use pick_free::expand_piece;
 use pick_state::{PickNumbers, PickRequest, contiguous_is_zero};
-
-fn lesser(a: usize, b: usize) -> usize
-    ensures { result ≡ least a b }
-{
-    if a <= b {
-        return a;
-    }
-    b
-}
 
 // Blocks of the Open piece i: without a run as many as are wanted, else the whole span around it.
 pub fn add_new_piece(
@@ -40,7 +30,7 @@ pub fn add_new_piece(
 {
     if contiguous_is_zero(t) {
         let n = payload_blocks(words, s, i);
-        let many = lesser(n, t.left);
+        let many = n.min(t.left);
         return take_blocks(out, t, i, many);
     }
     let span = expand_piece(cells, s, q, bytes, t, i);

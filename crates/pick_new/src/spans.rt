@@ -47,10 +47,8 @@ pub fn take_span(
         out.old out.new ignored.old ignored.new }
 {
     let mut cur = t;
-    let mut k = first;
-    while k < end {
+    for k in first..end {
         cur = span_step(words, s, out, ignored, cur, k);
-        k += 1;
     }
     cur
 }

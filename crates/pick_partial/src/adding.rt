@@ -41,12 +41,8 @@ pub fn use_free(
     }
     let r = take_free(states, i, first, out, t);
     PickNumbers {
-        left: r.left,
         asked: t.asked,
         given: t.given,
-        used: r.used,
-        flags: r.flags,
-        end: r.end,
-        aside: r.aside,
+        ..r
     }
 }

@@ -55,8 +55,7 @@ pub fn take_free(
     let many = states.len();
     let mut cur = t;
     let mut j = first;
-    let mut k = 0;
-    while k < many {
+    for k in 0..many {
         let free = states[j] == 0;
         let last = free & last_wanted(cur);
         cur = take_if(free, out, cur, i, j);
@@ -64,7 +63,6 @@ pub fn take_free(
             return cur;
         }
         j = onward(j, many);
-        k += 1;
     }
     cur
 }
@@ -99,12 +97,10 @@ pub fn set_aside(
     let many = states.len();
     let mut cur = t;
     let mut j = first;
-    let mut k = 0;
-    while k < many {
+    for k in 0..many {
         let free = states[j] == 0;
         cur = put_aside_if(free, aside, cur, i, j);
         j = onward(j, many);
-        k += 1;
     }
     cur
 }

@@ -68,6 +68,7 @@ fn ring(
     ensures ring_counted { RingCounted loops.old loops.new }
 {
     let mut x = begun(t, start);
+    // No `for`: how many turns the walk takes follows from what the turns do.
     while !walk_over(x) {
         x = lap_step(
             words, cells, rows, live, s, q, bytes, out, aside, ignored, loops, x, start,
@@ -82,13 +83,8 @@ fn drawn(t: PickNumbers) -> PickNumbers
     ensures { result ≡ drawn t }
 {
     PickNumbers {
-        left: t.left,
-        asked: t.asked,
-        given: t.given,
         used: t.used + 1,
-        flags: t.flags,
-        end: t.end,
-        aside: t.aside,
+        ..t
     }
 }
 

@@ -78,8 +78,7 @@ pub fn walk_list(
 {
     let n = list_length(words, s);
     let mut cur = t;
-    let mut k = 0;
-    while k < n {
+    for k in 0..n {
         let i = list_place(words, s, k);
         cur = listed_step(
             words,
@@ -101,7 +100,6 @@ pub fn walk_list(
         if cur.left == 0 {
             return cur;
         }
-        k += 1;
     }
     cur
 }
@@ -130,10 +128,10 @@ pub fn walk_list_back(
         out.new aside.new ignored.new loops.new }
     ensures counted { Counted 2 4096 loops.old loops.new }
 {
+    let n = list_length(words, s);
     let mut cur = t;
-    let mut k = list_length(words, s);
-    while 0 < k {
-        let i = list_place(words, s, k - 1);
+    for k in (0..n).rev() {
+        let i = list_place(words, s, k);
         cur = listed_step(
             words,
             cells,
@@ -154,7 +152,6 @@ pub fn walk_list_back(
         if cur.left == 0 {
             return cur;
         }
-        k -= 1;
     }
     cur
 }

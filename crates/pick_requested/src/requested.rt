@@ -34,20 +34,13 @@ fn run_ended(x: Scan, j: usize) -> Scan
 {
     if x.longest < x.now {
         return Scan {
-            exclusive: x.exclusive,
-            active: x.active,
             longest: x.now,
             first: j - x.now,
             now: 0,
+            ..x
         };
     }
-    Scan {
-        exclusive: x.exclusive,
-        active: x.active,
-        longest: x.longest,
-        first: x.first,
-        now: 0,
-    }
+    Scan { now: 0, ..x }
 }
 
 // Block j passed.
@@ -59,11 +52,8 @@ fn pass_block(x: Scan, j: usize, b: BlockInfo, q: PickRequest) -> Scan
 {
     if b.state == 0 {
         return Scan {
-            exclusive: x.exclusive,
-            active: x.active,
-            longest: x.longest,
-            first: x.first,
             now: x.now + 1,
+            ..x
         };
     }
     let y = run_ended(x, j);
@@ -71,9 +61,8 @@ fn pass_block(x: Scan, j: usize, b: BlockInfo, q: PickRequest) -> Scan
     Scan {
         exclusive: y.exclusive & same,
         active: y.active | (!same & (b.state == 1) & b.has_peer),
-        longest: y.longest,
-        first: y.first,
         now: 0,
+        ..y
     }
 }
 
@@ -97,11 +86,9 @@ pub fn requested_from(
         first: 0,
         now: 0,
     };
-    let mut j = 0;
-    while j < many {
+    for j in 0..many {
         let b = get_block(words, cells, s, place, j);
         x = pass_block(x, j, b, q);
-        j += 1;
     }
     let y = run_ended(x, many);
     RequestedFrom {

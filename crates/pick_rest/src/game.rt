@@ -28,13 +28,8 @@ fn drawn(t: PickNumbers) -> PickNumbers
     ensures { result ≡ with_used (t.used + 1) t }
 {
     PickNumbers {
-        left: t.left,
-        asked: t.asked,
-        given: t.given,
         used: t.used + 1,
-        flags: t.flags,
-        end: t.end,
-        aside: t.aside,
+        ..t
     }
 }
 
@@ -49,13 +44,10 @@ fn take_found(out: &mut [u64], t: PickNumbers, i: usize, j: usize) -> PickNumber
     let u = flagged(t, PickerFlags::END_GAME);
     out[end] = usize_to_u64(i * 65536 + j);
     PickNumbers {
-        left: t.left,
-        asked: t.asked,
-        given: t.given,
         used: t.used + 1,
         flags: u.flags,
         end: end + 1,
-        aside: t.aside,
+        ..t
     }
 }
 
@@ -151,6 +143,7 @@ pub fn pick_end_game(
     let mut cur = t;
     let mut many = n;
     let mut found = false;
+    // No `for`: a try that finds a block ends the walk, and one that finds none takes a piece off the row.
     while !found & (0 < many) {
         let game = end_game_step(
             words,

@@ -21,14 +21,12 @@ pub fn take_all(
         loops.new }
 {
     let mut cur = flagged(t, PickerFlags::RANDOM_PIECES);
-    let mut j = 0;
-    while j < n {
+    for j in 0..n {
         count(loops, 5);
         cur = take(out, cur, k, j);
         if contiguous_over(cur) {
             return cur;
         }
-        j += 1;
     }
     cur
 }

@@ -70,11 +70,9 @@ pub fn take_random_span(
 {
     let mut cur = t;
     let mut marks = 0;
-    let mut k = first;
-    while k < end {
+    for k in first..end {
         marks = marked(marks, ignored[k]);
         cur = random_step(words, s, out, ignored, loops, cur, k);
-        k += 1;
     }
     RandomSpan {
         work: cur,

@@ -91,13 +91,11 @@ pub fn scan_partials(
 {
     let mut n = 0;
     let mut downloading = 0;
-    let mut k = 0;
-    while k < live {
+    for k in 0..live {
         let listed = is_downloading(words, cells, rows, live, s, k);
         let usable = is_usable(words, cells, rows, live, s, q, bytes, k);
         n = push(places, n, k, listed & usable);
         downloading = one_more(downloading, listed);
-        k += 1;
     }
     Scan {
         many: n,

@@ -73,9 +73,7 @@ pub fn keys_of(
     ensures { Gives (key_of (picker_in live rows.now words.now cells.now)) many places.now
         keys.new }
 {
-    let mut j = 0;
-    while j < many {
+    for j in 0..many {
         keys[j] = key_of(words, cells, rows, live, counts, s, u16_to_usize(places[j]));
-        j += 1;
     }
 }

@@ -40,8 +40,7 @@ fn walk_top(
 {
     let n = list_length(words, s);
     let mut cur = t;
-    let mut k = 0;
-    while k < n {
+    for k in 0..n {
         let i = list_place(words, s, k);
         if priority(cells, s, i) != 7 {
             return cur;
@@ -64,7 +63,6 @@ fn walk_top(
         if cur.left == 0 {
             return cur;
         }
-        k += 1;
     }
     cur
 }
@@ -92,8 +90,7 @@ fn walk_up(
 {
     let end = u64_to_usize(reverse_cursor(words, s));
     let mut cur = t;
-    let mut i = u64_to_usize(cursor(words, s));
-    while i < end {
+    for i in u64_to_usize(cursor(words, s))..end {
         cur = visit_below_top(
             words,
             cells,
@@ -112,7 +109,6 @@ fn walk_up(
         if cur.left == 0 {
             return cur;
         }
-        i += 1;
     }
     cur
 }
@@ -139,9 +135,9 @@ fn walk_down(
         out.old aside.old ignored.old out.new aside.new ignored.new }
 {
     let first = u64_to_usize(cursor(words, s));
+    let end = u64_to_usize(reverse_cursor(words, s));
     let mut cur = t;
-    let mut end = u64_to_usize(reverse_cursor(words, s));
-    while first < end {
+    for i in (first..end).rev() {
         cur = visit_below_top(
             words,
             cells,
@@ -154,13 +150,12 @@ fn walk_down(
             aside,
             ignored,
             cur,
-            end - 1,
+            i,
             PickerFlags::REVERSE_SEQUENTIAL,
         );
         if cur.left == 0 {
             return cur;
         }
-        end -= 1;
     }
     cur
 }

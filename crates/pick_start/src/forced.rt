@@ -25,11 +25,9 @@ fn count_downloading(cells: &[u16], rows: &[u32], live: usize, s: Shape) -> usiz
     ensures { result ≡ len (places_below (queue_held cells.now rows.now s.pieces) Downloading live) }
 {
     let mut n = 0;
-    let mut k = 0;
-    while k < live {
+    for k in 0..live {
         let queue = queue_of(cells, rows, s, k);
         n = counted(n, queue);
-        k += 1;
     }
     n
 }

@@ -14,12 +14,8 @@ pub fn effective_request(q: PickRequest, forced: bool) -> PickRequest
     if forced {
         return PickRequest {
             options: q.options.with(PickerOptions::PRIORITIZE_PARTIALS),
-            wanted: q.wanted,
             contiguous: 0,
-            peers: q.peers,
-            has_peer: q.has_peer,
-            peer: q.peer,
-            bits: q.bits,
+            ..q
         };
     }
     q

@@ -3,3 +3,4 @@ pub mod DidLaws
 pub mod RestLaws
 pub mod RangeLaws
 pub mod RoomLaws
+pub mod LeastLaws

@@ -1,5 +1,5 @@
 // The numbers of a pick, and the tests of its run.
-ghost use Rattle.std.specs.Prelude.{◌≡◌, ◌&&◌, not, eqb, ◌+◌, ◌-◌, ◌<◌};
+ghost use Rattle.std.specs.Prelude.{◌≡◌, ◌&&◌, not, eqb, ◌+◌, ◌<◌};
 ghost use Rattle.types.specs.Bits.{union};
 ghost use Rattle.model.specs.pick.Blocks.{contiguous_is_zero, contiguous_above, whole_pieces};
 ghost use Rattle.pick_state.specs.PickStates.{contiguous_of, with_flags, with_given};
@@ -24,13 +24,8 @@ pub fn flagged(t: PickNumbers, flag: PickerFlags) -> PickNumbers
     ensures { result ≡ with_flags (union t.flags flag.0) t }
 {
     PickNumbers {
-        left: t.left,
-        asked: t.asked,
-        given: t.given,
-        used: t.used,
         flags: t.flags | flag.0,
-        end: t.end,
-        aside: t.aside,
+        ..t
     }
 }
 
@@ -40,13 +35,8 @@ pub fn shorter(t: PickNumbers) -> PickNumbers
     ensures { result ≡ with_given (t.given + 1) t }
 {
     PickNumbers {
-        left: t.left,
-        asked: t.asked,
         given: t.given + 1,
-        used: t.used,
-        flags: t.flags,
-        end: t.end,
-        aside: t.aside,
+        ..t
     }
 }
 
@@ -74,21 +64,11 @@ pub fn contiguous_over(t: PickNumbers) -> bool
     !above & (t.left == 0)
 }
 
-// What is left of the run; none below 0.
-fn contiguous_left(t: PickNumbers) -> usize
-    ensures { result ≡ t.asked - t.given }
-{
-    if t.given < t.asked {
-        return t.asked - t.given;
-    }
-    0
-}
-
 // Pieces of n blocks that hold what is left of the run; none below 0.
 pub fn whole_pieces(t: PickNumbers, n: usize) -> usize
     requires { (t.asked < 4294967296) × (0 < n) × (n < 4294967296) }
     ensures { result ≡ whole_pieces n (contiguous_of t) }
 {
-    let rest = contiguous_left(t);
+    let rest = t.asked.saturating_sub(t.given);
     (rest + n - 1) / n
 }

@@ -1,20 +1,10 @@
 // A block appended to the output, and one set aside. A block stands as a word: piece · 65,536 + block.
-ghost use Rattle.std.specs.Prelude.{◌≡◌, ◌-◌, ◌<◌, length};
+ghost use Rattle.std.specs.Prelude.{◌<◌, length};
 ghost use Rattle.model.specs.pick.Blocks.{took, put_aside};
 ghost use Rattle.pick_state.specs.PickStates.{OutDid, AsideDid};
 
 use crate::numbers::PickNumbers;
 use types::usize_to_u64;
-
-// One less, and none where there is none.
-fn less(n: usize) -> usize
-    ensures { result ≡ n - 1 }
-{
-    if n == 0 {
-        return 0;
-    }
-    n - 1
-}
 
 // Block j of piece i appended, towards the run.
 pub fn take(out: &mut [u64], t: PickNumbers, i: usize, j: usize) -> PickNumbers
@@ -23,16 +13,13 @@ pub fn take(out: &mut [u64], t: PickNumbers, i: usize, j: usize) -> PickNumbers
     ensures { OutDid (took i j) 1 t result out.old out.new }
 {
     let end = t.end;
-    let left = less(t.left);
+    let left = t.left.saturating_sub(1);
     out[end] = usize_to_u64(i * 65536 + j);
     PickNumbers {
         left: left,
-        asked: t.asked,
         given: t.given + 1,
-        used: t.used,
-        flags: t.flags,
         end: end + 1,
-        aside: t.aside,
+        ..t
     }
 }
 
@@ -44,13 +31,5 @@ pub fn put_aside(aside: &mut [u64], t: PickNumbers, i: usize, j: usize) -> PickN
 {
     let at = t.aside;
     aside[at] = usize_to_u64(i * 65536 + j);
-    PickNumbers {
-        left: t.left,
-        asked: t.asked,
-        given: t.given,
-        used: t.used,
-        flags: t.flags,
-        end: t.end,
-        aside: at + 1,
-    }
+    PickNumbers { aside: at + 1, ..t }
 }

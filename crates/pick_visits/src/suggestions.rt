@@ -89,16 +89,14 @@ pub fn pick_suggested(
     ensures counted { Counted 1 (length suggestions.now) loops.old loops.new }
 {
     let mut cur = t;
-    let mut k = 0;
-    while k < suggestions.len() {
-        let i = i32_to_usize(suggestions[k]);
+    for &piece in suggestions {
+        let i = i32_to_usize(piece);
         cur = suggest(
             words, cells, rows, live, s, q, bytes, out, aside, ignored, loops, cur, i,
         );
         if cur.left == 0 {
             return cur;
         }
-        k += 1;
     }
     cur
 }

@@ -59,6 +59,7 @@ pub fn skip(
 {
     let mut place = x.place;
     let mut back = false;
+    // No `for`: the walk goes round from the last piece to the first, and ends by a test of the piece that it stands at.
     while !skip_done(cells, s, q, bytes, ignored, place, back) {
         count(loops, 4);
         place = onward(s.pieces, place);

@@ -28,15 +28,10 @@ pub struct RandomWalk {
 pub fn moved(x: RandomWalk, place: usize, back: bool) -> RandomWalk
     ensures { result ≡ moved place back x }
 {
-    let work = x.work;
-    let seen = x.seen;
     RandomWalk {
-        work: work,
         place: place,
         back: back,
-        seen: seen,
-        over: x.over,
-        marks: x.marks,
+        ..x
     }
 }
 
@@ -44,16 +39,7 @@ pub fn moved(x: RandomWalk, place: usize, back: bool) -> RandomWalk
 pub fn ended(x: RandomWalk) -> RandomWalk
     ensures { result ≡ ended x }
 {
-    let work = x.work;
-    let seen = x.seen;
-    RandomWalk {
-        work: work,
-        place: x.place,
-        back: x.back,
-        seen: seen,
-        over: true,
-        marks: x.marks,
-    }
+    RandomWalk { over: true, ..x }
 }
 
 // What the walk has come to where it came back to the start, else what was seen before.
@@ -75,14 +61,6 @@ fn seen_now(x: RandomWalk) -> Trace
 pub fn marked(x: RandomWalk) -> RandomWalk
     ensures { result ≡ marked x }
 {
-    let work = x.work;
     let seen = seen_now(x);
-    RandomWalk {
-        work: work,
-        place: x.place,
-        back: x.back,
-        seen: seen,
-        over: x.over,
-        marks: x.marks,
-    }
+    RandomWalk { seen: seen, ..x }
 }

@@ -15,16 +15,13 @@ flushed-requires c = record {
 }
 
 pub returns-then-not-flushed : goal.returns-then-not-flushed
-returns-then-not-flushed c = flushed_stop c.loop-i.invariant c.loop-i-test.true c.flushed.result c.flushed.ensures c.if-not-flushed.true-raw
-
-pub overflow_add-i : goal.overflow_add-i
-overflow_add-i c = search rules
+returns-then-not-flushed c = flushed_stop c.loop-i.invariant (omega arith) c.flushed.result c.flushed.ensures c.if-not-flushed.true-raw
 
 pub loop-i-smaller : goal.loop-i-smaller
 loop-i-smaller c = omega arith
 
 pub loop-i-preserved : goal.loop-i-preserved
-loop-i-preserved c = flushed_next c.loop-i.invariant c.loop-i-test.true c.flushed.result c.flushed.ensures c.if-not-flushed.false-raw
+loop-i-preserved c = flushed_next c.loop-i.invariant (omega arith) c.flushed.result c.flushed.ensures c.if-not-flushed.false-raw
 
 pub returns : goal.returns
-returns c = flushed-end c.loop-i.invariant c.loop-i-test.false
+returns c = flushed-end c.loop-i.invariant (omega arith)

@@ -7,6 +7,3 @@ use Rattle.pick_extents.proofs.all_flushed.Given as goal
 
 abbrev pub invariant-loop-i : goal.invariant-loop-i
 invariant-loop-i l = FlushedLeft l.s l.cells l.first l.i l.end
-
-abbrev pub decreases-loop-i : goal.decreases-loop-i
-decreases-loop-i l = l.end - l.i

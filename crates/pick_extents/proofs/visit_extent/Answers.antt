@@ -33,17 +33,14 @@ pub shape_of-ignored-then-cur-eq0 : goal.shape_of-ignored-then-cur-eq0
 shape_of-ignored-then-cur-eq0 c = (stepped_lengths c.visit_outside-cur.ensures c.loop-i.invariant.now).2 ∙ (beside_lengths c.loop-i.invariant c.requires.piece_room).2
 
 pub returns-then-cur-eq0 : goal.returns-then-cur-eq0
-returns-then-cur-eq0 c = let o = range_next c.loop-i.i c.args.end c.loop-i-test.true in
+returns-then-cur-eq0 c = let o = range_next c.loop-i.i c.args.end (omega arith) in
     beside_stop c.loop-i.invariant c.loop-i.i (range (c.loop-i.i + 1) c.args.end) o c.visit_outside-cur.ensures c.if-cur-eq0.true
-
-pub overflow_add-i : goal.overflow_add-i
-overflow_add-i c = search rules
 
 pub loop-i-smaller : goal.loop-i-smaller
 loop-i-smaller c = omega arith
 
 pub loop-i-preserved : goal.loop-i-preserved
-loop-i-preserved c = let o = range_next c.loop-i.i c.args.end c.loop-i-test.true in
+loop-i-preserved c = let o = range_next c.loop-i.i c.args.end (omega arith) in
     beside_next c.loop-i.invariant c.loop-i.i (range (c.loop-i.i + 1) c.args.end) o c.visit_outside-cur.ensures c.if-cur-eq0.false
 
 pub shape_of-out : goal.shape_of-out
@@ -56,4 +53,4 @@ pub shape_of-ignored : goal.shape_of-ignored
 shape_of-ignored c = (beside_lengths c.loop-i.invariant c.requires.piece_room).2
 
 pub returns : goal.returns
-returns c = beside_end c.loop-i.invariant (range_none c.loop-i.i c.args.end c.loop-i-test.false)
+returns c = beside_end c.loop-i.invariant (range_none c.loop-i.i c.args.end (omega arith))

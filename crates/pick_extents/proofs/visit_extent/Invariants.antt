@@ -15,6 +15,3 @@ use Rattle.pick_extents.proofs.visit_extent.Given as goal
 abbrev pub invariant-loop-i : goal.invariant-loop-i
 invariant-loop-i l = GoingBeside (visit_outside (request_of l.q l.bytes) extent_affinity) (range l.first l.end) (range l.i l.end) (picker_in l.live l.rows l.words l.cells)
     l.initial.cur l.cur l.initial.out l.initial.aside l.initial.ignored l.out l.aside l.ignored
-
-abbrev pub decreases-loop-i : goal.decreases-loop-i
-decreases-loop-i l = l.end - l.i

@@ -40,18 +40,15 @@ unfolding first_walk
 returns-then-cur-eq0 c = let r = request_of c.args.q c.args.bytes.now in
     let e = c.num_recent_extents-n.ensures.1.is (records_in c.args.live c.args.rows.now) c.args.cells.now in
     record {
-      extents_beside = as_extents r c.num_recent_extents-n.result e (extents_stop c.loop-k.invariant.1 c.loop-k-test.true c.extent_step-cur.ensures.extents_beside c.if-cur-eq0.true);
+      extents_beside = as_extents r c.num_recent_extents-n.result e (extents_stop c.loop-k.invariant.1 (omega arith) c.extent_step-cur.ensures.extents_beside c.if-cur-eq0.true);
       found_below = found_all (head_word c.args.words.now 8) (omega arith) c.extent_step-cur.ensures.found_below;
     }
-
-pub overflow_add-k : goal.overflow_add-k
-overflow_add-k c = search rules
 
 pub loop-k-smaller : goal.loop-k-smaller
 loop-k-smaller c = omega arith
 
 pub loop-k-preserved : goal.loop-k-preserved
-loop-k-preserved c = (omega arith, extents_next c.loop-k.invariant.1 c.loop-k-test.true c.extent_step-cur.ensures.extents_beside c.if-cur-eq0.false c.extent_step-cur.ensures.found_below)
+loop-k-preserved c = (omega arith, extents_next c.loop-k.invariant.1 (omega arith) c.extent_step-cur.ensures.extents_beside c.if-cur-eq0.false c.extent_step-cur.ensures.found_below)
 
 pub shape_of-out : goal.shape_of-out
 shape_of-out c = (extents_lengths c.loop-k.invariant.1 c.requires.piece_room).0
@@ -67,6 +64,6 @@ unfolding first_walk
 returns c = let r = request_of c.args.q c.args.bytes.now in
     let e = c.num_recent_extents-n.ensures.1.is (records_in c.args.live c.args.rows.now) c.args.cells.now in
     record {
-      extents_beside = as_extents r c.num_recent_extents-n.result e (extents_end c.loop-k.invariant.1 c.loop-k-test.false);
+      extents_beside = as_extents r c.num_recent_extents-n.result e (extents_end c.loop-k.invariant.1 (omega arith));
       found_below = found_all (head_word c.args.words.now 8) (omega arith) c.loop-k.invariant.1.found;
     }

@@ -14,6 +14,3 @@ use Rattle.pick_extents.proofs.walk_extents.Given as goal
 abbrev pub invariant-loop-k : goal.invariant-loop-k
 invariant-loop-k l = (l.k ≤ l.n)
     × ExtentsGoing (request_of l.q l.bytes) l.n l.k (picker_in l.live l.rows l.words l.cells) l.initial.cur l.cur l.initial.out l.initial.aside l.initial.ignored l.out l.aside l.ignored
-
-abbrev pub decreases-loop-k : goal.decreases-loop-k
-decreases-loop-k l = l.n - l.k

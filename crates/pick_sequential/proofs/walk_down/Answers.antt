@@ -18,8 +18,8 @@ cursor-requires c = c.requires.picks.asked.stands.bounds.spans.in_words
 pub reverse_cursor-requires : goal.reverse_cursor-requires
 reverse_cursor-requires c = c.requires.picks.asked.stands.bounds.spans.in_words
 
-pub loop-end-init : goal.loop-end-init
-loop-end-init c = let d = picker_in c.args.live c.args.rows.now c.args.words.now c.args.cells.now in
+pub loop-i-init : goal.loop-i-init
+loop-i-init c = let d = picker_in c.args.live c.args.rows.now c.args.words.now c.args.cells.now in
     let r = request_of c.args.q c.args.bytes.now in
     let g = picks_cursors c.requires.picks in
     let hc = picks_head c.requires.picks (λ x. x.cursor) c.cursor.result c.cursor.ensures in
@@ -31,56 +31,50 @@ loop-end-init c = let d = picker_in c.args.live c.args.rows.now c.args.words.now
           (beside_start (visit_below_top r reverse_sequential) (range_down d.cursor d.reverse_cursor) c.requires.piece_room c.requires.le_left),
     )
 
-pub overflow_sub-end : goal.overflow_sub-end
-overflow_sub-end c = search rules
-
 pub visit_below_top-cur-requires : goal.visit_below_top-cur-requires
 visit_below_top-cur-requires c = record {
   picks = c.requires.picks;
-  piece_room = c.loop-end.invariant.1.now;
-  le_left = (c.loop-end.invariant.1.wanted, omega arith);
+  piece_room = c.loop-i.invariant.1.now;
+  le_left = (c.loop-i.invariant.1.wanted, omega arith);
 }
 
 pub shape_of-out-then-cur-eq0 : goal.shape_of-out-then-cur-eq0
-shape_of-out-then-cur-eq0 c = (stepped_lengths c.visit_below_top-cur.ensures c.loop-end.invariant.1.now).0 ∙ (beside_lengths c.loop-end.invariant.1 c.requires.piece_room).0
+shape_of-out-then-cur-eq0 c = (stepped_lengths c.visit_below_top-cur.ensures c.loop-i.invariant.1.now).0 ∙ (beside_lengths c.loop-i.invariant.1 c.requires.piece_room).0
 
 pub shape_of-aside-then-cur-eq0 : goal.shape_of-aside-then-cur-eq0
-shape_of-aside-then-cur-eq0 c = (stepped_lengths c.visit_below_top-cur.ensures c.loop-end.invariant.1.now).1 ∙ (beside_lengths c.loop-end.invariant.1 c.requires.piece_room).1
+shape_of-aside-then-cur-eq0 c = (stepped_lengths c.visit_below_top-cur.ensures c.loop-i.invariant.1.now).1 ∙ (beside_lengths c.loop-i.invariant.1 c.requires.piece_room).1
 
 pub shape_of-ignored-then-cur-eq0 : goal.shape_of-ignored-then-cur-eq0
-shape_of-ignored-then-cur-eq0 c = (stepped_lengths c.visit_below_top-cur.ensures c.loop-end.invariant.1.now).2 ∙ (beside_lengths c.loop-end.invariant.1 c.requires.piece_room).2
+shape_of-ignored-then-cur-eq0 c = (stepped_lengths c.visit_below_top-cur.ensures c.loop-i.invariant.1.now).2 ∙ (beside_lengths c.loop-i.invariant.1 c.requires.piece_room).2
 
 pub returns-then-cur-eq0 : goal.returns-then-cur-eq0
 returns-then-cur-eq0 c = let d = picker_in c.args.live c.args.rows.now c.args.words.now c.args.cells.now in
     let r = request_of c.args.q c.args.bytes.now in
     let hc = picks_head c.requires.picks (λ x. x.cursor) c.cursor.result c.cursor.ensures in
-    let o = down_next d.cursor c.loop-end.end (omega arith) in
-    as_down r (beside_stop c.loop-end.invariant.1 (c.loop-end.end - 1) (range_down d.cursor (c.loop-end.end - 1)) o c.visit_below_top-cur.ensures c.if-cur-eq0.true)
+    let o = down_next d.cursor c.loop-i.i (omega arith) in
+    as_down r (beside_stop c.loop-i.invariant.1 (c.loop-i.i - 1) (range_down d.cursor (c.loop-i.i - 1)) o c.visit_below_top-cur.ensures c.if-cur-eq0.true)
 
-pub overflow_sub-end-in-loop-end : goal.overflow_sub-end-in-loop-end
-overflow_sub-end-in-loop-end c = search rules
+pub loop-i-smaller : goal.loop-i-smaller
+loop-i-smaller c = omega arith
 
-pub loop-end-smaller : goal.loop-end-smaller
-loop-end-smaller c = omega arith
-
-pub loop-end-preserved : goal.loop-end-preserved
-loop-end-preserved c = let d = picker_in c.args.live c.args.rows.now c.args.words.now c.args.cells.now in
+pub loop-i-preserved : goal.loop-i-preserved
+loop-i-preserved c = let d = picker_in c.args.live c.args.rows.now c.args.words.now c.args.cells.now in
     let r = request_of c.args.q c.args.bytes.now in
     let hc = picks_head c.requires.picks (λ x. x.cursor) c.cursor.result c.cursor.ensures in
-    let o = down_next d.cursor c.loop-end.end (omega arith) in
-    (omega arith, beside_next c.loop-end.invariant.1 (c.loop-end.end - 1) (range_down d.cursor (c.loop-end.end - 1)) o c.visit_below_top-cur.ensures c.if-cur-eq0.false)
+    let o = down_next d.cursor c.loop-i.i (omega arith) in
+    (omega arith, beside_next c.loop-i.invariant.1 (c.loop-i.i - 1) (range_down d.cursor (c.loop-i.i - 1)) o c.visit_below_top-cur.ensures c.if-cur-eq0.false)
 
 pub shape_of-out : goal.shape_of-out
-shape_of-out c = (beside_lengths c.loop-end.invariant.1 c.requires.piece_room).0
+shape_of-out c = (beside_lengths c.loop-i.invariant.1 c.requires.piece_room).0
 
 pub shape_of-aside : goal.shape_of-aside
-shape_of-aside c = (beside_lengths c.loop-end.invariant.1 c.requires.piece_room).1
+shape_of-aside c = (beside_lengths c.loop-i.invariant.1 c.requires.piece_room).1
 
 pub shape_of-ignored : goal.shape_of-ignored
-shape_of-ignored c = (beside_lengths c.loop-end.invariant.1 c.requires.piece_room).2
+shape_of-ignored c = (beside_lengths c.loop-i.invariant.1 c.requires.piece_room).2
 
 pub returns : goal.returns
 returns c = let d = picker_in c.args.live c.args.rows.now c.args.words.now c.args.cells.now in
     let r = request_of c.args.q c.args.bytes.now in
     let hc = picks_head c.requires.picks (λ x. x.cursor) c.cursor.result c.cursor.ensures in
-    as_down r (beside_end c.loop-end.invariant.1 (down_none d.cursor c.loop-end.end (omega arith)))
+    as_down r (beside_end c.loop-i.invariant.1 (down_none d.cursor c.loop-i.i (omega arith)))

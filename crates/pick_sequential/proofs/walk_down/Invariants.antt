@@ -12,12 +12,9 @@ use Rattle.pick_visits.proofs.StepLaws.{GoingBeside, beside_start, beside_next, 
 use Rattle.pick_visits.proofs.ListLaws.{picks_head, picks_cursors, down_next, down_none, as_down}
 use Rattle.pick_sequential.proofs.walk_down.Given as goal
 
-abbrev pub invariant-loop-end : goal.invariant-loop-end
-invariant-loop-end l = (l.end ≤ l.s.pieces)
+abbrev pub invariant-loop-i : goal.invariant-loop-i
+invariant-loop-i l = (l.i ≤ l.s.pieces)
     × GoingBeside (visit_below_top (request_of l.q l.bytes) reverse_sequential)
     (range_down (picker_in l.live l.rows l.words l.cells).cursor (picker_in l.live l.rows l.words l.cells).reverse_cursor)
-    (range_down (picker_in l.live l.rows l.words l.cells).cursor l.end) (picker_in l.live l.rows l.words l.cells)
+    (range_down (picker_in l.live l.rows l.words l.cells).cursor l.i) (picker_in l.live l.rows l.words l.cells)
     l.initial.cur l.cur l.initial.out l.initial.aside l.initial.ignored l.out l.aside l.ignored
-
-abbrev pub decreases-loop-end : goal.decreases-loop-end
-decreases-loop-end l = l.end

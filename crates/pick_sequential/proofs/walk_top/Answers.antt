@@ -93,9 +93,6 @@ returns-then-cur-eq0 c = let d = picker_in c.args.live c.args.rows.now c.args.wo
     let o = top_next d xs c.loop-k.k c.list_place-i.result h e (eq-eqb (piece_at d c.list_place-i.result).priority 7 (sym f ∙ c.if-priority-ne7.false)) in
     as_top r (beside_stop c.loop-k.invariant c.list_place-i.result (leading_top d (drop (c.loop-k.k + 1) xs)) o c.visit_listed-cur.ensures c.if-cur-eq0.true)
 
-pub overflow_add-k : goal.overflow_add-k
-overflow_add-k c = search rules
-
 pub loop-k-smaller : goal.loop-k-smaller
 loop-k-smaller c = omega arith
 

@@ -21,6 +21,3 @@ invariant-loop-k l = GoingBeside (visit (request_of l.q l.bytes) prio_sequential
     (leading_top (picker_in l.live l.rows l.words l.cells) (list_of (picker_in l.live l.rows l.words l.cells).listing))
     (leading_top (picker_in l.live l.rows l.words l.cells) (drop l.k (list_of (picker_in l.live l.rows l.words l.cells).listing))) (picker_in l.live l.rows l.words l.cells)
     l.initial.cur l.cur l.initial.out l.initial.aside l.initial.ignored l.out l.aside l.ignored
-
-abbrev pub decreases-loop-k : goal.decreases-loop-k
-decreases-loop-k l = l.n - l.k

@@ -56,11 +56,6 @@ returns-then-cur-eq0 c = let d = picker_in c.args.live c.args.rows.now c.args.wo
     let o = range_next c.loop-i.i d.reverse_cursor (omega arith) in
     as_up r (beside_stop c.loop-i.invariant c.loop-i.i (range (c.loop-i.i + 1) d.reverse_cursor) o c.visit_below_top-cur.ensures c.if-cur-eq0.true)
 
-pub overflow_add-i : goal.overflow_add-i
-overflow_add-i c = let g = picks_cursors c.requires.picks in
-    let hr = picks_head c.requires.picks (λ x. x.reverse_cursor) c.reverse_cursor.result c.reverse_cursor.ensures in
-    search rules
-
 pub loop-i-smaller : goal.loop-i-smaller
 loop-i-smaller c = omega arith
 

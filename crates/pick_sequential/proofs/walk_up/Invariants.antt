@@ -18,6 +18,3 @@ invariant-loop-i l = GoingBeside (visit_below_top (request_of l.q l.bytes) seque
     (range (picker_in l.live l.rows l.words l.cells).cursor (picker_in l.live l.rows l.words l.cells).reverse_cursor)
     (range l.i (picker_in l.live l.rows l.words l.cells).reverse_cursor) (picker_in l.live l.rows l.words l.cells)
     l.initial.cur l.cur l.initial.out l.initial.aside l.initial.ignored l.out l.aside l.ignored
-
-abbrev pub decreases-loop-i : goal.decreases-loop-i
-decreases-loop-i l = l.end - l.i

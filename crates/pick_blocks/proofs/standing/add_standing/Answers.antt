@@ -30,7 +30,7 @@ returns-in_default c ignored loops = let d = picker_in c.args.live c.args.rows.n
     c.requires.partial_room.underway.working.within
 
 pub add_blocks_downloading-requires : goal.add_blocks_downloading-requires
-add_blocks_downloading-requires c = let f = subst (FoundIn c.args.live c.args.rows.now c.args.i) c.in-At.is c.find.ensures.picker in
+add_blocks_downloading-requires c = let f = subst (FoundIn c.args.live c.args.rows.now c.args.i) c.in-Some.is c.find.ensures.picker in
     record {
       picks = (c.requires.picks, f.row.0);
       has_room = partial_room c.requires.partial_room.underway c.requires.left_nonzero;
@@ -45,7 +45,7 @@ shape_of-aside c = (c.add_blocks_downloading.ensures.is (picker_in c.args.live c
 pub returns : goal.returns
 unfolding option request_of
 returns c ignored loops = let d = picker_in c.args.live c.args.rows.now c.args.words.now c.args.cells.now in
-    let f = subst (FoundIn c.args.live c.args.rows.now c.args.i) c.in-At.is c.find.ensures.picker in
+    let f = subst (FoundIn c.args.live c.args.rows.now c.args.i) c.in-Some.is c.find.ensures.picker in
     let m = partial_room c.requires.partial_room.underway c.requires.left_nonzero in
     found_worked (request_of c.args.q c.args.bytes.now) c.args.i d c.args.t c.args.out.now c.args.aside.now ignored loops (sym c.contains.ensures ∙ c.if-contains.false) _
     (f.is c.args.s c.args.words.now c.args.cells.now (asked_rows c.args.s c.args.live c.args.rows.now c.args.words.now c.args.cells.now c.requires.picks.asked)).1

@@ -14,6 +14,3 @@ use Rattle.pick_busy.proofs.busy.busy_at.Given as goal
 abbrev pub invariant-loop-j : goal.invariant-loop-j
 invariant-loop-j l = Gathered (λ i. is_busy (named_peer l.q.has_peer l.q.peer) (block_held l.words l.cells l.s.pieces l.s.blocks l.place i)) l.many l.j l.n l.blocks
     × (length l.blocks ≡ 512)
-
-abbrev pub decreases-loop-j : goal.decreases-loop-j
-decreases-loop-j l = l.many - l.j

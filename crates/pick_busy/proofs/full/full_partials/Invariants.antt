@@ -11,6 +11,3 @@ use Rattle.pick_busy.proofs.full.full_partials.Given as goal
 
 abbrev pub invariant-loop-k : goal.invariant-loop-k
 invariant-loop-k l = Gathered (full_at l.s l.rows l.cells l.q l.bytes) l.live l.k l.n l.places × (length l.places ≡ 512)
-
-abbrev pub decreases-loop-k : goal.decreases-loop-k
-decreases-loop-k l = l.live - l.k

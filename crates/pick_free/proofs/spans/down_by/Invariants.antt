@@ -1,15 +1,9 @@
 -- `down_by` meets its contract. What is left of the walk is the whole of it. Assumes nothing.
-use mathlib.Core.Path.{◌≡◌}
-use Prim.Native.Nat.{◌-◌, ◌≤◌, ◌<◌}
-use borrow.Author.Rules.{rules}
-use native.Mathlib.Omega.{arith}
-use Rattle.model.specs.pick.Blocks.{down_by, can_pick}
+use Prim.Native.Nat.{◌-◌, ◌≤◌}
+use Rattle.model.specs.pick.Blocks.{down_by}
 use Rattle.pick_state.specs.Requests.{request_of}
-use Rattle.pick_free.proofs.FreeLaws.{SameTold, same_start, turn_next, turn_stop, turn_end, down_step, down_none}
+use Rattle.pick_free.proofs.FreeLaws.{SameTold}
 use Rattle.pick_free.proofs.spans.down_by.Given as goal
 
-abbrev pub invariant-loop-left : goal.invariant-loop-left
-invariant-loop-left l = (l.left ≤ l.first) × (l.first ≤ l.i) × SameTold l.s l.cells (λ d. down_by (request_of l.q l.bytes) d l.left l.first) (λ d. down_by (request_of l.q l.bytes) d l.n l.i)
-
-abbrev pub decreases-loop-left : goal.decreases-loop-left
-decreases-loop-left l = l.left
+abbrev pub invariant-loop-k : goal.invariant-loop-k
+invariant-loop-k l = (l.i - l.n ≤ l.k) × SameTold l.s l.cells (λ d. down_by (request_of l.q l.bytes) d (l.k - (l.i - l.n)) l.k) (λ d. down_by (request_of l.q l.bytes) d l.n l.i)

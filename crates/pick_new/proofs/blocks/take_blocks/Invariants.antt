@@ -11,6 +11,3 @@ use Rattle.pick_new.proofs.blocks.take_blocks.Given as goal
 
 abbrev pub invariant-loop-j : goal.invariant-loop-j
 invariant-loop-j l = (l.j ≤ l.n) × OutRest (for_each (took l.i) (from 0 l.n)) (for_each (took l.i) (range l.j l.n)) l.j l.t (taken_numbers l.j l.t) l.initial.out l.out
-
-abbrev pub decreases-loop-j : goal.decreases-loop-j
-decreases-loop-j l = l.n - l.j

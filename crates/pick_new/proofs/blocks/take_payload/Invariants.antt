@@ -12,6 +12,3 @@ use Rattle.pick_new.proofs.blocks.take_payload.Given as goal
 
 abbrev pub invariant-loop-j : goal.invariant-loop-j
 invariant-loop-j l = (l.j ≤ l.n) × OutRest (walk (took l.i) contiguous_met (from 0 l.n)) (walk (took l.i) contiguous_met (range l.j l.n)) l.j l.t (taken_numbers l.j l.t) l.initial.out l.out
-
-abbrev pub decreases-loop-j : goal.decreases-loop-j
-decreases-loop-j l = l.n - l.j

@@ -1,6 +1,7 @@
 -- `add_new_piece` meets its contract. Assumes nothing.
 use Rattle.pick_new.proofs.NewLaws.{new_few, new_span}
 use Rattle.pick_new.proofs.InLaws.{in_words, words_say, some_blocks, few_blocks, payload_few}
+use Rattle.pick_state.proofs.LeastLaws.{min_least}
 use Rattle.pick_free.proofs.FreeLaws.{expanded_around}
 use Rattle.pick_laws.proofs.SpanLaws.{least_left}
 use Rattle.model.specs.State.{payload_blocks_in_piece}
@@ -15,6 +16,7 @@ pub take_blocks-requires : goal.take_blocks-requires
 take_blocks-requires c = let e = words_say (λ d. payload_blocks_in_piece d c.args.i) c.payload_blocks-n.ensures c.requires.new_room.picker (in_words c.requires.new_room.stands) in
     let l = payload_few (in_words c.requires.new_room.stands) c.args.i in
     let f = few_blocks (in_words c.requires.new_room.stands) in
+    let k = c.min-many.ensures ∙ min_least _ _ in
     let m = least_left c.payload_blocks-n.result c.args.t.left in
     record {
       n_in_bounds = (omega arith, omega arith);
@@ -24,10 +26,11 @@ take_blocks-requires c = let e = words_say (λ d. payload_blocks_in_piece d c.ar
 pub returns-then-contiguous_is_zero : goal.returns-then-contiguous_is_zero
 returns-then-contiguous_is_zero c loops = let e = words_say (λ d. payload_blocks_in_piece d c.args.i) c.payload_blocks-n.ensures c.requires.new_room.picker (in_words c.requires.new_room.stands) in
     let l = payload_few (in_words c.requires.new_room.stands) c.args.i in
+    let k = c.min-many.ensures ∙ min_least _ _ in
     let m = least_left c.payload_blocks-n.result c.args.t.left in
-    new_few c.args.s c.args.words.now c.args.cells.now c.args.q c.args.bytes.now c.args.i c.args.t c.args.out.now c.args.ignored.now c.payload_blocks-n.result c.lesser-many.result
+    new_few c.args.s c.args.words.now c.args.cells.now c.args.q c.args.bytes.now c.args.i c.args.t c.args.out.now c.args.ignored.now c.payload_blocks-n.result c.min-many.result
     (c.args.t.asked + c.args.s.blocks) (sym c.contiguous_is_zero.ensures ∙ c.if-contiguous_is_zero.true)
-    c.payload_blocks-n.ensures c.lesser-many.ensures (omega arith) c.take_blocks.ensures loops
+    c.payload_blocks-n.ensures (c.min-many.ensures ∙ min_least _ _) (omega arith) c.take_blocks.ensures loops
 
 pub expand_piece-span-requires : goal.expand_piece-span-requires
 expand_piece-span-requires c = record {

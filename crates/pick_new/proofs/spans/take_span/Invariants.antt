@@ -13,6 +13,3 @@ use Rattle.pick_new.proofs.spans.take_span.Given as goal
 abbrev pub invariant-loop-k : goal.invariant-loop-k
 invariant-loop-k l = (l.first ≤ l.k) × (l.k ≤ l.end) × ((loops : List ℕ) → RunRest (InWords l.s l.words) (take_span take_payload (range l.first l.end)) (take_span take_payload (range l.k l.end))
     ((l.k - l.first) * l.s.blocks) l.initial.cur l.cur l.initial.out l.out l.initial.ignored l.ignored loops loops)
-
-abbrev pub decreases-loop-k : goal.decreases-loop-k
-decreases-loop-k l = l.end - l.k

@@ -9,6 +9,3 @@ use Rattle.pick_partial.proofs.free.take_free.Given as goal
 
 abbrev pub invariant-loop-k : goal.invariant-loop-k
 invariant-loop-k l = Taking l.states l.i l.first l.initial.cur l.cur l.initial.out l.out l.j l.k
-
-abbrev pub decreases-loop-k : goal.decreases-loop-k
-decreases-loop-k l = length l.states - l.k

@@ -9,15 +9,10 @@ use Rattle.memory_rows.specs.Lookup.{picker_in}
 use Rattle.memory_layout.specs.Changes.{partial_in}
 use Rattle.model.specs.pick.Pick.{partial_step}
 use Rattle.pick_partials.specs.Phase.{walk_places}
-use Rattle.pick_partials.proofs.WalkLaws.{Taking, taking_start, taking_next, taking_stop, taking_end, taking_lengths}
-use Rattle.pick_partials.proofs.WalkLaws.{rest_cons, rest_none}
-use Rattle.pick_partials.proofs.WalkLaws.{Taking, taking_start, taking_next, taking_stop, taking_end, rest_cons, rest_none}
+use Rattle.pick_partials.proofs.WalkLaws.{Taking}
 use borrow.Author.Rules.{rules}
 use Rattle.pick_partials.proofs.walks.walk_places.Given as goal
 
-abbrev pub invariant-loop-j : goal.invariant-loop-j
-invariant-loop-j l = Taking (λ k. partial_step (request_of l.q l.bytes) (partial_in (picker_in l.live l.rows l.words l.cells) k)) (take l.many l.places)
-    (drop l.j (take l.many l.places)) (picker_in l.live l.rows l.words l.cells) l.initial.cur l.cur l.initial.out l.initial.aside l.out l.aside
-
-abbrev pub decreases-loop-j : goal.decreases-loop-j
-decreases-loop-j l = l.many - l.j
+abbrev pub invariant-loop-place : goal.invariant-loop-place
+invariant-loop-place l = Taking (λ k. partial_step (request_of l.q l.bytes) (partial_in (picker_in l.live l.rows l.words l.cells) k)) (take l.many l.places)
+    (drop l.place-index (take l.many l.places)) (picker_in l.live l.rows l.words l.cells) l.initial.cur l.cur l.initial.out l.initial.aside l.out l.aside

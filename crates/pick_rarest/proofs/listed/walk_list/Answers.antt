@@ -66,9 +66,6 @@ returns-then-cur-eq0 c = let d = picker_in c.args.live c.args.rows.now c.args.wo
       counted = counted_most (omega arith) (counted_then c.loop-k.invariant.2 c.listed_step-cur.ensures.counted);
     }
 
-pub overflow_add-k : goal.overflow_add-k
-overflow_add-k c = search rules
-
 pub loop-k-smaller : goal.loop-k-smaller
 loop-k-smaller c = omega arith
 

@@ -21,6 +21,3 @@ invariant-loop-k l = (l.k ≤ l.n)
     (drop l.k (list_of (picker_in l.live l.rows l.words l.cells).listing)) (picker_in l.live l.rows l.words l.cells)
     l.initial.cur l.cur l.initial.out l.initial.aside l.initial.ignored l.initial.loops l.out l.aside l.ignored l.loops
     × Counted 3 l.k l.initial.loops l.loops
-
-abbrev pub decreases-loop-k : goal.decreases-loop-k
-decreases-loop-k l = l.n - l.k

@@ -16,24 +16,21 @@ use Rattle.pick_visits.proofs.VisitLaws.{counted_none, counted_then, counted_mos
 use Rattle.pick_visits.proofs.ListLaws.{picks_words, place_bit, back_start, back_next, back_none, reverse_named, as_list_back}
 use Rattle.pick_rarest.proofs.listed.walk_list_back.Goals as goal
 
-pub list_length-k-requires : goal.list_length-k-requires
-list_length-k-requires c = c.requires.picks.asked.stands.bounds.spans.in_words
+pub list_length-n-requires : goal.list_length-n-requires
+list_length-n-requires c = c.requires.picks.asked.stands.bounds.spans.in_words
 
 pub loop-k-init : goal.loop-k-init
 loop-k-init c = let d = picker_in c.args.live c.args.rows.now c.args.words.now c.args.cells.now in
     let r = request_of c.args.q c.args.bytes.now in
     let xs = list_of d.listing in
-    let n = picks_words c.requires.picks (λ x. len (list_of x.listing)) c.list_length-k.result c.list_length-k.ensures.1 in
-    let z : c.list_length-k.result - c.list_length-k.result ≡ 0 = omega arith in (
+    let n = picks_words c.requires.picks (λ x. len (list_of x.listing)) c.list_length-n.result c.list_length-n.ensures.1 in
+    let z : c.list_length-n.result - c.list_length-n.result ≡ 0 = omega arith in (
       omega arith,
       subst (λ (ys : List ℕ). Going (reverse_rare_step r) (reversed xs) ys d c.args.t c.args.t c.args.out.now c.args.aside.now c.args.ignored.now
-          c.args.loops.now c.args.out.now c.args.aside.now c.args.ignored.now c.args.loops.now) (sym (back_start xs c.list_length-k.result n))
+          c.args.loops.now c.args.out.now c.args.aside.now c.args.ignored.now c.args.loops.now) (sym (back_start xs c.list_length-n.result n))
           (going_start (reverse_rare_step r) (reversed xs) c.requires.underway c.requires.le_left.0),
       counted_most (omega arith) (counted_none 2 c.args.loops.now),
     )
-
-pub overflow_sub-k : goal.overflow_sub-k
-overflow_sub-k c = search rules
 
 pub list_place-i-requires : goal.list_place-i-requires
 list_place-i-requires c = record {
@@ -45,7 +42,7 @@ pub listed_step-cur-requires : goal.listed_step-cur-requires
 listed_step-cur-requires c = let d = picker_in c.args.live c.args.rows.now c.args.words.now c.args.cells.now in
     let r = request_of c.args.q c.args.bytes.now in
     let xs = list_of d.listing in
-    let n = picks_words c.requires.picks (λ x. len (list_of x.listing)) c.list_length-k.result c.list_length-k.ensures.1 in
+    let n = picks_words c.requires.picks (λ x. len (list_of x.listing)) c.list_length-n.result c.list_length-n.ensures.1 in
     let h : c.loop-k.k - 1 < len xs = omega arith in
     let e = picks_words c.requires.picks (λ x. nth 0 (list_of x.listing) (c.loop-k.k - 1)) c.list_place-i.result c.list_place-i.ensures in
     record {
@@ -70,17 +67,14 @@ pub returns-then-cur-eq0 : goal.returns-then-cur-eq0
 returns-then-cur-eq0 c = let d = picker_in c.args.live c.args.rows.now c.args.words.now c.args.cells.now in
     let r = request_of c.args.q c.args.bytes.now in
     let xs = list_of d.listing in
-    let n = picks_words c.requires.picks (λ x. len (list_of x.listing)) c.list_length-k.result c.list_length-k.ensures.1 in
+    let n = picks_words c.requires.picks (λ x. len (list_of x.listing)) c.list_length-n.result c.list_length-n.ensures.1 in
     let h : c.loop-k.k - 1 < len xs = omega arith in
     let e = picks_words c.requires.picks (λ x. nth 0 (list_of x.listing) (c.loop-k.k - 1)) c.list_place-i.result c.list_place-i.ensures in
-    let o = back_next xs c.loop-k.k c.list_place-i.result c.loop-k-test.true (omega arith) e in record {
+    let o = back_next xs c.loop-k.k c.list_place-i.result (omega arith) (omega arith) e in record {
       stepped = as_list_back r (going_stop c.loop-k.invariant.1 c.list_place-i.result (reversed (take (c.loop-k.k - 1) xs)) o
           (stepped_as c.listed_step-cur.ensures.stepped (λ start y. reverse_named r c.list_place-i.result _)) c.if-cur-eq0.true);
       counted = counted_most (omega arith) (counted_then c.loop-k.invariant.2 c.listed_step-cur.ensures.counted);
     }
-
-pub overflow_sub-k-in-loop-k : goal.overflow_sub-k-in-loop-k
-overflow_sub-k-in-loop-k c = search rules
 
 pub loop-k-smaller : goal.loop-k-smaller
 loop-k-smaller c = omega arith
@@ -89,10 +83,10 @@ pub loop-k-preserved : goal.loop-k-preserved
 loop-k-preserved c = let d = picker_in c.args.live c.args.rows.now c.args.words.now c.args.cells.now in
     let r = request_of c.args.q c.args.bytes.now in
     let xs = list_of d.listing in
-    let n = picks_words c.requires.picks (λ x. len (list_of x.listing)) c.list_length-k.result c.list_length-k.ensures.1 in
+    let n = picks_words c.requires.picks (λ x. len (list_of x.listing)) c.list_length-n.result c.list_length-n.ensures.1 in
     let h : c.loop-k.k - 1 < len xs = omega arith in
     let e = picks_words c.requires.picks (λ x. nth 0 (list_of x.listing) (c.loop-k.k - 1)) c.list_place-i.result c.list_place-i.ensures in
-    let o = back_next xs c.loop-k.k c.list_place-i.result c.loop-k-test.true (omega arith) e in (
+    let o = back_next xs c.loop-k.k c.list_place-i.result (omega arith) (omega arith) e in (
       omega arith,
       going_next c.loop-k.invariant.1 c.list_place-i.result (reversed (take (c.loop-k.k - 1) xs)) o (stepped_as c.listed_step-cur.ensures.stepped (λ start y. reverse_named r c.list_place-i.result _)) c.if-cur-eq0.false,
       counted_most (omega arith) (counted_then c.loop-k.invariant.2 c.listed_step-cur.ensures.counted),

@@ -17,11 +17,8 @@ use Rattle.pick_visits.proofs.ListLaws.{picks_words, place_bit, back_start, back
 use Rattle.pick_rarest.proofs.listed.walk_list_back.Given as goal
 
 abbrev pub invariant-loop-k : goal.invariant-loop-k
-invariant-loop-k l = (l.k ≤ l.initial.k)
+invariant-loop-k l = (l.k ≤ l.n)
     × Going (reverse_rare_step (request_of l.q l.bytes)) (reversed (list_of (picker_in l.live l.rows l.words l.cells).listing))
     (reversed (take l.k (list_of (picker_in l.live l.rows l.words l.cells).listing))) (picker_in l.live l.rows l.words l.cells)
     l.initial.cur l.cur l.initial.out l.initial.aside l.initial.ignored l.initial.loops l.out l.aside l.ignored l.loops
-    × Counted 2 (l.initial.k - l.k) l.initial.loops l.loops
-
-abbrev pub decreases-loop-k : goal.decreases-loop-k
-decreases-loop-k l = l.k
+    × Counted 2 (l.n - l.k) l.initial.loops l.loops

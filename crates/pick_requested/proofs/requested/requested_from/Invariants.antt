@@ -11,6 +11,3 @@ use Rattle.pick_requested.proofs.requested.requested_from.Given as goal
 
 abbrev pub invariant-loop-j : goal.invariant-loop-j
 invariant-loop-j l = (l.j ≤ l.many) × Passing (named_peer l.q.has_peer l.q.peer) (tabulate l.many (block_held l.words l.cells l.s.pieces l.s.blocks l.place)) l.x l.j
-
-abbrev pub decreases-loop-j : goal.decreases-loop-j
-decreases-loop-j l = l.many - l.j

@@ -14,6 +14,3 @@ use Rattle.pick_runs.proofs.blocks.take_all.Given as goal
 
 abbrev pub invariant-loop-j : goal.invariant-loop-j
 invariant-loop-j l = AllRest (HasBlocks l.k l.n) l.k l.n l.j l.initial.cur l.cur l.initial.out l.out l.initial.loops l.loops
-
-abbrev pub decreases-loop-j : goal.decreases-loop-j
-decreases-loop-j l = l.n - l.j

@@ -14,6 +14,3 @@ use Rattle.pick_runs.proofs.spans.take_random_span.Given as goal
 
 abbrev pub invariant-loop-k : goal.invariant-loop-k
 invariant-loop-k l = SpanRest (InWords l.s l.words) l.first l.end l.k l.s.blocks l.marks l.initial.cur l.cur l.initial.out l.out l.initial.ignored l.ignored l.initial.loops l.loops
-
-abbrev pub decreases-loop-k : goal.decreases-loop-k
-decreases-loop-k l = l.end - l.k

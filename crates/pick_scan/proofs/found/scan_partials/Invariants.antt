@@ -11,6 +11,3 @@ use Rattle.pick_scan.proofs.found.scan_partials.Given as goal
 
 abbrev pub invariant-loop-k : goal.invariant-loop-k
 invariant-loop-k l = Scanning (request_of l.q l.bytes) (picker_in l.live l.rows l.words l.cells) l.live l.k l.n l.downloading l.places
-
-abbrev pub decreases-loop-k : goal.decreases-loop-k
-decreases-loop-k l = l.live - l.k

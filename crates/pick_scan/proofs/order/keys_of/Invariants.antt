@@ -10,6 +10,3 @@ use Rattle.pick_scan.proofs.order.keys_of.Given as goal
 
 abbrev pub invariant-loop-j : goal.invariant-loop-j
 invariant-loop-j l = Giving (key_of (picker_in l.live l.rows l.words l.cells)) l.places l.keys l.j
-
-abbrev pub decreases-loop-j : goal.decreases-loop-j
-decreases-loop-j l = l.many - l.j

@@ -13,6 +13,3 @@ use Rattle.pick_start.proofs.forced.count_downloading.Given as goal
 
 abbrev pub invariant-loop-k : goal.invariant-loop-k
 invariant-loop-k l = (l.k ≤ l.live) × (l.n ≡ len (places_below (queue_held l.cells l.rows l.s.pieces) Downloading l.k))
-
-abbrev pub decreases-loop-k : goal.decreases-loop-k
-decreases-loop-k l = l.live - l.k

@@ -6,4 +6,4 @@ use Rattle.pick_state.proofs.numbers.whole_pieces.Goals as goal
 
 pub returns : goal.returns
 unfolding whole_pieces contiguous_of
-returns c = rw c.contiguous_left-rest.ensures refl
+returns c = rw c.saturating_sub-rest.ensures refl

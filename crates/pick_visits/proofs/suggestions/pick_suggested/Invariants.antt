@@ -15,11 +15,8 @@ use Rattle.pick_visits.proofs.StepLaws.{Going, going_start, going_next, going_st
 use Rattle.pick_visits.proofs.VisitLaws.{counted_none, counted_then, counted_most, suggestions_next, suggestions_none, suggested_number}
 use Rattle.pick_visits.proofs.suggestions.pick_suggested.Given as goal
 
-abbrev pub invariant-loop-k : goal.invariant-loop-k
-invariant-loop-k l = (l.k ≤ length l.suggestions)
-    × Going (suggest (request_of l.q l.bytes)) (each number_of l.suggestions) (each number_of (drop l.k l.suggestions)) (picker_in l.live l.rows l.words l.cells)
+abbrev pub invariant-loop-piece : goal.invariant-loop-piece
+invariant-loop-piece l = (l.piece-index ≤ length l.suggestions)
+    × Going (suggest (request_of l.q l.bytes)) (each number_of l.suggestions) (each number_of (drop l.piece-index l.suggestions)) (picker_in l.live l.rows l.words l.cells)
     l.initial.cur l.cur l.initial.out l.initial.aside l.initial.ignored l.initial.loops l.out l.aside l.ignored l.loops
-    × Counted 1 l.k l.initial.loops l.loops
-
-abbrev pub decreases-loop-k : goal.decreases-loop-k
-decreases-loop-k l = length l.suggestions - l.k
+    × Counted 1 l.piece-index l.initial.loops l.loops
