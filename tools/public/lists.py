@@ -11,32 +11,27 @@ LISTING = f'Rattle.{CRATE}.specs.Listing'
 HEAD = """// A number for each piece.
 // Written by tools/publics.py, and not by hand.
 use crate::admitted::admit_list;
-use crate::answers::ListAnswer;
 use crate::rooms::Need;
 use memory_records::DownloadingPiece;
 use memory_records::live_records;
 use memory_records::unpack;
-use picker_answers::Admitted;
+use types::Refusal;
 {ghosts}"""
 
 COLUMN = """
-fn {name}_core(words: &[u64], cells: &[u16], rows: &[u32], lent: usize, out: &mut [u16]) -> ListAnswer
+fn {name}_core(words: &[u64], cells: &[u16], rows: &[u32], lent: usize, out: &mut [u16]) -> Result<Option<usize>, Refusal>
     requires {{ length rows.now ≡ 1536 }}
     ensures {{ {core} 1 {tell} words.now cells.now rows.now lent
         ({of} {q} (length out.old)) out.old out.new result }}
 {{
     let mut counts = [0; 1536];
     let room = out.len();
-    match admit_list(words, cells, rows, lent, &mut counts, Need::Pieces, room) {{
-        Admitted::Refused(why) => ListAnswer::Refused(why),
-        Admitted::To(s, live) => {{
-            ask_columns::{name}(words, cells, s, out);
-            ListAnswer::Records(s.pieces)
-        }}
-    }}
+    let picker = admit_list(words, cells, rows, lent, &mut counts, Need::Pieces, room)?;
+    ask_columns::{name}(words, cells, picker.shape, out);
+    Ok(Some(picker.shape.pieces))
 }}
 
-{comment}pub fn {name}(words: &[u64], cells: &[u16], partials: &[DownloadingPiece], out: &mut [u16]) -> ListAnswer
+{comment}pub fn {name}(words: &[u64], cells: &[u16], partials: &[DownloadingPiece], out: &mut [u16]) -> Result<Option<usize>, Refusal>
     ensures {{ {listed} 1 {tell} ({lending} words.now cells.now partials.now)
         ({of} {q} (length out.old)) out.old out.new result }}
 {{

@@ -4,14 +4,18 @@ import re
 
 from compare.spelling import plain, spelled
 from public.layout import LIMIT, uses
-from public.table import ANSWERS, ANY_PLACE, BLOCK, LIST_PLACE, NUMBERS, PICKER, PIECE
+from public.table import ANSWERS, ANY_PLACE, BLOCK, LIST_PLACE, LOGIC, NUMBERS, PICKER, PIECE
 
 WRITTEN = 'Written by tools/publics.py, and not by hand.'
 REQUIRED = 'None requires anything: each is refused as the table says, or answers what the definition replies.'
 MEMORY = ['words: &[u64]', 'cells: &[u16]']
 CONVERT = {'usize': 'usize_to_u64', 'u16': 'u16_to_u64'}
 
+# what a question is given of the picker that was admitted
+GIVEN = {'s': 'picker.shape', 'live': 'picker.live', 'counts': '&counts'}
+
 # modules of the definitions
+PRELUDE, REFUSAL = 'Rattle.std.specs.Prelude', 'Rattle.types.specs.declared.refusal.Refusal'
 QUESTIONS, CALLS = 'Rattle.model.specs.ask.Questions', 'Rattle.model.specs.Calls'
 CALLING, CORES, ADMITTING = (f'Rattle.picker_{x}' for x in ('calls.specs.Calling', 'calls.specs.Cores', 'answers.specs.Admitting'))
 NUMBER = 'Rattle.types.specs.Piece', 'number_of'
@@ -34,10 +38,10 @@ def commented(mark, text):
 class Question:
     """One question of a source below, as a public call."""
 
-    def __init__(self, text, crate, module, name):
-        pattern = r'(?ms)((?:^//[^\n]*\n)*)(?:^#\[.*?\]\n)*^pub fn {}\((.*?)\) -> (\w+)\n(.*?)^\{{\n'.format(name)
+    def __init__(self, root, text, crate, module, name):
+        pattern = r'(?ms)((?:^//[^\n]*\n)*)(?:^#\[.*?\]\n)*^pub fn {}\((.*?)\) -> ([^\n]+)\n(.*?)^\{{\n'.format(name)
         self.comment, parameters, self.gives, clauses = re.search(pattern, text).groups()
-        self.name, self.crate, self.module, self.below = name, crate, module, module.crate
+        self.root, self.name, self.crate, self.module, self.below = root, name, crate, module, module.crate
         self.takes = [p.split(':')[0].strip() for p in parameters.replace('\n', ' ').split(',') if p.strip()]
         ensured = re.search(r'(?s)ensures(?: \w+)? \{ (.*) \}', clauses).group(1)
         says = re.match(r'\w+', ensured).group(0)
@@ -45,7 +49,8 @@ class Question:
         self.answer = next(a for wrap, a in ANSWERS.items() if plain(wrap) == plain(self.wrap))
         self.home = self.answer.home or crate.name
         self.q = spelled(QUESTIONS, name)
-        self.convert = CONVERT.get(self.gives) if self.answer.type == 'u64' else None
+        self.convert = CONVERT.get(self.gives)
+        self.type = 'u64' if self.convert else self.gives
         for short, long in SPOKEN.items():
             self.comment = self.comment.replace(short, long)
         self.kind, numbers = self.of()
@@ -67,7 +72,7 @@ class Question:
 
     def told(self):
         """The definition of the answer."""
-        return spelled(self.answers(), self.answer.enum[0].lower() + self.answer.enum[1:])
+        return spelled(self.answers(), self.answer.told) if self.answer.home else self.answer.told
 
     def constructors(self):
         """The definition's names in the question."""
@@ -89,21 +94,18 @@ class Question:
         if self.convert:
             reply = f'{self.convert}({reply})'
         lines = ['let mut counts = [0; 1536];'] + self.kind.lets
-        lines += [f'match {self.kind.admit}(words, cells, rows, lent, &mut counts{passed}) {{',
-                  f'    Admitted::Refused(why) => {self.answer.enum}::Refused(why),',
-                  f'    Admitted::To(s, live) => {self.answer.enum}::Replied({reply}),',
-                  '}']
+        lines += [f'let picker = {self.kind.admit}(words, cells, rows, lent, &mut counts{passed})?;', f'Ok({reply})']
         argument = ''.join(f', {p.split(":")[0]}' for p in self.parameter())
         asks = ['let mut rows = [0; 1536];', 'let live = live_records(words);', 'let lent = unpack(partials, live, &mut rows);',
                 f'{self.name}_core(words, cells, &rows, lent{argument})']
         return (
-            f'fn {self.name}_core({", ".join(core)}) -> {self.answer.enum}\n'
+            f'fn {self.name}_core({", ".join(core)}) -> Result<{self.type}, Refusal>\n'
             '    requires { length rows.now ≡ 1536 }\n'
             f'    ensures {{ {spelled(ADMITTING, "CoreAnswered")} words.now cells.now rows.now lent\n'
             f'        ({self.asked()}) ({self.told()} result) }}\n'
             '{\n' + ''.join(f'    {x}\n' for x in lines) + '}\n\n'
             + self.comment +
-            f'pub fn {self.name}({", ".join(public)}) -> {self.answer.enum}\n'
+            f'pub fn {self.name}({", ".join(public)}) -> Result<{self.type}, Refusal>\n'
             f'    ensures {{ {self.told()} result ≡ {spelled(CALLING, "answer_on")}'
             f' ({spelled(CORES, "lending")} words.now cells.now partials.now)\n'
             f'        ({spelled(CALLS, "question")} ({self.asked()})) }}\n'
@@ -111,19 +113,35 @@ class Question:
         )
 
     def takes_in_core(self):
-        """What the question below is given: a lent slice as `&` where it is local."""
-        return ['&counts' if p == 'counts' else p for p in self.takes]
+        """What the question below is given."""
+        return [GIVEN.get(p, p) for p in self.takes]
+
+    def declared(self):
+        """The source that declares the type answered, or None where it is the language's."""
+        return declaring(self.root, self.below, self.type) if self.type.isidentifier() and self.type not in LOGIC else None
+
+
+def declaring(root, crate, name):
+    """The name of the source of a crate that declares a type."""
+    found = [p.stem for p in sorted((root / f'crates/{crate}/src').glob('*.rt')) if re.search(rf'(?m)^pub (?:struct|enum) {name}\b', p.read_text())]
+    return found[0]
+
+
+def logic(name):
+    """A type of the language as the definitions call it."""
+    option = re.fullmatch(r'Option<(.+)>', name)
+    return f'(Option {logic(option[1])})' if option else LOGIC.get(name, name)
 
 
 def module_source(crate, module, questions):
     """A module of a crate."""
-    types = {'memory_records::DownloadingPiece', 'memory_records::live_records', 'memory_records::unpack', 'picker_answers::Admitted'}
+    types = {'memory_records::DownloadingPiece', 'memory_records::live_records', 'memory_records::unpack', 'types::Refusal'}
     types |= {f'picker_answers::{q.kind.admit}' for q in questions}
-    types |= {f'picker_answers::{q.answer.enum}' if q.answer.home else f'crate::answers::{q.answer.enum}' for q in questions}
+    types |= {f'{q.below}::{q.type}' for q in questions if q.declared()}
     types |= {f'types::{q.convert}' for q in questions if q.convert}
     types |= {f'types::{q.kind.type}' for q in questions if q.kind.type[:1].isupper()}
     types |= {'types::i32_to_usize' for q in questions if any('i32_to_usize' in x for x in q.kind.lets)}
-    ghosts = {'Rattle.std.specs.Prelude': ['◌≡◌', 'length']}
+    ghosts = {PRELUDE: ['◌≡◌', 'length']}
     if any(q.numbers for q in questions):
         ghosts[NUMBER[0]] = [spelled(*NUMBER)]
     ghosts[QUESTIONS] = [x for q in questions for x in q.constructors()]
@@ -136,7 +154,7 @@ def module_source(crate, module, questions):
 
 
 def answers_of(questions):
-    """A crate's own enums, each with the question that answers it."""
+    """The answers that a crate defines, each with the first question of it."""
     found = {}
     for q in questions:
         if not q.answer.home:
@@ -145,26 +163,21 @@ def answers_of(questions):
 
 
 def answer_files(crate, own, texts):
-    """The enums of a crate, and what they are in the definition."""
-    top, answers = f'crates/{crate.name}', [q.answer for q in own.values()]
-    types = sorted([f'use {q.below}::{q.answer.type};\n' for q in own.values()] + ['use types::Refusal;\n'])
-    source = commented('//', 'What these questions answer: refused, or what the question replies.') + commented('//', WRITTEN)
-    source += ''.join(types)
-    for a in answers:
-        source += f'\n// {a.comment}\n#[derive(Drop)]\npub enum {a.enum} {{\n    Refused(Refusal),\n    Replied({a.type}),\n}}\n'
-    answer, refused, replied = (spelled(CALLS, x) for x in ('Answer', 'refused', 'replied'))
-    cited = {CALLS: [answer, refused, replied]}
+    """What the answers of a crate are in the definition."""
+    top, answer, refused, replied = f'crates/{crate.name}', *(spelled(CALLS, x) for x in ('Answer', 'refused', 'replied'))
+    types = {x for q in own.values() for x in re.findall(r'\w+', logic(q.type))}
+    cited = {PRELUDE: sorted(types & {'Bool', 'Option', 'ℕ'} | {'Err', 'Ok', 'Result'}), REFUSAL: ['Refusal']}
+    for q in own.values():
+        if q.declared():
+            at = '' if q.declared() == 'lib' else f'{q.declared()}.'
+            cited[f'Rattle.{q.below}.specs.declared.{at}{q.type}'] = [q.type]
+    cited[CALLS] = [answer, refused, replied]
     specs = ''
     for wrap, q in own.items():
-        enum, declared = q.answer.enum, f'Rattle.{crate.name}.specs.declared.answers.{q.answer.enum}'
         cited.setdefault(defined(texts[q.module.name], wrap), []).append(wrap)
-        cited[declared] = [enum]
-        cited[f'{declared}.TheVariants'] = [f'Refused as {enum}Refused', f'Replied as {enum}Replied']
-        comment = q.answer.comment[0].lower() + q.answer.comment[1:].rstrip('.')
-        specs += (f'\n-- {comment}\nabbrev pub {q.told()} : (r : {enum}) → {answer}\n{q.told()} ({enum}Refused why) = {refused} why\n'
-                  f'{q.told()} ({enum}Replied x) = {replied} ({wrap} x)\n')
+        specs += (f'\n-- {q.answer.comment}\nabbrev pub {q.told()} : (r : Result {logic(q.type)} Refusal) → {answer}\n'
+                  f'{q.told()} (Err why) = {refused} why\n{q.told()} (Ok x) = {replied} ({wrap} x)\n')
     return {
-        f'{top}/src/answers.rt': source,
         f'{top}/specs/Lib.antt': 'pub mod Answers\n',
         f'{top}/specs/Answers.antt': commented('--', 'What the answers of these questions are in the definition. Assumes nothing.')
         + commented('--', WRITTEN) + uses(cited) + specs,
@@ -184,12 +197,12 @@ def crate_files(root, crate):
     top, made, questions, texts = f'crates/{crate.name}', {}, [], {}
     for module in crate.modules:
         text = texts[module.name] = (root / f'crates/{module.crate}/src/{module.source}.rt').read_text()
-        asked = [Question(text, crate, module, name) for name in module.questions.split()]
+        asked = [Question(root, text, crate, module, name) for name in module.questions.split()]
         questions += asked
         made[f'{top}/src/{module.name}.rt'] = module_source(crate, module, asked)
     own = answers_of(questions)
-    mods = sorted([m.name for m in crate.modules] + (['answers'] if own else []))
-    exports = sorted([f'{q.module.name}::{q.name}' for q in questions] + [f'answers::{q.answer.enum}' for q in own.values()])
+    mods = sorted(m.name for m in crate.modules)
+    exports = sorted(f'{q.module.name}::{q.name}' for q in questions)
     made[f'{top}/src/lib.rt'] = (
         commented('//', f'{crate.comment} {REQUIRED}') + commented('//', WRITTEN) + ''.join(f'mod {m};\n' for m in mods) + '\n'
         + ''.join(f'pub use {x};\n' for x in exports)

@@ -24,22 +24,25 @@ NUMBERS = {
     'PLACE': {'k': '{number_of} place'},
 }
 
-# an answer by the definition that makes a reply of it: the name of its enum and definition, the type that is answered, its comment; where
-# it is declared if not in the crate of its questions
-Answer = namedtuple('Answer', 'enum type comment home')
+# an answer by the definition that makes a reply of it: the definition of the whole answer, its comment, and where this stands if not in the
+# crate of its questions
+Answer = namedtuple('Answer', 'told comment home')
 ANSWERS = {
-    'one': Answer('NumberAnswer', 'u64', '', 'picker_answers'),
-    'flag': Answer('FlagAnswer', 'bool', '', 'picker_answers'),
-    'count_reply': Answer('CountAnswer', 'PieceCount', 'Pieces, their pad bytes, and whether the last piece is among them.', None),
-    'copies_reply': Answer('CopiesAnswer', 'DistributedCopies', 'The least copies of a piece, and how many pieces have more.', None),
-    'sizes_reply': Answer('SizesAnswer', 'QueueSizes', 'How many partials each queue has.', None),
-    'placed_reply': Answer('PlaceAnswer', 'Placed', 'What stands at a place: a number, nothing, or the list is stale.', None),
-    'stats_reply': Answer('StatsAnswer', 'PieceStats', 'How many have a piece, and its bucket.', None),
-    'info_reply': Answer('InfoAnswer', 'PieceInfo', 'A partial: how many of its blocks are in each state, and its flags.', None),
-    'flag_reply': Answer('PartialFlagAnswer', 'FlagOf', 'A flag of a partial, or nothing where none stands.', None),
-    'number_reply': Answer('BlockNumberAnswer', 'NumberOf', 'A number of a block, or nothing where no partial stands.', None),
-    'peer_reply': Answer('PeerAnswer', 'PeerOf', 'A peer or none, or nothing where no partial stands.', None),
+    'one': Answer('number_answer', '', 'picker_answers'),
+    'flag': Answer('flag_answer', '', 'picker_answers'),
+    'count_reply': Answer('count_answer', 'pieces, their pad bytes, and whether the last piece is among them', None),
+    'copies_reply': Answer('copies_answer', 'the least copies of a piece, and how many pieces have more', None),
+    'sizes_reply': Answer('sizes_answer', 'how many partials each queue has', None),
+    'placed_reply': Answer('place_answer', 'what stands at a place: a number, nothing, or the list is stale', None),
+    'stats_reply': Answer('stats_answer', 'how many have a piece, and its bucket', None),
+    'info_reply': Answer('info_answer', 'a partial: how many of its blocks are in each state, and its flags', None),
+    'flag_reply': Answer('partial_flag_answer', 'a flag of a partial, or nothing where none stands', None),
+    'number_reply': Answer('block_number_answer', 'a number of a block, or nothing where no partial stands', None),
+    'peer_reply': Answer('peer_answer', 'a peer or none, or nothing where no partial stands', None),
 }
+
+# what the definitions call a type of the language
+LOGIC = {'u64': 'ℕ', 'u16': 'ℕ', 'usize': 'ℕ', 'bool': 'Bool'}
 
 CRATES = [
     Crate('picker_questions',

@@ -1,4 +1,5 @@
 -- The tests of 4, 11 and 12, as the definition has them. Assumes nothing.
+use Rattle.std.specs.Prelude.{Err, Ok}
 use mathlib.Core.Path.{◌≡◌, refl, sym, ap, ap₂, ◌∙◌}
 use mathlib.Core.Bool.{Bool, true, false, not, ◌&&◌}
 use mathlib.Core.List.{List, [], ◌∷◌}
@@ -23,7 +24,6 @@ use Rattle.model.proofs.base.Truths.{and_left, and_right}
 use Rattle.memory_layout.specs.declared.shape.Shape.{Shape}
 use Rattle.pick_state.specs.declared.request.PickRequest.{PickRequest as Request}
 use Rattle.pick_start.specs.Starting.{request_with}
-use Rattle.picker_calls.specs.declared.judgement.Judgement.TheVariants.{Refused, Passed}
 use Rattle.pick_judge.specs.declared.arguments.PickInput.{PickInput}
 use Rattle.pick_judge.specs.Asking.{request_numbers, numbers_fit, RequestSays, PickJudged}
 
@@ -109,7 +109,7 @@ module _ (s : Shape) (q : Request) (bytes : List ℕ) (lent : List ℤ) (draws :
   a = request_with q bytes (each number_of lent)
 
   -- 4
-  pub judged_few : length draws < 4352 → PickJudged s (do_pick_pieces a free draws) (Refused FewDraws)
+  pub judged_few : length draws < 4352 → PickJudged s (do_pick_pieces a free draws) (Err FewDraws)
   unfolding refusal refuse_few_draws len
   judged_few h = record { is = λ d e. sym (yes _ FewDraws _ (lt-ltb (length draws) 4352 h)) }
 
@@ -120,7 +120,7 @@ module _ (s : Shape) (q : Request) (bytes : List ℕ) (lent : List ℤ) (draws :
     after_four d = no _ FewDraws _ (le-ltb (length draws) 4352 enough)
 
     -- 11
-    pub judged_arguments : not r ≡ true → PickJudged s (do_pick_pieces a free draws) (Refused PickArguments)
+    pub judged_arguments : not r ≡ true → PickJudged s (do_pick_pieces a free draws) (Err PickArguments)
     judged_arguments h = record {
       is = λ d e. sym (after_four d ∙ yes _ PickArguments _
           (ap not (sym (x.is d e bytes (each number_of lent) refl (many_each lent))) ∙ h));
@@ -133,14 +133,14 @@ module _ (s : Shape) (q : Request) (bytes : List ℕ) (lent : List ℤ) (draws :
           after_four d ∙ no _ PickArguments _ (ap not (sym (x.is d e bytes (each number_of lent) refl (many_each lent))) ∙ h)
 
       -- 12
-      pub judged_output : free < q.wanted + q.contiguous + 255 → PickJudged s (do_pick_pieces a free draws) (Refused ShortOutput)
+      pub judged_output : free < q.wanted + q.contiguous + 255 → PickJudged s (do_pick_pieces a free draws) (Err ShortOutput)
       judged_output l = record {
         is = λ d e. sym
             (after_eleven d e ∙ yes _ ShortOutput none (lt-ltb free (q.wanted + q.contiguous + 255) l));
       }
 
       -- none
-      pub judged_passed : q.wanted + q.contiguous + 255 ≤ free → PickJudged s (do_pick_pieces a free draws) Passed
+      pub judged_passed : q.wanted + q.contiguous + 255 ≤ free → PickJudged s (do_pick_pieces a free draws) (Ok tt)
       judged_passed l = record {
         is = λ d e. sym
             (after_eleven d e ∙ no _ ShortOutput none (le-ltb free (q.wanted + q.contiguous + 255) l));

@@ -1,5 +1,6 @@
 -- What the public pick is asked, in the definition's terms, and what its judge says. Assumes nothing.
-use Rattle.std.specs.Prelude.{ℕ, ◌%◌, ◌≤◌, ◌≡◌, Bool, true, not, ◌&&◌, List, leb, length}
+use Rattle.std.specs.Prelude.{ℕ, ◌%◌, ◌≤◌, ◌≡◌, Bool, true, not, ◌&&◌, List, leb, length, Result, ⊤}
+use Rattle.types.specs.declared.refusal.Refusal.{Refusal}
 use Rattle.types.specs.Piece.{number_of}
 use Rattle.types.specs.Bits.{meets}
 use Rattle.types.specs.Peer.{named_peer}
@@ -11,7 +12,6 @@ use Rattle.model.specs.Calls.{Action, refusal, request_fits}
 use Rattle.memory_layout.specs.declared.shape.Shape.{Shape}
 use Rattle.pick_state.specs.declared.request.PickRequest.{PickRequest as Request}
 use Rattle.pick_start.specs.Starting.{request_with}
-use Rattle.picker_calls.specs.declared.judgement.Judgement.{Judgement}
 use Rattle.picker_calls.specs.Outcomes.{judged}
 use Rattle.pick_judge.specs.declared.arguments.PickInput.{PickInput}
 
@@ -57,5 +57,5 @@ pub record RequestSays (s : Shape) (q : Request) (many suggested : ℕ) (r : Boo
   pub few : r ≡ true → (q.wanted ≤ 2048) × (q.contiguous ≤ 2048)
 
 -- the definition's refusal, of any picker of these pieces
-pub record PickJudged (s : Shape) (a : Action) (r : Judgement) : Type 0 where
+pub record PickJudged (s : Shape) (a : Action) (r : Result ⊤ Refusal) : Type 0 where
   pub is : (d : Picker) → pieces_in d ≡ s.pieces → judged r ≡ refusal d a

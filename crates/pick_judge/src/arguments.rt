@@ -30,9 +30,8 @@ fn lent_peer(peer: u64) -> u64
 pub fn request(a: PickInput) -> PickRequest
     ensures { result ≡ request_numbers a }
 {
-    let options = a.options;
     PickRequest {
-        options: options,
+        options: a.options,
         wanted: i32_to_usize(a.num_blocks),
         contiguous: i32_to_usize(a.prefer_contiguous_blocks),
         peers: i32_to_usize(a.num_peers),
@@ -46,8 +45,5 @@ pub fn request(a: PickInput) -> PickRequest
 pub fn places_free(len: usize, end: usize) -> usize
     ensures { result ≡ len - end }
 {
-    if end < len {
-        return len - end;
-    }
-    0
+    len.saturating_sub(end)
 }

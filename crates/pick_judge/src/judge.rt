@@ -9,7 +9,6 @@ ghost use Rattle.pick_judge.specs.Asking.{numbers_fit, RequestSays, PickJudged};
 use bitfield::num_bytes;
 use memory_layout::Shape;
 use pick_state::PickRequest;
-use picker_calls::Judgement;
 use types::{PickerOptions, Refusal};
 
 // N is 1 to 2,048, P and the peers are not too many, and the list is walked one way.
@@ -42,18 +41,18 @@ pub fn judge_pick(
     suggestions: &[i32],
     draws: &[u32],
     free: usize,
-) -> Judgement
+) -> Result<(), Refusal>
     ensures { PickJudged s (do_pick_pieces (request_with q bytes.now (each number_of suggestions.now)) free
         draws.now) result }
 {
     if draws.len() < 4352 {
-        return Judgement::Refused(Refusal::FewDraws);
+        return Err(Refusal::FewDraws);
     }
     if !request_fits(s, q, bytes.len(), suggestions.len()) {
-        return Judgement::Refused(Refusal::PickArguments);
+        return Err(Refusal::PickArguments);
     }
     if free < q.wanted + q.contiguous + 255 {
-        return Judgement::Refused(Refusal::ShortOutput);
+        return Err(Refusal::ShortOutput);
     }
-    Judgement::Passed
+    Ok(())
 }

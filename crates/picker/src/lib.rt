@@ -3,9 +3,7 @@
 // A picker made, its image taken and read, and what both need.
 #![tactic(auto)]
 
-pub use picker_images::{
-    ImageTaken, Making, image_needed, memory_needed, new, read_image, take_image,
-};
+pub use picker_images::{image_needed, memory_needed, new, read_image, take_image};
 
 // The changes.
 pub use picker_blocks::{BlockPeer, BlockRequest};
@@ -19,35 +17,32 @@ pub use picker_seeds::{dec_refcount_all, inc_refcount_all};
 
 // The pick.
 pub use pick_judge::PickInput;
-pub use picker_pick::{PickOutcome, pick_pieces};
+pub use picker_pick::pick_pieces;
 
 // The questions.
-pub use picker_answers::{FlagAnswer, NumberAnswer};
 pub use picker_block_questions::{
-    BlockNumberAnswer, PeerAnswer, block_num_peers, block_peer, block_state, get_downloader,
-    is_downloaded, is_finished_block, is_requested, num_peers_block,
+    block_num_peers, block_peer, block_state, get_downloader, is_downloaded, is_finished_block,
+    is_requested, num_peers_block,
 };
 pub use picker_lists::{
-    ListAnswer, blocks_for_piece, get_availability_vec, get_download_queue, get_downloaders,
-    piece_priorities,
+    blocks_for_piece, get_availability_vec, get_download_queue, get_downloaders, piece_priorities,
 };
 pub use picker_partial_questions::{
-    InfoAnswer, PartialFlagAnswer, hashing, have_piece, is_hashing, is_piece_finished, locked,
-    passed_hash_check, piece_info,
+    hashing, have_piece, is_hashing, is_piece_finished, locked, passed_hash_check, piece_info,
 };
 pub use picker_piece_questions::{
-    StatsAnswer, blocks_in_piece, download_state, get_availability, is_downloading,
-    is_piece_flushed, pad_bytes_in_piece, payload_blocks_in_piece, peer_count, piece_priority,
-    piece_size, piece_stats,
+    blocks_in_piece, download_state, get_availability, is_downloading, is_piece_flushed,
+    pad_bytes_in_piece, payload_blocks_in_piece, peer_count, piece_priority, piece_size,
+    piece_stats,
 };
 pub use picker_questions::{
-    CopiesAnswer, PlaceAnswer, block_size, blocks_per_piece, cursor, dirty, distributed_copies,
-    full_piece_size, get_download_queue_size, list_place, num_pieces, num_seeds, partial_at,
-    recent_extent, reverse_cursor, total_size,
+    block_size, blocks_per_piece, cursor, dirty, distributed_copies, full_piece_size,
+    get_download_queue_size, list_place, num_pieces, num_seeds, partial_at, recent_extent,
+    reverse_cursor, total_size,
 };
 pub use picker_totals::{
-    CountAnswer, SizesAnswer, all_pieces, get_download_queue_sizes, have, have_want, is_finished,
-    is_seeding, num_filtered, num_have, num_have_filtered, num_pad_bytes, num_want_left, want,
+    all_pieces, get_download_queue_sizes, have, have_want, is_finished, is_seeding, num_filtered,
+    num_have, num_have_filtered, num_pad_bytes, num_want_left, want,
 };
 
 // Numbers, refusals and records.

@@ -1,4 +1,7 @@
 -- What the admission of a public question gives: refused alike whatever is asked, or answered as the definition replies. Assumes nothing.
+use Rattle.std.specs.Prelude.{Err, Ok, Result}
+use Rattle.std.specs.Result.{IsErrAnd}
+use Rattle.std.proofs.lemmas.Result.{err_from_is_err_and}
 use mathlib.Core.Path.{◌≡◌, refl, sym, ap, subst, ◌∙◌}
 use mathlib.Core.Bool.{Bool, true, false, true≢false}
 use mathlib.Core.List.{List}
@@ -7,6 +10,7 @@ use Prim.Native.Nat.{ℕ, ◌≤◌, ◌<◌}
 use native.Mathlib.Omega.{arith}
 use lib.Dec.{leb}
 use lib.ListN.{length}
+use mir.ValLaws.{to_z-of_z}
 use borrow.Author.Tests.{le-leb, lt-leb}
 use Rattle.types.specs.declared.refusal.Refusal.{Refusal}
 use Rattle.types.specs.declared.refusal.Refusal.TheVariants.{OutOfRange}
@@ -29,26 +33,24 @@ use Rattle.ask_picker.proofs.AskedLaws.{asked_queues, asked_rise}
 use Rattle.ask_piece.proofs.ReplyLaws.{one_is}
 use Rattle.memory_layout.specs.Bounds.{ShapeOf}
 use Rattle.check_pieces.proofs.ExtentTests.{pieces_in_lem}
-use Rattle.picker_calls.specs.declared.admission.Admission.{Admission}
-use Rattle.picker_calls.specs.declared.admission.Admission.TheVariants.{Refused as Barred, At}
 use Rattle.picker_calls.specs.Calling.{picker_on, of_memory, step_on, answer_on}
 use Rattle.picker_calls.specs.Cores.{lending, Listless, Stood, Admitted as MemoryAdmitted}
 use Rattle.picker_calls.proofs.CallLaws.{stood_picker, stood_refusal}
 use Rattle.picker_calls.proofs.CoreLaws.{stood_at}
+use Rattle.picker_calls.proofs.PublicLaws.{live_fits, rows_are}
 use Rattle.picker_answers.specs.declared.admitted.Admitted.{Admitted}
-use Rattle.picker_answers.specs.declared.admitted.Admitted.TheVariants.{Refused, To}
 use Rattle.picker_answers.specs.Admitting.{CoreAnswered, Ruled, Granted, AdmittedBy}
 
 -- ---- a question that was admitted by a rule
-module _ (rule : Picker → Option Refusal) (Fits : Shape → Type 0) (words cells rows counts : List ℕ) (lent : ℕ) (v : Admitted)
+module _ (rule : Picker → Option Refusal) (Fits : Shape → Type 0) (words cells rows counts : List ℕ) (lent : ℕ) (v : Result Admitted Refusal)
     (g : AdmittedBy rule Fits words cells rows counts lent v) where
   -- what an admitted question may rely on
-  pub granted : (s : Shape) (live : ℕ) → v ≡ To s live → Granted rule Fits s live lent rows counts words cells
+  pub granted : (a : Admitted) → v ≡ Ok a → Granted rule Fits a.shape a.live lent rows counts words cells
   unfolding AdmittedBy
-  granted s live e = subst (AdmittedBy rule Fits words cells rows counts lent) e g
+  granted a e = subst (AdmittedBy rule Fits words cells rows counts lent) e g
 
   -- refused
-  pub question_refused : (q asked : Question) → q ≡ asked → Ruled rule q → (why : Refusal) → v ≡ Refused why
+  pub question_refused : (q asked : Question) → q ≡ asked → Ruled rule q → (why : Refusal) → v ≡ Err why
       → CoreAnswered words cells rows lent asked (refused why)
   unfolding AdmittedBy answer_on step_on unless_refused answering
   question_refused q asked same ruled why e =
@@ -61,16 +63,16 @@ module _ (rule : Picker → Option Refusal) (Fits : Shape → Type 0) (words cel
       })
 
   -- answered
-  pub question_replied : (q asked : Question) → q ≡ asked → Ruled rule q → (s : Shape) (live : ℕ) → v ≡ To s live → (r : Reply)
-      → r ≡ reply (picker_in live rows words cells) q → CoreAnswered words cells rows lent asked (replied r)
+  pub question_replied : (q asked : Question) → q ≡ asked → Ruled rule q → (a : Admitted) → v ≡ Ok a → (r : Reply)
+      → r ≡ reply (picker_in a.live rows words cells) q → CoreAnswered words cells rows lent asked (replied r)
   unfolding answer_on step_on unless_refused act answering
-  question_replied q asked same ruled s live e r t =
-      let h = granted s live e in
+  question_replied q asked same ruled a e r t =
+      let h = granted a e in
       subst (λ (x : Question). CoreAnswered words cells rows lent x (replied r)) same
       (record {
         is = λ partials l w.
             ap (λ (x : Reply). replied x)
-            (t ∙ sym (ap (λ (d : Picker). reply d q) (stood_picker s live lent rows counts words cells h.stood partials l w)))
+            (t ∙ sym (ap (λ (d : Picker). reply d q) (stood_picker a.shape a.live lent rows counts words cells h.stood partials l w)))
             ∙ sym (ap (λ (x : Option Refusal). (unless_refused x (picker_on (lending words cells partials)) (question q)).answer)
             (h.free partials l w q ruled));
       })
@@ -85,21 +87,25 @@ unfolding refusal
 listless rule n q ruled d = subst (λ (x : Option Refusal). of_memory x ≡ false) (sym (ruled d)) (n d)
 
 module _ (rule : Picker → Option Refusal) (not_memory : NotOfMemory rule) (Fits : Shape → Type 0) (words cells rows counts : List ℕ)
-    (lent : ℕ) (v : Admission) (g : MemoryAdmitted words cells rows counts lent v) where
+    (lent : ℕ) (v : Result Shape Refusal) (g : MemoryAdmitted words cells rows counts lent v) where
   -- the memory is refused
-  pub refused_for_memory : (why : Refusal) → v ≡ Barred why → AdmittedBy rule Fits words cells rows counts lent (Refused why)
+  pub refused_for_memory : (why : Refusal) → v ≡ Err why → (r : Result Admitted Refusal) → IsErrAnd r (λ x. x ≡ why)
+      → AdmittedBy rule Fits words cells rows counts lent r
   unfolding AdmittedBy MemoryAdmitted
-  refused_for_memory why e =
+  refused_for_memory why e r passed =
+      let p = err_from_is_err_and r passed in
       let h = subst (MemoryAdmitted words cells rows counts lent) e g in
-      λ partials l r q ruled. h partials l r (question q) (listless rule not_memory q ruled)
+      let same : r ≡ Err why = p.1 ∙ ap Err p.2 in
+      subst (AdmittedBy rule Fits words cells rows counts lent) (sym same)
+      (λ partials l r q ruled. h partials l r (question q) (listless rule not_memory q ruled))
 
-  module _ (s : Shape) (e : v ≡ At s) where
+  module _ (s : Shape) (e : v ≡ Ok s) where
     abbrev stood : Stood s (head_word words 7) lent rows counts words cells
     stood = stood_at words cells rows counts lent v g s e
 
     -- the rule refuses
     pub refused_by_rule : (why : Refusal) → rule (picker_in (head_word words 7) rows words cells) ≡ some why
-        → AdmittedBy rule Fits words cells rows counts lent (Refused why)
+        → AdmittedBy rule Fits words cells rows counts lent (Err why)
     unfolding AdmittedBy refusal
     refused_by_rule why h = λ partials l r q ruled.
         stood_refusal s (head_word words 7) lent rows counts words cells stood partials l r (question q) (listless rule not_memory q ruled)
@@ -107,7 +113,7 @@ module _ (rule : Picker → Option Refusal) (not_memory : NotOfMemory rule) (Fit
 
     -- it does not
     pub admitted_by_rule : rule (picker_in (head_word words 7) rows words cells) ≡ none → Fits s → (live : ℕ) → live ≡ live_records words
-        → AdmittedBy rule Fits words cells rows counts lent (To s live)
+        → AdmittedBy rule Fits words cells rows counts lent (Ok (record { shape = s; live = live }))
     unfolding AdmittedBy refusal
     admitted_by_rule h f live many =
         subst (λ (n : ℕ). Granted rule Fits s n lent rows counts words cells) (stood.rowed ∙ sym many)
@@ -204,3 +210,6 @@ pub fresh_place : (l : Listing) (k n : ℕ) → is_dirty l ≡ false → n ≡ l
 unfolding no_place is_dirty list_of
 fresh_place dirty k n h e = absurd (true≢false h)
 fresh_place (fresh l) k n h e = ap (λ (m : ℕ). leb m k) e
+
+-- what the proofs of public questions cite
+pub ruleset public_questions = (live_fits, rows_are, to_z-of_z, question_refused)

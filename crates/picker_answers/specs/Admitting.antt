@@ -1,6 +1,6 @@
 -- What the core of a public question says, and what its admission gives it: refused as the table says, or a picker that stands. Assumes
 -- nothing.
-use Rattle.std.specs.Prelude.{◌≡◌, List, ℕ, length}
+use Rattle.std.specs.Prelude.{◌≡◌, List, ℕ, length, Err, Ok, Result}
 use Rattle.std.proofs.Math.Option.{Option, none, some}
 use Rattle.types.specs.declared.refusal.Refusal.{Refusal}
 use Rattle.model.specs.State.{Picker}
@@ -12,7 +12,6 @@ use Rattle.memory_layout.specs.declared.shape.Shape.{Shape}
 use Rattle.picker_calls.specs.Calling.{answer_on, refusal_on}
 use Rattle.picker_calls.specs.Cores.{lending, Stood}
 use Rattle.picker_answers.specs.declared.admitted.Admitted.{Admitted}
-use Rattle.picker_answers.specs.declared.admitted.Admitted.TheVariants.{Refused, To}
 
 -- with any records that the rows are, this is the answer
 pub record CoreAnswered (words cells rows : List ℕ) (lent : ℕ) (q : Question) (r : Answer) : Type 0 where
@@ -33,8 +32,8 @@ pub record Granted (rule : Picker → Option Refusal) (Fits : Shape → Type 0) 
 
 -- every question of the rule is refused so, whatever records the rows are; or none is
 unfoldable pub AdmittedBy : (rule : Picker → Option Refusal) (Fits : Shape → Type 0) (words cells rows counts : List ℕ) (lent : ℕ)
-    (v : Admitted) → Type 0
-AdmittedBy rule Fits words cells rows counts lent (Refused why) =
+    (v : Result Admitted Refusal) → Type 0
+AdmittedBy rule Fits words cells rows counts lent (Err why) =
     (partials : List Record) → length partials ≡ lent → rows ≡ rows_of words partials → (q : Question) → Ruled rule q
     → refusal_on (lending words cells partials) (question q) ≡ some why
-AdmittedBy rule Fits words cells rows counts lent (To s live) = Granted rule Fits s live lent rows counts words cells
+AdmittedBy rule Fits words cells rows counts lent (Ok a) = Granted rule Fits a.shape a.live lent rows counts words cells

@@ -12,14 +12,14 @@ use ask_piece::blocks_in_piece;
 use memory_fields::{is_dirty, list_length};
 use memory_layout::Shape;
 use memory_records::live_records;
-use picker_calls::{Admission, admit};
+use picker_calls::admit;
 use types::{Refusal, u64_to_usize};
 
-// Refused, or a picker of this shape with so many partials.
+// A picker of this shape, with so many partials.
 #[derive(Drop)]
-pub enum Admitted {
-    Refused(Refusal),
-    To(Shape, usize),
+pub struct Admitted {
+    pub shape: Shape,
+    pub live: usize,
 }
 
 // 2 and 3: of the picker, and at a place that may be any.
@@ -29,15 +29,16 @@ pub fn admit_picker(
     rows: &[u32],
     lent: usize,
     counts: &mut [u16],
-) -> Admitted
+) -> Result<Admitted, Refusal>
     requires { (length rows.now ≡ 1536) × (length counts.old ≡ 1536) }
     ensures { AdmittedBy (λ d. none) (λ s. Unit {0}) words.now cells.now rows.now
         counts.new lent result }
 {
-    match admit(words, cells, rows, lent, counts) {
-        Admission::Refused(why) => Admitted::Refused(why),
-        Admission::At(s) => Admitted::To(s, live_records(words)),
-    }
+    let shape = admit(words, cells, rows, lent, counts)?;
+    Ok(Admitted {
+        shape,
+        live: live_records(words),
+    })
 }
 
 // 2, 3 and 5: of piece i.
@@ -48,20 +49,19 @@ pub fn admit_piece(
     lent: usize,
     counts: &mut [u16],
     i: usize,
-) -> Admitted
+) -> Result<Admitted, Refusal>
     requires { (length rows.now ≡ 1536) × (length counts.old ≡ 1536) }
     ensures { AdmittedBy (λ d. refuse_bad_piece d i none) (λ s. i < s.pieces) words.now cells.now
         rows.now counts.new lent result }
 {
-    match admit(words, cells, rows, lent, counts) {
-        Admission::Refused(why) => Admitted::Refused(why),
-        Admission::At(s) => {
-            if s.pieces <= i {
-                return Admitted::Refused(Refusal::OutOfRange);
-            }
-            Admitted::To(s, live_records(words))
-        }
+    let shape = admit(words, cells, rows, lent, counts)?;
+    if shape.pieces <= i {
+        return Err(Refusal::OutOfRange);
     }
+    Ok(Admitted {
+        shape,
+        live: live_records(words),
+    })
 }
 
 // 2, 3 and 5: of block j of piece i.
@@ -73,23 +73,22 @@ pub fn admit_block(
     counts: &mut [u16],
     i: usize,
     j: usize,
-) -> Admitted
+) -> Result<Admitted, Refusal>
     requires { (length rows.now ≡ 1536) × (length counts.old ≡ 1536) }
     ensures { AdmittedBy (λ d. refuse_bad_block d i j none) (λ s. (i < s.pieces) × (j < blocks_of words.now i))
         words.now cells.now rows.now counts.new lent result }
 {
-    match admit(words, cells, rows, lent, counts) {
-        Admission::Refused(why) => Admitted::Refused(why),
-        Admission::At(s) => {
-            if s.pieces <= i {
-                return Admitted::Refused(Refusal::OutOfRange);
-            }
-            if u64_to_usize(blocks_in_piece(words, s, i)) <= j {
-                return Admitted::Refused(Refusal::OutOfRange);
-            }
-            Admitted::To(s, live_records(words))
-        }
+    let shape = admit(words, cells, rows, lent, counts)?;
+    if shape.pieces <= i {
+        return Err(Refusal::OutOfRange);
     }
+    if u64_to_usize(blocks_in_piece(words, shape, i)) <= j {
+        return Err(Refusal::OutOfRange);
+    }
+    Ok(Admitted {
+        shape,
+        live: live_records(words),
+    })
 }
 
 // Past the end of a list that is not dirty.
@@ -111,18 +110,17 @@ pub fn admit_place(
     lent: usize,
     counts: &mut [u16],
     k: usize,
-) -> Admitted
+) -> Result<Admitted, Refusal>
     requires { (length rows.now ≡ 1536) × (length counts.old ≡ 1536) }
     ensures { AdmittedBy (λ d. check (no_place d.listing k) OutOfRange none) (λ s. Unit {0}) words.now
         cells.now rows.now counts.new lent result }
 {
-    match admit(words, cells, rows, lent, counts) {
-        Admission::Refused(why) => Admitted::Refused(why),
-        Admission::At(s) => {
-            if past_list(words, s, k) {
-                return Admitted::Refused(Refusal::OutOfRange);
-            }
-            Admitted::To(s, live_records(words))
-        }
+    let shape = admit(words, cells, rows, lent, counts)?;
+    if past_list(words, shape, k) {
+        return Err(Refusal::OutOfRange);
     }
+    Ok(Admitted {
+        shape,
+        live: live_records(words),
+    })
 }

@@ -2,7 +2,5 @@
 #![tactic(auto)]
 
 mod admitted;
-mod answers;
 
 pub use admitted::{Admitted, admit_block, admit_picker, admit_piece, admit_place};
-pub use answers::{FlagAnswer, NumberAnswer};

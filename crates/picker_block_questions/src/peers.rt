@@ -9,10 +9,10 @@ ghost use Rattle.picker_calls.specs.Cores.{lending};
 ghost use Rattle.picker_answers.specs.Admitting.{CoreAnswered};
 ghost use Rattle.picker_block_questions.specs.Answers.{peer_answer};
 
-use crate::answers::PeerAnswer;
+use ask_block::PeerOf;
 use memory_records::{DownloadingPiece, live_records, unpack};
-use picker_answers::{Admitted, admit_block};
-use types::{PieceBlock, i32_to_usize};
+use picker_answers::admit_block;
+use types::{PieceBlock, Refusal, i32_to_usize};
 
 fn get_downloader_core(
     words: &[u64],
@@ -20,7 +20,7 @@ fn get_downloader_core(
     rows: &[u32],
     lent: usize,
     block: PieceBlock,
-) -> PeerAnswer
+) -> Result<PeerOf, Refusal>
     requires { length rows.now ≡ 1536 }
     ensures { CoreAnswered words.now cells.now rows.now lent
         (of_block get_downloader (number_of block.piece_index.0) (number_of block.block_index)) (peer_answer result) }
@@ -28,12 +28,8 @@ fn get_downloader_core(
     let mut counts = [0; 1536];
     let i = block.piece_index.number();
     let j = i32_to_usize(block.block_index);
-    match admit_block(words, cells, rows, lent, &mut counts, i, j) {
-        Admitted::Refused(why) => PeerAnswer::Refused(why),
-        Admitted::To(s, live) => PeerAnswer::Replied(ask_block::get_downloader(
-            words, cells, rows, live, s, i, j,
-        )),
-    }
+    let picker = admit_block(words, cells, rows, lent, &mut counts, i, j)?;
+    Ok(ask_block::get_downloader(words, cells, rows, picker.live, picker.shape, i, j))
 }
 
 // The peer of a block that is not free.
@@ -42,7 +38,7 @@ pub fn get_downloader(
     cells: &[u16],
     partials: &[DownloadingPiece],
     block: PieceBlock,
-) -> PeerAnswer
+) -> Result<PeerOf, Refusal>
     ensures { peer_answer result ≡ answer_on (lending words.now cells.now partials.now)
         (question (of_block get_downloader (number_of block.piece_index.0) (number_of block.block_index))) }
 {
@@ -58,7 +54,7 @@ fn block_peer_core(
     rows: &[u32],
     lent: usize,
     block: PieceBlock,
-) -> PeerAnswer
+) -> Result<PeerOf, Refusal>
     requires { length rows.now ≡ 1536 }
     ensures { CoreAnswered words.now cells.now rows.now lent
         (of_block block_peer (number_of block.piece_index.0) (number_of block.block_index)) (peer_answer result) }
@@ -66,12 +62,8 @@ fn block_peer_core(
     let mut counts = [0; 1536];
     let i = block.piece_index.number();
     let j = i32_to_usize(block.block_index);
-    match admit_block(words, cells, rows, lent, &mut counts, i, j) {
-        Admitted::Refused(why) => PeerAnswer::Refused(why),
-        Admitted::To(s, live) => PeerAnswer::Replied(ask_block::block_peer(
-            words, cells, rows, live, s, i, j,
-        )),
-    }
+    let picker = admit_block(words, cells, rows, lent, &mut counts, i, j)?;
+    Ok(ask_block::block_peer(words, cells, rows, picker.live, picker.shape, i, j))
 }
 
 pub fn block_peer(
@@ -79,7 +71,7 @@ pub fn block_peer(
     cells: &[u16],
     partials: &[DownloadingPiece],
     block: PieceBlock,
-) -> PeerAnswer
+) -> Result<PeerOf, Refusal>
     ensures { peer_answer result ≡ answer_on (lending words.now cells.now partials.now)
         (question (of_block block_peer (number_of block.piece_index.0) (number_of block.block_index))) }
 {

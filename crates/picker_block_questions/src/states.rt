@@ -11,10 +11,9 @@ ghost use Rattle.picker_answers.specs.Admitting.{CoreAnswered};
 ghost use Rattle.picker_answers.specs.Answers.{number_answer, flag_answer};
 ghost use Rattle.picker_block_questions.specs.Answers.{block_number_answer};
 
-use crate::answers::BlockNumberAnswer;
 use memory_records::{DownloadingPiece, live_records, unpack};
-use picker_answers::{Admitted, FlagAnswer, NumberAnswer, admit_block};
-use types::{PieceBlock, i32_to_usize, u16_to_u64};
+use picker_answers::admit_block;
+use types::{PieceBlock, Refusal, i32_to_usize, u16_to_u64};
 
 fn num_peers_block_core(
     words: &[u64],
@@ -22,7 +21,7 @@ fn num_peers_block_core(
     rows: &[u32],
     lent: usize,
     block: PieceBlock,
-) -> NumberAnswer
+) -> Result<u64, Refusal>
     requires { length rows.now ≡ 1536 }
     ensures { CoreAnswered words.now cells.now rows.now lent
         (of_block num_peers_block (number_of block.piece_index.0) (number_of block.block_index)) (number_answer result) }
@@ -30,12 +29,8 @@ fn num_peers_block_core(
     let mut counts = [0; 1536];
     let i = block.piece_index.number();
     let j = i32_to_usize(block.block_index);
-    match admit_block(words, cells, rows, lent, &mut counts, i, j) {
-        Admitted::Refused(why) => NumberAnswer::Refused(why),
-        Admitted::To(s, live) => NumberAnswer::Replied(u16_to_u64(ask_block::num_peers_block(
-            words, cells, rows, live, s, i, j,
-        ))),
-    }
+    let picker = admit_block(words, cells, rows, lent, &mut counts, i, j)?;
+    Ok(u16_to_u64(ask_block::num_peers_block(words, cells, rows, picker.live, picker.shape, i, j)))
 }
 
 // How many asked for the block: none where no partial stands.
@@ -44,7 +39,7 @@ pub fn num_peers_block(
     cells: &[u16],
     partials: &[DownloadingPiece],
     block: PieceBlock,
-) -> NumberAnswer
+) -> Result<u64, Refusal>
     ensures { number_answer result ≡ answer_on (lending words.now cells.now partials.now)
         (question (of_block num_peers_block (number_of block.piece_index.0) (number_of block.block_index))) }
 {
@@ -60,7 +55,7 @@ fn is_requested_core(
     rows: &[u32],
     lent: usize,
     block: PieceBlock,
-) -> FlagAnswer
+) -> Result<bool, Refusal>
     requires { length rows.now ≡ 1536 }
     ensures { CoreAnswered words.now cells.now rows.now lent
         (of_block is_requested (number_of block.piece_index.0) (number_of block.block_index)) (flag_answer result) }
@@ -68,12 +63,8 @@ fn is_requested_core(
     let mut counts = [0; 1536];
     let i = block.piece_index.number();
     let j = i32_to_usize(block.block_index);
-    match admit_block(words, cells, rows, lent, &mut counts, i, j) {
-        Admitted::Refused(why) => FlagAnswer::Refused(why),
-        Admitted::To(s, live) => FlagAnswer::Replied(ask_block::is_requested(
-            words, cells, rows, live, s, i, j,
-        )),
-    }
+    let picker = admit_block(words, cells, rows, lent, &mut counts, i, j)?;
+    Ok(ask_block::is_requested(words, cells, rows, picker.live, picker.shape, i, j))
 }
 
 pub fn is_requested(
@@ -81,7 +72,7 @@ pub fn is_requested(
     cells: &[u16],
     partials: &[DownloadingPiece],
     block: PieceBlock,
-) -> FlagAnswer
+) -> Result<bool, Refusal>
     ensures { flag_answer result ≡ answer_on (lending words.now cells.now partials.now)
         (question (of_block is_requested (number_of block.piece_index.0) (number_of block.block_index))) }
 {
@@ -97,7 +88,7 @@ fn is_downloaded_core(
     rows: &[u32],
     lent: usize,
     block: PieceBlock,
-) -> FlagAnswer
+) -> Result<bool, Refusal>
     requires { length rows.now ≡ 1536 }
     ensures { CoreAnswered words.now cells.now rows.now lent
         (of_block is_downloaded (number_of block.piece_index.0) (number_of block.block_index)) (flag_answer result) }
@@ -105,12 +96,8 @@ fn is_downloaded_core(
     let mut counts = [0; 1536];
     let i = block.piece_index.number();
     let j = i32_to_usize(block.block_index);
-    match admit_block(words, cells, rows, lent, &mut counts, i, j) {
-        Admitted::Refused(why) => FlagAnswer::Refused(why),
-        Admitted::To(s, live) => FlagAnswer::Replied(ask_block::is_downloaded(
-            words, cells, rows, live, s, i, j,
-        )),
-    }
+    let picker = admit_block(words, cells, rows, lent, &mut counts, i, j)?;
+    Ok(ask_block::is_downloaded(words, cells, rows, picker.live, picker.shape, i, j))
 }
 
 // Whether the piece is flushed, or the block is being written or on disk.
@@ -119,7 +106,7 @@ pub fn is_downloaded(
     cells: &[u16],
     partials: &[DownloadingPiece],
     block: PieceBlock,
-) -> FlagAnswer
+) -> Result<bool, Refusal>
     ensures { flag_answer result ≡ answer_on (lending words.now cells.now partials.now)
         (question (of_block is_downloaded (number_of block.piece_index.0) (number_of block.block_index))) }
 {
@@ -135,7 +122,7 @@ fn is_finished_block_core(
     rows: &[u32],
     lent: usize,
     block: PieceBlock,
-) -> FlagAnswer
+) -> Result<bool, Refusal>
     requires { length rows.now ≡ 1536 }
     ensures { CoreAnswered words.now cells.now rows.now lent
         (of_block is_finished_block (number_of block.piece_index.0) (number_of block.block_index)) (flag_answer result) }
@@ -143,12 +130,8 @@ fn is_finished_block_core(
     let mut counts = [0; 1536];
     let i = block.piece_index.number();
     let j = i32_to_usize(block.block_index);
-    match admit_block(words, cells, rows, lent, &mut counts, i, j) {
-        Admitted::Refused(why) => FlagAnswer::Refused(why),
-        Admitted::To(s, live) => FlagAnswer::Replied(ask_block::is_finished_block(
-            words, cells, rows, live, s, i, j,
-        )),
-    }
+    let picker = admit_block(words, cells, rows, lent, &mut counts, i, j)?;
+    Ok(ask_block::is_finished_block(words, cells, rows, picker.live, picker.shape, i, j))
 }
 
 // Whether the piece is flushed, or the block is on disk.
@@ -157,7 +140,7 @@ pub fn is_finished_block(
     cells: &[u16],
     partials: &[DownloadingPiece],
     block: PieceBlock,
-) -> FlagAnswer
+) -> Result<bool, Refusal>
     ensures { flag_answer result ≡ answer_on (lending words.now cells.now partials.now)
         (question (of_block is_finished_block (number_of block.piece_index.0) (number_of block.block_index))) }
 {
@@ -173,7 +156,7 @@ fn block_state_core(
     rows: &[u32],
     lent: usize,
     block: PieceBlock,
-) -> BlockNumberAnswer
+) -> Result<Option<u16>, Refusal>
     requires { length rows.now ≡ 1536 }
     ensures { CoreAnswered words.now cells.now rows.now lent
         (of_block block_state (number_of block.piece_index.0) (number_of block.block_index)) (block_number_answer result) }
@@ -181,12 +164,8 @@ fn block_state_core(
     let mut counts = [0; 1536];
     let i = block.piece_index.number();
     let j = i32_to_usize(block.block_index);
-    match admit_block(words, cells, rows, lent, &mut counts, i, j) {
-        Admitted::Refused(why) => BlockNumberAnswer::Refused(why),
-        Admitted::To(s, live) => BlockNumberAnswer::Replied(ask_block::block_state(
-            words, cells, rows, live, s, i, j,
-        )),
-    }
+    let picker = admit_block(words, cells, rows, lent, &mut counts, i, j)?;
+    Ok(ask_block::block_state(words, cells, rows, picker.live, picker.shape, i, j))
 }
 
 // The number of the block's state.
@@ -195,7 +174,7 @@ pub fn block_state(
     cells: &[u16],
     partials: &[DownloadingPiece],
     block: PieceBlock,
-) -> BlockNumberAnswer
+) -> Result<Option<u16>, Refusal>
     ensures { block_number_answer result ≡ answer_on (lending words.now cells.now partials.now)
         (question (of_block block_state (number_of block.piece_index.0) (number_of block.block_index))) }
 {
@@ -211,7 +190,7 @@ fn block_num_peers_core(
     rows: &[u32],
     lent: usize,
     block: PieceBlock,
-) -> BlockNumberAnswer
+) -> Result<Option<u16>, Refusal>
     requires { length rows.now ≡ 1536 }
     ensures { CoreAnswered words.now cells.now rows.now lent
         (of_block block_num_peers (number_of block.piece_index.0) (number_of block.block_index)) (block_number_answer result) }
@@ -219,12 +198,8 @@ fn block_num_peers_core(
     let mut counts = [0; 1536];
     let i = block.piece_index.number();
     let j = i32_to_usize(block.block_index);
-    match admit_block(words, cells, rows, lent, &mut counts, i, j) {
-        Admitted::Refused(why) => BlockNumberAnswer::Refused(why),
-        Admitted::To(s, live) => BlockNumberAnswer::Replied(ask_block::block_num_peers(
-            words, cells, rows, live, s, i, j,
-        )),
-    }
+    let picker = admit_block(words, cells, rows, lent, &mut counts, i, j)?;
+    Ok(ask_block::block_num_peers(words, cells, rows, picker.live, picker.shape, i, j))
 }
 
 pub fn block_num_peers(
@@ -232,7 +207,7 @@ pub fn block_num_peers(
     cells: &[u16],
     partials: &[DownloadingPiece],
     block: PieceBlock,
-) -> BlockNumberAnswer
+) -> Result<Option<u16>, Refusal>
     ensures { block_number_answer result ≡ answer_on (lending words.now cells.now partials.now)
         (question (of_block block_num_peers (number_of block.piece_index.0) (number_of block.block_index))) }
 {

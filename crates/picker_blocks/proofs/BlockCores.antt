@@ -1,5 +1,6 @@
 -- The cores of the calls of a block, arm by arm: refused by the judge, or done. Piece and block are read off the numbers that are lent, so
 -- each law takes the call by its two numbers. Assumes nothing.
+use Rattle.std.specs.Prelude.{Err, Ok, Result, IsErrAnd, ⊤}
 use mathlib.Core.Path.{◌≡◌, refl, sym, ap, subst, ◌∙◌}
 use mathlib.Core.Bool.{Bool, true, false}
 use mathlib.Core.List.{List}
@@ -22,16 +23,11 @@ use Rattle.memory_layout.proofs.StandingLaws.{stands_shape}
 use Rattle.memory_rows.specs.Lookup.{picker_in}
 use Rattle.change_steps.specs.Whole.{Done, EditRoom}
 use Rattle.change_tally.specs.RowsStanding.{RowsStand}
-use Rattle.picker_calls.specs.declared.admission.Admission.{Admission}
-use Rattle.picker_calls.specs.declared.admission.Admission.TheVariants.{At}
-use Rattle.picker_calls.specs.declared.judgement.Judgement.{Judgement}
-use Rattle.picker_calls.specs.declared.judgement.Judgement.TheVariants.{Refused as No, Passed}
-use Rattle.picker_calls.specs.declared.outcomes.Outcome.{Outcome}
-use Rattle.picker_calls.specs.declared.outcomes.Outcome.TheVariants.{Refused}
-use Rattle.picker_calls.specs.Outcomes.{outcome, judged}
-use Rattle.picker_calls.specs.Cores.{Listless, Stood, Admitted, CoreCalled}
+use Rattle.picker_calls.specs.declared.outcomes.CallStep.{CallStep}
+use Rattle.picker_calls.specs.Outcomes.{judged}
+use Rattle.picker_calls.specs.Cores.{Listless, Stood, Admitted, CoreCalled, CoreGives}
 use Rattle.picker_calls.proofs.CallLaws.{core_done}
-use Rattle.picker_calls.proofs.CoreLaws.{place_left, of_argument, stood_at, denied}
+use Rattle.picker_calls.proofs.CoreLaws.{place_left, of_argument, of_argument_on, stood_at, denied}
 
 -- a peer of 64 bits is the one that is lent
 pub lent_named : (has : Bool) (peer : ℕ) → peer < 2 ^ 64 → lent_peer (named_peer has peer) ≡ named_peer has peer
@@ -39,8 +35,8 @@ unfolding lent_peer
 lent_named true peer h = ap some (omega arith)
 lent_named false peer h = refl
 
-module _ (words cells rows counts : List ℕ) (lent : ℕ) (v : Admission) (g : Admitted words cells rows counts lent v) (s : Shape)
-    (at : v ≡ At s) where
+module _ (words cells rows counts : List ℕ) (lent : ℕ) (v : Result Shape Refusal) (g : Admitted words cells rows counts lent v) (s : Shape)
+    (at : v ≡ Ok s) where
   -- the geometry of an admitted memory
   pub stood_shape : WordsSpan s words × ShapeOf s words
   stood_shape =
@@ -61,20 +57,18 @@ module _ (words cells rows counts : List ℕ) (lent : ℕ) (v : Admission) (g : 
         record { stands = t.stands; many = t.many; counted = t.counted; long_rows = t.long_rows; long_counts = t.long_counts }
 
     module _ (call : ℕ → ℕ → Action) (listless : (i j : ℕ) → Listless (call i j)) (i j i₀ j₀ : ℕ) (ei : i ≡ i₀) (ej : j ≡ j₀)
-        (r : Judgement) (h : judged r ≡ refusal (picker_in live rows words cells) (call i j)) where
+        (r : Result ⊤ Refusal) (h : judged r ≡ refusal (picker_in live rows words cells) (call i j)) where
       -- refused by the judge
-      pub block_denied : (why : Refusal) → r ≡ No why → (out : Outcome) (count : ℕ) (edit : Edit)
-          → (out ≡ Refused why) × (count ≡ 0) × (edit ≡ Keep)
-          → CoreCalled words cells rows lent (call i₀ j₀) words cells (outcome out) count edit
-      block_denied why e out count edit f =
+      pub block_denied : (why : Refusal) → r ≡ Err why → (q : Result CallStep Refusal) → IsErrAnd q (λ x. x ≡ why)
+          → CoreGives words cells rows lent (call i₀ j₀) words cells q
+      block_denied why e q k =
           let t = stood_at words cells rows counts lent v g s at in
-          of_argument (λ (x : ℕ × ℕ). call x.0 x.1) (i, j) (i₀, j₀) (λ k. (ei k, ej k)) words cells rows lent words cells
-          (outcome out) count edit
+          of_argument_on (λ (x : ℕ × ℕ). call x.0 x.1) (i, j) (i₀, j₀) (λ l. (ei l, ej l)) words cells rows lent words cells q
           (denied s lent rows counts words cells t (call i j) (listless i j) r
-          (subst (λ (n : ℕ). judged r ≡ refusal (picker_in n rows words cells) (call i j)) (many ∙ sym t.rowed) h) why e out count edit f)
+          (subst (λ (n : ℕ). judged r ≡ refusal (picker_in n rows words cells) (call i j)) (many ∙ sym t.rowed) h) why e q k)
 
       -- done: the answer and the picker after it
-      module _ (e : r ≡ Passed) (edit : Edit) (room : EditRoom s live edit) (words' cells' : List ℕ) where
+      module _ (e : r ≡ (Ok tt)) (edit : Edit) (room : EditRoom s live edit) (words' cells' : List ℕ) where
         pub block_acted : (answer : Answer) (after : Picker) → act (picker_in live rows words cells) (call i j) ≡ answering answer after
             → Changed s after words cells (edit_records edit (records_in live rows)) words' cells'
             → CoreCalled words cells rows lent (call i₀ j₀) words' cells' answer live edit

@@ -1,4 +1,5 @@
 -- 4 and 5 of the table, of a block: what a test that holds says, and what is left where none does. Assumes nothing.
+use Rattle.std.specs.Prelude.{Err, Ok, Result, IsErrAnd, ⊤}
 use mathlib.Core.Path.{◌≡◌, refl, sym, ap, ◌∙◌}
 use mathlib.Core.List.{List}
 use mathlib.Core.Option.{Option, none, some}
@@ -17,18 +18,16 @@ use Rattle.memory_layout.specs.declared.shape.Shape.{Shape}
 use Rattle.memory_layout.specs.Decode.{blocks_of, decode}
 use Rattle.memory_layout.specs.Standing.{Stands}
 use Rattle.memory_layout.proofs.Meanings.{blocks_of_is}
-use Rattle.picker_calls.specs.declared.judgement.Judgement.{Judgement}
-use Rattle.picker_calls.specs.declared.judgement.Judgement.TheVariants.{Refused, Passed}
 use Rattle.picker_calls.specs.Outcomes.{judged}
 use Rattle.picker_calls.proofs.JudgeLaws.{check_yes, check_no, piece_yes, piece_no, do_piece_passed, few_passed}
 use Rattle.picker_blocks.specs.BlockJudges.{and_then, BlockJudged}
 
 -- ---- what a judge says
 -- with nothing behind it
-judged_alone : (r : Judgement) → judged r ≡ and_then r none
+judged_alone : (r : Result ⊤ Refusal) → judged r ≡ and_then r none
 unfolding and_then
-judged_alone (Refused why) = refl
-judged_alone Passed = refl
+judged_alone (Err why) = refl
+judged_alone (Ok tt) = refl
 
 -- ---- 5
 module _ (s : Shape) (records : List Record) (words cells : List ℕ) (t : Stands s records words cells) (i j : ℕ) (r : Option Refusal)
@@ -70,22 +69,23 @@ module _ (s : Shape) (records : List Record) (words cells : List ℕ) (t : Stand
 
 -- ---- 4 and 5 as they are judged
 module _ (s : Shape) (records : List Record) (words cells : List ℕ) (t : Stands s records words cells) (draws : Draws) (i j : ℕ)
-    (r : Judgement) (q : BlockJudged s words draws i j r) where
+    (r : Result ⊤ Refusal) (q : BlockJudged s words draws i j r) where
   -- the whole table
   pub front_alone : judged r ≡ refuse_few_draws draws (refuse_bad_block (decode records words cells) i j none)
   front_alone = judged_alone r ∙ sym (q.is records cells t none)
 
   -- refused, whatever follows
-  pub front_refused : (why : Refusal) → r ≡ Refused why → (rest : Option Refusal)
-      → some why ≡ refuse_few_draws draws (refuse_bad_block (decode records words cells) i j rest)
+  pub front_refused : (why : Refusal) → r ≡ Err why → (z : Result ⊤ Refusal) → IsErrAnd z (λ x. x ≡ why) → (rest : Option Refusal)
+      → judged z ≡ refuse_few_draws draws (refuse_bad_block (decode records words cells) i j rest)
   unfolding and_then
-  front_refused why e rest = sym (q.is records cells t rest ∙ ap (λ (x : Judgement). and_then x rest) e)
+  front_refused why e (Err x) k rest = ap some k ∙ sym (q.is records cells t rest ∙ ap (λ (y : Result ⊤ Refusal). and_then y rest) e)
+  front_refused why e (Ok x) k rest = absurd k
 
-  module _ (e : r ≡ Passed) where
+  module _ (e : r ≡ (Ok tt)) where
     -- left to what follows
     pub front_passed : (rest : Option Refusal) → refuse_few_draws draws (refuse_bad_block (decode records words cells) i j rest) ≡ rest
     unfolding and_then
-    front_passed rest = q.is records cells t rest ∙ ap (λ (x : Judgement). and_then x rest) e
+    front_passed rest = q.is records cells t rest ∙ ap (λ (x : Result ⊤ Refusal). and_then x rest) e
 
     -- there are such a piece and block
     pub front_place : (i < s.pieces) × (j < blocks_of words i)

@@ -9,10 +9,9 @@ ghost use Rattle.ask_picker.specs.Asked.{Asked};
 ghost use Rattle.picker_blocks.specs.MarkJudges.{NoneLeft, MarkJudged};
 
 use crate::blocks::judge_block;
-use ask_block::{BlockOf, block_of, is_requested};
+use ask_block::{block_of, is_requested};
 use memory_fields::{flushed, state};
 use memory_layout::Shape;
-use picker_calls::Judgement;
 use types::Refusal;
 
 // 6: block j of piece i may still be asked for, and as many peers as may be have asked.
@@ -30,7 +29,7 @@ fn num_peers_full(
     ensures { result ≡ block_test num_peers_full
         (block_there (picker_in live rows.now words.now cells.now) i j) }
 {
-    let BlockOf::Block(x) = block_of(words, cells, rows, live, s, i, j) else {
+    let Some(x) = block_of(words, cells, rows, live, s, i, j) else {
         return false;
     };
     (x.state < 2) & (1000 <= x.num_peers)
@@ -55,26 +54,22 @@ pub fn judge_downloading(
     draws: &[u32],
     i: usize,
     j: usize,
-) -> Judgement
+) -> Result<(), Refusal>
     requires { Asked s live rows.now words.now cells.now }
     ensures { MarkJudged (picker_in live rows.now words.now cells.now)
         (λ peer options. do_mark_as_downloading i j peer options draws.now) result }
 {
-    match judge_block(words, s, draws, i, j) {
-        Judgement::Refused(why) => Judgement::Refused(why),
-        Judgement::Passed => {
-            if num_peers_full(words, cells, rows, live, s, i, j) {
-                return Judgement::Refused(Refusal::TooManyPeers);
-            }
-            if flushed(cells, s, i) {
-                return Judgement::Refused(Refusal::HavePiece);
-            }
-            if no_partial_left(cells, live, s, i) {
-                return Judgement::Refused(Refusal::TooManyPartials);
-            }
-            Judgement::Passed
-        }
+    judge_block(words, s, draws, i, j)?;
+    if num_peers_full(words, cells, rows, live, s, i, j) {
+        return Err(Refusal::TooManyPeers);
     }
+    if flushed(cells, s, i) {
+        return Err(Refusal::HavePiece);
+    }
+    if no_partial_left(cells, live, s, i) {
+        return Err(Refusal::TooManyPartials);
+    }
+    Ok(())
 }
 
 // 4, 5 and 10.
@@ -87,20 +82,16 @@ pub fn judge_writing(
     draws: &[u32],
     i: usize,
     j: usize,
-) -> Judgement
+) -> Result<(), Refusal>
     requires { Asked s live rows.now words.now cells.now }
     ensures { MarkJudged (picker_in live rows.now words.now cells.now)
         (λ peer options. do_mark_as_writing i j peer draws.now) result }
 {
-    match judge_block(words, s, draws, i, j) {
-        Judgement::Refused(why) => Judgement::Refused(why),
-        Judgement::Passed => {
-            if no_partial_left(cells, live, s, i) {
-                return Judgement::Refused(Refusal::TooManyPartials);
-            }
-            Judgement::Passed
-        }
+    judge_block(words, s, draws, i, j)?;
+    if no_partial_left(cells, live, s, i) {
+        return Err(Refusal::TooManyPartials);
     }
+    Ok(())
 }
 
 // 4, 5, 9 and 10.
@@ -113,21 +104,17 @@ pub fn judge_finished(
     draws: &[u32],
     i: usize,
     j: usize,
-) -> Judgement
+) -> Result<(), Refusal>
     requires { Asked s live rows.now words.now cells.now }
     ensures { MarkJudged (picker_in live rows.now words.now cells.now)
         (λ peer options. do_mark_as_finished i j peer draws.now) result }
 {
-    match judge_block(words, s, draws, i, j) {
-        Judgement::Refused(why) => Judgement::Refused(why),
-        Judgement::Passed => {
-            if is_requested(words, cells, rows, live, s, i, j) {
-                return Judgement::Refused(Refusal::NotWriting);
-            }
-            if no_partial_left(cells, live, s, i) {
-                return Judgement::Refused(Refusal::TooManyPartials);
-            }
-            Judgement::Passed
-        }
+    judge_block(words, s, draws, i, j)?;
+    if is_requested(words, cells, rows, live, s, i, j) {
+        return Err(Refusal::NotWriting);
     }
+    if no_partial_left(cells, live, s, i) {
+        return Err(Refusal::TooManyPartials);
+    }
+    Ok(())
 }

@@ -1,4 +1,5 @@
 -- What the test of the memory says of a call: refused for its memory, or all that a call may rely on. Assumes nothing.
+use Rattle.std.specs.Prelude.{Err, Ok, Result, IsErrAnd, ⊤}
 use mathlib.Core.Path.{◌≡◌, refl, sym, ap, subst, ◌∙◌}
 use mathlib.Core.Bool.{Bool, true, false, not}
 use mathlib.Core.List.{List}
@@ -17,12 +18,9 @@ use Rattle.memory_layout.specs.Decode.{head_word, decode}
 use Rattle.memory_layout.specs.Bounds.{ShapeOf}
 use Rattle.memory_layout.specs.Good.{short, good_body, or_else, memory_refusal}
 use Rattle.check_partials.specs.Records.{CountsHeld}
-use Rattle.check_memory.specs.declared.verdict.Verdict.{Verdict}
-use Rattle.check_memory.specs.declared.verdict.Verdict.TheVariants.{Good}
 use Rattle.check_memory.specs.Verdicts.{refusal_of, Checked}
 use Rattle.check_memory.proofs.Standing.{parts_pass}
 use Rattle.check_memory.proofs.Passing.{passed_stands}
-use Rattle.picker_calls.specs.declared.admission.Admission.TheVariants.{Refused, At}
 use Rattle.picker_calls.specs.Calling.{Lent, picker_on, memory_on, of_memory, refusal_on}
 use Rattle.picker_calls.specs.Cores.{lending, Admitted}
 use Rattle.memory_records.proofs.laws.LiveLaws.{live_few}
@@ -73,16 +71,23 @@ module _ (m : Lent) (a : Action) (listless : of_memory (refusal (picker_on m) a)
   admitted_memory h = listed_not ∙ more_none _ _ _ _ (refusal (picker_on m) a) h
 
 -- ---- the verdict
-module _ (words cells rows counts : List ℕ) (lent : ℕ) (v : Verdict) (c : Checked v lent rows words cells counts) where
-  pub refused_verdict : (why : Refusal) → refusal_of v ≡ some why → Admitted words cells rows counts lent (Refused why)
-  unfolding Admitted memory_on
-  refused_verdict why e = λ partials l r a n.
+-- a refusal as `?` passes it on
+pub as_passed_on : (words cells rows counts : List ℕ) (lent : ℕ) (why : Refusal) (r : Result Shape Refusal) → IsErrAnd r (λ e. e ≡ why)
+    → Admitted words cells rows counts lent (Err why) → Admitted words cells rows counts lent r
+as_passed_on words cells rows counts lent why (Err e) k h = subst (λ (x : Refusal). Admitted words cells rows counts lent (Err x)) (sym k) h
+as_passed_on words cells rows counts lent why (Ok s) k h = absurd k
+
+module _ (words cells rows counts : List ℕ) (lent : ℕ) (v : Result ⊤ Refusal) (c : Checked v lent rows words cells counts) where
+  pub refused_verdict : (why : Refusal) → v ≡ Err why → (r : Result Shape Refusal) → IsErrAnd r (λ e. e ≡ why)
+      → Admitted words cells rows counts lent r
+  unfolding Admitted memory_on refusal_of
+  refused_verdict why e r k = as_passed_on words cells rows counts lent why r k (λ partials l r a n.
       refused_memory (lending words cells partials) a (n (picker_on (lending words cells partials))) why
       (sym (memory_live words cells partials)
       ∙ subst (λ (k : ℕ). memory_refusal k (records_in (live_records words) (rows_of words partials)) words cells ≡ some why) (sym l)
-      (subst (λ (zs : List ℕ). memory_refusal lent (records_in (live_records words) zs) words cells ≡ some why) r (sym c.is ∙ e)))
+      (subst (λ (zs : List ℕ). memory_refusal lent (records_in (live_records words) zs) words cells ≡ some why) r (sym c.is ∙ ap refusal_of e))))
 
-  module _ (good : v ≡ Good) where
+  module _ (good : v ≡ Ok tt) where
     abbrev passed : memory_refusal lent (records_in (live_records words) rows) words cells ≡ none
     unfolding refusal_of
     passed = sym c.is ∙ ap refusal_of good
@@ -104,7 +109,7 @@ module _ (words cells rows counts : List ℕ) (lent : ℕ) (v : Verdict) (c : Ch
           (omega (arith, stand.bounds.partials, stand.bounds.spans.in_words.sizes.places, places_min s.pieces))
 
       -- what a call may rely on
-      pub good_stood : Admitted words cells rows counts lent (At s)
+      pub good_stood : Admitted words cells rows counts lent (Ok s)
       unfolding Admitted
       good_stood = record {
         stands = subst (λ (n : ℕ). Stands s (records_in n rows) words cells) number stand;

@@ -1,5 +1,6 @@
 -- The cores of public changes, arm by arm: refused for the memory, refused by the judge, done. A core's proof cites one law for each arm.
 -- Assumes nothing.
+use Rattle.std.specs.Prelude.{Err, Ok, Result, IsErrAnd, ⊤}
 use mathlib.Core.Path.{◌≡◌, refl, sym, ap, subst, ◌∙◌}
 use mathlib.Core.Bool.{Bool}
 use mathlib.Core.List.{List}
@@ -21,15 +22,11 @@ use Rattle.memory_layout.specs.declared.shape.Shape.{Shape}
 use Rattle.memory_layout.specs.Decode.{head_word}
 use Rattle.memory_layout.specs.Standing.{Changed, StandsBeside, edit_records}
 use Rattle.memory_rows.specs.Lookup.{picker_in}
-use Rattle.picker_calls.specs.declared.admission.Admission.{Admission}
-use Rattle.picker_calls.specs.declared.admission.Admission.TheVariants.{Refused as Barred, At}
-use Rattle.picker_calls.specs.declared.judgement.Judgement.{Judgement}
-use Rattle.picker_calls.specs.declared.judgement.Judgement.TheVariants.{Refused as No, Passed}
+use Rattle.picker_calls.specs.declared.outcomes.CallStep.{CallStep}
 use Rattle.picker_calls.specs.declared.outcomes.Outcome.{Outcome}
-use Rattle.picker_calls.specs.declared.outcomes.Outcome.TheVariants.{Refused}
-use Rattle.picker_calls.specs.Calling.{Called}
+use Rattle.picker_calls.specs.Calling.{Lent, Called}
 use Rattle.picker_calls.specs.Outcomes.{outcome, judged}
-use Rattle.picker_calls.specs.Cores.{lending, Listless, Stood, Admitted, CoreCalled}
+use Rattle.picker_calls.specs.Cores.{lending, Listless, Stood, Admitted, CoreCalled, CoreGives}
 use Rattle.picker_calls.proofs.CallLaws.{core_refused, core_refuses, core_done}
 
 -- ---- the edit
@@ -54,33 +51,35 @@ keep_insert x e = absurd (subst Keeps e tt)
 
 -- ---- the arguments
 -- what the code makes of an argument is what the definition takes
-module _ {X : Type 0} (action : X → Action) (x y : X) (e : x ≡ y) (words cells rows : List ℕ) (lent : ℕ) (words' cells' : List ℕ)
-    (r : Answer) (count : ℕ) (edit : Edit) where
-  pub of_argument : CoreCalled words cells rows lent (action x) words' cells' r count edit
+module _ {X : Type 0} (action : X → Action) (x y : X) (e : x ≡ y) (words cells rows : List ℕ) (lent : ℕ) (words' cells' : List ℕ) where
+  pub of_argument : (r : Answer) (count : ℕ) (edit : Edit) → CoreCalled words cells rows lent (action x) words' cells' r count edit
       → CoreCalled words cells rows lent (action y) words' cells' r count edit
-  of_argument h = subst (λ (z : X). CoreCalled words cells rows lent (action z) words' cells' r count edit) e h
+  of_argument r count edit h = subst (λ (z : X). CoreCalled words cells rows lent (action z) words' cells' r count edit) e h
+
+  pub of_argument_on : (r : Result CallStep Refusal) → CoreGives words cells rows lent (action x) words' cells' r
+      → CoreGives words cells rows lent (action y) words' cells' r
+  of_argument_on r h = subst (λ (z : X). CoreGives words cells rows lent (action z) words' cells' r) e h
 
 -- ---- refused
--- the arm of a refusal, whatever gives it
+-- the arm of a refusal that `?` passes on
 arm_refused : (words cells rows : List ℕ) (lent : ℕ) (a : Action) (why : Refusal)
-    → CoreCalled words cells rows lent a words cells (refused why) 0 Keep → (out : Outcome) (count : ℕ) (edit : Edit)
-    → (out ≡ Refused why) × (count ≡ 0) × (edit ≡ Keep) → CoreCalled words cells rows lent a words cells (outcome out) count edit
-arm_refused words cells rows lent a why h out count edit f =
-    subst (λ (x : Outcome). CoreCalled words cells rows lent a words cells (outcome x) count edit) (sym f.0)
-    (subst (λ (n : ℕ). CoreCalled words cells rows lent a words cells (refused why) n edit) (sym f.1)
-    (subst (CoreCalled words cells rows lent a words cells (refused why) 0) (sym f.2) h))
+    → CoreCalled words cells rows lent a words cells (refused why) 0 Keep → (r : Result CallStep Refusal) → IsErrAnd r (λ e. e ≡ why)
+    → CoreGives words cells rows lent a words cells r
+arm_refused words cells rows lent a why h (Err e) k =
+    subst (λ (x : Refusal). CoreCalled words cells rows lent a words cells (refused x) 0 Keep) (sym k) h
+arm_refused words cells rows lent a why h (Ok s) k = absurd k
 
-module _ (words cells rows counts : List ℕ) (lent : ℕ) (v : Admission) (g : Admitted words cells rows counts lent v) where
+module _ (words cells rows counts : List ℕ) (lent : ℕ) (v : Result Shape Refusal) (g : Admitted words cells rows counts lent v) where
   -- for the memory
-  pub barred : (why : Refusal) → v ≡ Barred why → (a : Action) → Listless a → (out : Outcome) (count : ℕ) (edit : Edit)
-      → (out ≡ Refused why) × (count ≡ 0) × (edit ≡ Keep) → CoreCalled words cells rows lent a words cells (outcome out) count edit
+  pub barred : (why : Refusal) → v ≡ Err why → (a : Action) → Listless a → (r : Result CallStep Refusal) → IsErrAnd r (λ x. x ≡ why)
+      → CoreGives words cells rows lent a words cells r
   unfolding Admitted
   barred why e a listless =
       let h = subst (Admitted words cells rows counts lent) e g in
       arm_refused words cells rows lent a why (core_refused words cells rows lent a why (λ partials l r. h partials l r a listless))
 
   -- what an admitted memory gives
-  pub stood_at : (s : Shape) → v ≡ At s → Stood s (head_word words 7) lent rows counts words cells
+  pub stood_at : (s : Shape) → v ≡ Ok s → Stood s (head_word words 7) lent rows counts words cells
   unfolding Admitted
   stood_at s e = subst (Admitted words cells rows counts lent) e g
 
@@ -90,17 +89,17 @@ module _ (s : Shape) (lent : ℕ) (rows counts words cells : List ℕ) (t : Stoo
   pub stood_beside : StandsBeside s words cells
   stood_beside = record { records = records_in (head_word words 7) rows; stands = t.stands }
 
-  module _ (a : Action) (listless : Listless a) (j : Judgement) (h : judged j ≡ refusal (picker_in (head_word words 7) rows words cells) a)
+  module _ (a : Action) (listless : Listless a) (j : Result ⊤ Refusal) (h : judged j ≡ refusal (picker_in (head_word words 7) rows words cells) a)
     where
       -- refused by the judge
-      pub denied : (why : Refusal) → j ≡ No why → (out : Outcome) (count : ℕ) (edit : Edit)
-          → (out ≡ Refused why) × (count ≡ 0) × (edit ≡ Keep) → CoreCalled words cells rows lent a words cells (outcome out) count edit
+      pub denied : (why : Refusal) → j ≡ Err why → (r : Result CallStep Refusal) → IsErrAnd r (λ x. x ≡ why)
+          → CoreGives words cells rows lent a words cells r
       denied why e =
           arm_refused words cells rows lent a why
           (core_refuses s (head_word words 7) lent rows counts words cells t a listless why (sym h ∙ ap judged e))
 
       -- not refused
-      pub passed : j ≡ Passed → refusal (picker_in (head_word words 7) rows words cells) a ≡ none
+      pub passed : j ≡ (Ok tt) → refusal (picker_in (head_word words 7) rows words cells) a ≡ none
       passed e = sym h ∙ ap judged e
 
 -- ---- done
@@ -156,3 +155,9 @@ pub core_called : (words cells : List ℕ) (partials : List Record) (a : Action)
 core_called words cells partials a words' cells' r count edit h after e =
     subst (λ (ds : List Record). Called (lending words cells partials) a (lending words' cells' ds) r) (sym e)
     (h.done partials refl refl).1
+
+-- what a public change makes of its core's refusal, which `?` passes on
+pub called_on : (entry : Lent) (a : Action) (exit : Lent) (why : Refusal) → Called entry a exit (refused why) → (r : Result Outcome Refusal)
+    → IsErrAnd r (λ e. e ≡ why) → Called entry a exit (outcome r)
+called_on entry a exit why h (Err e) k = subst (λ (x : Refusal). Called entry a exit (refused x)) (sym k) h
+called_on entry a exit why h (Ok x) k = absurd k

@@ -1,10 +1,12 @@
 -- The core of a public call sees the records as rows: what it says is said of all records that these rows are. Assumes nothing.
-use Rattle.std.specs.Prelude.{◌≡◌, false, List, ℕ, length}
+use Rattle.std.specs.Prelude.{◌≡◌, false, List, ℕ, length, Err, Ok, Result}
+use Rattle.types.specs.declared.refusal.Refusal.{Refusal}
 use Rattle.std.proofs.Math.Option.{none, some}
 use Rattle.model.specs.State.{Picker}
-use Rattle.model.specs.Calls.{Action, Answer, refusal}
+use Rattle.model.specs.Calls.{Action, Answer, refused, refusal}
 use Rattle.memory_records.specs.declared.record.DownloadingPiece.{DownloadingPiece as Record}
 use Rattle.memory_records.specs.declared.edits.Edit.{Edit}
+use Rattle.memory_records.specs.declared.edits.Edit.TheVariants.{Keep}
 use Rattle.memory_records.specs.Records.{EditFits, edited}
 use Rattle.memory_records.specs.Rows.{rows_of, live_records, records_in}
 use Rattle.memory_layout.specs.declared.shape.Shape.{Shape}
@@ -13,8 +15,8 @@ use Rattle.memory_layout.specs.Standing.{Stands}
 use Rattle.memory_layout.specs.Good.{memory_refusal}
 use Rattle.check_partials.specs.Records.{CountsHeld}
 use Rattle.memory_rows.specs.Lookup.{picker_in}
-use Rattle.picker_calls.specs.declared.admission.Admission.{Admission}
-use Rattle.picker_calls.specs.declared.admission.Admission.TheVariants.{Refused, At}
+use Rattle.picker_calls.specs.declared.outcomes.CallStep.{CallStep}
+use Rattle.picker_calls.specs.Outcomes.{outcome}
 use Rattle.picker_calls.specs.Calling.{Lent, Called, refusal_on, of_memory}
 
 -- the three buffers
@@ -26,6 +28,12 @@ pub record CoreCalled (words cells rows : List ℕ) (lent : ℕ) (a : Action) (w
     : Type 0 where
   pub done : (partials : List Record) → length partials ≡ lent → rows ≡ rows_of words partials
       → EditFits count edit partials × Called (lending words cells partials) a (lending words' cells' (edited count edit partials)) r
+
+-- what a core gives: a refusal, and no record changes; or a call that is done, with the edit to make
+abbrev pub CoreGives : (words cells rows : List ℕ) (lent : ℕ) (a : Action) (words' cells' : List ℕ) (r : Result CallStep Refusal) → Type 0
+CoreGives words cells rows lent a words' cells' (Err why) = CoreCalled words cells rows lent a words' cells' (refused why) 0 Keep
+CoreGives words cells rows lent a words' cells' (Ok s) =
+    CoreCalled words cells rows lent a words' cells' (outcome (Ok s.out)) s.count s.edit
 
 -- ---- the memory's verdict
 -- an action that is lent no places for records
@@ -43,8 +51,8 @@ pub record Stood (s : Shape) (live lent : ℕ) (rows counts words cells : List �
   pub passed : memory_refusal lent (records_in live rows) words cells ≡ none
 
 -- refused for its memory, whatever records the rows are; or a picker of this shape stands there
-unfoldable pub Admitted : (words cells rows counts : List ℕ) (lent : ℕ) (v : Admission) → Type 0
-Admitted words cells rows counts lent (Refused why) =
+unfoldable pub Admitted : (words cells rows counts : List ℕ) (lent : ℕ) (v : Result Shape Refusal) → Type 0
+Admitted words cells rows counts lent (Err why) =
     (partials : List Record) → length partials ≡ lent → rows ≡ rows_of words partials → (a : Action) → Listless a
     → refusal_on (lending words cells partials) a ≡ some why
-Admitted words cells rows counts lent (At s) = Stood s (head_word words 7) lent rows counts words cells
+Admitted words cells rows counts lent (Ok s) = Stood s (head_word words 7) lent rows counts words cells

@@ -2,9 +2,7 @@
 #![tactic(auto)]
 
 mod admission;
-mod judgement;
 mod outcomes;
 
-pub use admission::{Admission, admit};
-pub use judgement::Judgement;
-pub use outcomes::{CallStep, Outcome, refused};
+pub use admission::admit;
+pub use outcomes::{CallStep, Outcome};

@@ -6,30 +6,36 @@ ghost use Rattle.memory_layout.specs.Standing.{StandsBeside};
 ghost use Rattle.picker_calls.specs.Outcomes.{outcome};
 ghost use Rattle.picker_calls.specs.Judges.{JudgedBeside};
 ghost use Rattle.picker_calls.specs.Calling.{Called};
-ghost use Rattle.picker_calls.specs.Cores.{lending, CoreCalled};
+ghost use Rattle.picker_calls.specs.Cores.{lending, CoreGives};
 
 use ask_piece::get_availability;
 use memory_edits::apply;
 use memory_layout::Shape;
 use memory_records::{DownloadingPiece, Edit, live_records, unpack};
-use picker_calls::{Admission, CallStep, Judgement, Outcome, admit, refused};
+use picker_calls::{CallStep, Outcome, admit};
 use types::{MAX_PEERS, PieceIndex, Refusal};
 
 // 4, 5 and 6.
-fn judge_inc_refcount(words: &[u64], cells: &[u16], s: Shape, draws: &[u32], i: usize) -> Judgement
+fn judge_inc_refcount(
+    words: &[u64],
+    cells: &[u16],
+    s: Shape,
+    draws: &[u32],
+    i: usize,
+) -> Result<(), Refusal>
     requires { StandsBeside s words.now cells.now }
     ensures { JudgedBeside s words.now cells.now (do_inc_refcount i draws.now) result }
 {
     if draws.len() < 4352 {
-        return Judgement::Refused(Refusal::FewDraws);
+        return Err(Refusal::FewDraws);
     }
     if s.pieces <= i {
-        return Judgement::Refused(Refusal::OutOfRange);
+        return Err(Refusal::OutOfRange);
     }
     if MAX_PEERS <= get_availability(words, cells, s, i) {
-        return Judgement::Refused(Refusal::TooManyPeers);
+        return Err(Refusal::TooManyPeers);
     }
-    Judgement::Passed
+    Ok(())
 }
 
 fn inc_refcount_core(
@@ -39,31 +45,22 @@ fn inc_refcount_core(
     lent: usize,
     draws: &[u32],
     piece: PieceIndex,
-) -> CallStep
+) -> Result<CallStep, Refusal>
     requires { length rows.now ≡ 1536 }
-    ensures { CoreCalled words.old cells.old rows.now lent
-        (do_inc_refcount (number_of piece.0) draws.now) words.new cells.new
-        (outcome result.out) result.count result.edit }
+    ensures { CoreGives words.old cells.old rows.now lent
+        (do_inc_refcount (number_of piece.0) draws.now) words.new cells.new result }
 {
     let mut counts = [0; 1536];
-    match admit(words, cells, rows, lent, &mut counts) {
-        Admission::Refused(why) => refused(why),
-        Admission::At(s) => {
-            let i = piece.number();
-            match judge_inc_refcount(words, cells, s, draws, i) {
-                Judgement::Refused(why) => refused(why),
-                Judgement::Passed => {
-                    let live = live_records(words);
-                    let used = change_counts::inc_refcount(words, cells, s, i, draws);
-                    CallStep {
-                        out: Outcome::Done(used),
-                        count: live,
-                        edit: Edit::Keep,
-                    }
-                }
-            }
-        }
-    }
+    let s = admit(words, cells, rows, lent, &mut counts)?;
+    let i = piece.number();
+    judge_inc_refcount(words, cells, s, draws, i)?;
+    let live = live_records(words);
+    let used = change_counts::inc_refcount(words, cells, s, i, draws);
+    Ok(CallStep {
+        out: Outcome::Done(used),
+        count: live,
+        edit: Edit::Keep,
+    })
 }
 
 // A peer has the piece. Answers the draws used.
@@ -73,7 +70,7 @@ pub fn inc_refcount(
     partials: &mut [DownloadingPiece],
     draws: &[u32],
     piece: PieceIndex,
-) -> Outcome
+) -> Result<Outcome, Refusal>
     ensures { Called (lending words.old cells.old partials.old)
         (do_inc_refcount (number_of piece.0) draws.now) (lending words.new cells.new partials.new)
         (outcome result) }
@@ -81,26 +78,32 @@ pub fn inc_refcount(
     let mut rows = [0; 1536];
     let live = live_records(words);
     let lent = unpack(partials, live, &mut rows);
-    let r = inc_refcount_core(words, cells, &rows, lent, draws, piece);
+    let r = inc_refcount_core(words, cells, &rows, lent, draws, piece)?;
     apply(partials, r.count, r.edit);
-    r.out
+    Ok(r.out)
 }
 
 // 4, 5 and 7.
-fn judge_dec_refcount(words: &[u64], cells: &[u16], s: Shape, draws: &[u32], i: usize) -> Judgement
+fn judge_dec_refcount(
+    words: &[u64],
+    cells: &[u16],
+    s: Shape,
+    draws: &[u32],
+    i: usize,
+) -> Result<(), Refusal>
     requires { StandsBeside s words.now cells.now }
     ensures { JudgedBeside s words.now cells.now (do_dec_refcount i draws.now) result }
 {
     if draws.len() < 4352 {
-        return Judgement::Refused(Refusal::FewDraws);
+        return Err(Refusal::FewDraws);
     }
     if s.pieces <= i {
-        return Judgement::Refused(Refusal::OutOfRange);
+        return Err(Refusal::OutOfRange);
     }
     if get_availability(words, cells, s, i) == 0 {
-        return Judgement::Refused(Refusal::NoPeerToTake);
+        return Err(Refusal::NoPeerToTake);
     }
-    Judgement::Passed
+    Ok(())
 }
 
 fn dec_refcount_core(
@@ -110,31 +113,22 @@ fn dec_refcount_core(
     lent: usize,
     draws: &[u32],
     piece: PieceIndex,
-) -> CallStep
+) -> Result<CallStep, Refusal>
     requires { length rows.now ≡ 1536 }
-    ensures { CoreCalled words.old cells.old rows.now lent
-        (do_dec_refcount (number_of piece.0) draws.now) words.new cells.new
-        (outcome result.out) result.count result.edit }
+    ensures { CoreGives words.old cells.old rows.now lent
+        (do_dec_refcount (number_of piece.0) draws.now) words.new cells.new result }
 {
     let mut counts = [0; 1536];
-    match admit(words, cells, rows, lent, &mut counts) {
-        Admission::Refused(why) => refused(why),
-        Admission::At(s) => {
-            let i = piece.number();
-            match judge_dec_refcount(words, cells, s, draws, i) {
-                Judgement::Refused(why) => refused(why),
-                Judgement::Passed => {
-                    let live = live_records(words);
-                    let used = change_counts::dec_refcount(words, cells, s, i, draws);
-                    CallStep {
-                        out: Outcome::Done(used),
-                        count: live,
-                        edit: Edit::Keep,
-                    }
-                }
-            }
-        }
-    }
+    let s = admit(words, cells, rows, lent, &mut counts)?;
+    let i = piece.number();
+    judge_dec_refcount(words, cells, s, draws, i)?;
+    let live = live_records(words);
+    let used = change_counts::dec_refcount(words, cells, s, i, draws);
+    Ok(CallStep {
+        out: Outcome::Done(used),
+        count: live,
+        edit: Edit::Keep,
+    })
 }
 
 // A peer has the piece no more. Answers the draws used.
@@ -144,7 +138,7 @@ pub fn dec_refcount(
     partials: &mut [DownloadingPiece],
     draws: &[u32],
     piece: PieceIndex,
-) -> Outcome
+) -> Result<Outcome, Refusal>
     ensures { Called (lending words.old cells.old partials.old)
         (do_dec_refcount (number_of piece.0) draws.now) (lending words.new cells.new partials.new)
         (outcome result) }
@@ -152,7 +146,7 @@ pub fn dec_refcount(
     let mut rows = [0; 1536];
     let live = live_records(words);
     let lent = unpack(partials, live, &mut rows);
-    let r = dec_refcount_core(words, cells, &rows, lent, draws, piece);
+    let r = dec_refcount_core(words, cells, &rows, lent, draws, piece)?;
     apply(partials, r.count, r.edit);
-    r.out
+    Ok(r.out)
 }

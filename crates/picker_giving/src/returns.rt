@@ -4,12 +4,13 @@ ghost use Rattle.model.specs.Calls.{do_abort_download, do_mark_as_canceled};
 ghost use Rattle.picker_blocks.specs.Arguments.{on_block};
 ghost use Rattle.picker_calls.specs.Outcomes.{outcome};
 ghost use Rattle.picker_calls.specs.Calling.{Called};
-ghost use Rattle.picker_calls.specs.Cores.{lending, CoreCalled};
+ghost use Rattle.picker_calls.specs.Cores.{lending, CoreGives};
 
 use memory_edits::apply;
 use memory_records::{DownloadingPiece, live_records, unpack};
 use picker_blocks::{BlockPeer, block_number, judge_block};
-use picker_calls::{Admission, CallStep, Judgement, Outcome, admit, refused};
+use picker_calls::{CallStep, Outcome, admit};
+use types::Refusal;
 
 // ---- abort_download
 fn abort_download_core(
@@ -19,45 +20,35 @@ fn abort_download_core(
     lent: usize,
     draws: &[u32],
     named: BlockPeer,
-) -> CallStep
+) -> Result<CallStep, Refusal>
     requires { length rows.now ≡ 1536 }
-    ensures { CoreCalled words.old cells.old rows.now lent
-        (on_block do_abort_download named draws.now) words.new cells.new
-        (outcome result.out) result.count result.edit }
+    ensures { CoreGives words.old cells.old rows.now lent
+        (on_block do_abort_download named draws.now) words.new cells.new result }
 {
     let mut counts = [0; 1536];
-    match admit(words, cells, rows, lent, &mut counts) {
-        Admission::Refused(why) => refused(why),
-        Admission::At(s) => {
-            let i = named.block.piece_index.number();
-            let j = block_number(named.block);
-            match judge_block(words, s, draws, i, j) {
-                Judgement::Refused(why) => refused(why),
-                Judgement::Passed => {
-                    let live = live_records(words);
-                    let g = change_giving::abort_download(
-                        words,
-                        cells,
-                        rows,
-                        live,
-                        &counts,
-                        s,
-                        i,
-                        j,
-                        named.has_peer,
-                        named.peer,
-                        draws,
-                    );
-                    let edit = g.edit;
-                    CallStep {
-                        out: Outcome::Done(g.used),
-                        count: live,
-                        edit: edit,
-                    }
-                }
-            }
-        }
-    }
+    let s = admit(words, cells, rows, lent, &mut counts)?;
+    let i = named.block.piece_index.number();
+    let j = block_number(named.block);
+    judge_block(words, s, draws, i, j)?;
+    let live = live_records(words);
+    let g = change_giving::abort_download(
+        words,
+        cells,
+        rows,
+        live,
+        &counts,
+        s,
+        i,
+        j,
+        named.has_peer,
+        named.peer,
+        draws,
+    );
+    Ok(CallStep {
+        out: Outcome::Done(g.used),
+        count: live,
+        edit: g.edit,
+    })
 }
 
 // The peer no longer asks for the block. Answers the draws used.
@@ -67,7 +58,7 @@ pub fn abort_download(
     partials: &mut [DownloadingPiece],
     draws: &[u32],
     named: BlockPeer,
-) -> Outcome
+) -> Result<Outcome, Refusal>
     ensures { Called (lending words.old cells.old partials.old)
         (on_block do_abort_download named draws.now) (lending words.new cells.new partials.new)
         (outcome result) }
@@ -75,9 +66,9 @@ pub fn abort_download(
     let mut rows = [0; 1536];
     let live = live_records(words);
     let lent = unpack(partials, live, &mut rows);
-    let r = abort_download_core(words, cells, &rows, lent, draws, named);
+    let r = abort_download_core(words, cells, &rows, lent, draws, named)?;
     apply(partials, r.count, r.edit);
-    r.out
+    Ok(r.out)
 }
 
 // ---- mark_as_canceled
@@ -88,45 +79,35 @@ fn mark_as_canceled_core(
     lent: usize,
     draws: &[u32],
     named: BlockPeer,
-) -> CallStep
+) -> Result<CallStep, Refusal>
     requires { length rows.now ≡ 1536 }
-    ensures { CoreCalled words.old cells.old rows.now lent
-        (on_block do_mark_as_canceled named draws.now) words.new cells.new
-        (outcome result.out) result.count result.edit }
+    ensures { CoreGives words.old cells.old rows.now lent
+        (on_block do_mark_as_canceled named draws.now) words.new cells.new result }
 {
     let mut counts = [0; 1536];
-    match admit(words, cells, rows, lent, &mut counts) {
-        Admission::Refused(why) => refused(why),
-        Admission::At(s) => {
-            let i = named.block.piece_index.number();
-            let j = block_number(named.block);
-            match judge_block(words, s, draws, i, j) {
-                Judgement::Refused(why) => refused(why),
-                Judgement::Passed => {
-                    let live = live_records(words);
-                    let g = change_giving::mark_as_canceled(
-                        words,
-                        cells,
-                        rows,
-                        live,
-                        &counts,
-                        s,
-                        i,
-                        j,
-                        named.has_peer,
-                        named.peer,
-                        draws,
-                    );
-                    let edit = g.edit;
-                    CallStep {
-                        out: Outcome::Done(g.used),
-                        count: live,
-                        edit: edit,
-                    }
-                }
-            }
-        }
-    }
+    let s = admit(words, cells, rows, lent, &mut counts)?;
+    let i = named.block.piece_index.number();
+    let j = block_number(named.block);
+    judge_block(words, s, draws, i, j)?;
+    let live = live_records(words);
+    let g = change_giving::mark_as_canceled(
+        words,
+        cells,
+        rows,
+        live,
+        &counts,
+        s,
+        i,
+        j,
+        named.has_peer,
+        named.peer,
+        draws,
+    );
+    Ok(CallStep {
+        out: Outcome::Done(g.used),
+        count: live,
+        edit: g.edit,
+    })
 }
 
 // The write of the block, which the peer brought, failed. Answers the draws used.
@@ -136,7 +117,7 @@ pub fn mark_as_canceled(
     partials: &mut [DownloadingPiece],
     draws: &[u32],
     named: BlockPeer,
-) -> Outcome
+) -> Result<Outcome, Refusal>
     ensures { Called (lending words.old cells.old partials.old)
         (on_block do_mark_as_canceled named draws.now) (lending words.new cells.new partials.new)
         (outcome result) }
@@ -144,7 +125,7 @@ pub fn mark_as_canceled(
     let mut rows = [0; 1536];
     let live = live_records(words);
     let lent = unpack(partials, live, &mut rows);
-    let r = mark_as_canceled_core(words, cells, &rows, lent, draws, named);
+    let r = mark_as_canceled_core(words, cells, &rows, lent, draws, named)?;
     apply(partials, r.count, r.edit);
-    r.out
+    Ok(r.out)
 }

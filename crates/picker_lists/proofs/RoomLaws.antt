@@ -1,4 +1,7 @@
 -- What the memory's test and the places of a list say of a question that fills one. Assumes nothing.
+use Rattle.std.specs.Prelude.{Err, Ok, Result, ⊤}
+use Rattle.std.specs.Result.{IsErrAnd}
+use Rattle.std.proofs.lemmas.Result.{err_from_is_err_and}
 use mathlib.Core.Path.{◌≡◌, refl, sym, ap, subst, ◌∙◌}
 use mathlib.Core.Bool.{Bool, true, false, not}
 use mathlib.Core.List.{List}
@@ -23,22 +26,18 @@ use Rattle.memory_layout.specs.Bounds.{ShapeOf}
 use Rattle.memory_layout.specs.Good.{short, good_body, or_else, memory_refusal}
 use Rattle.memory_rows.specs.Lookup.{picker_in}
 use Rattle.check_pieces.proofs.ExtentTests.{pieces_in_lem}
-use Rattle.check_memory.specs.declared.verdict.Verdict.{Verdict}
-use Rattle.check_memory.specs.declared.verdict.Verdict.TheVariants.{Good, Short, IllFormed}
 use Rattle.check_memory.specs.Verdicts.{refusal_of, Checked}
-use Rattle.picker_calls.specs.declared.admission.Admission.{Admission}
-use Rattle.picker_calls.specs.declared.admission.Admission.TheVariants.{Refused as Barred, At}
 use Rattle.picker_calls.specs.Calling.{picker_on, memory_on, refusal_on, of_memory}
 use Rattle.picker_calls.specs.Cores.{lending, Admitted as MemoryAdmitted}
 use Rattle.picker_calls.proofs.LiveLaws.{memory_live}
 use Rattle.picker_calls.proofs.AdmissionLaws.{admitted_memory, good_stood}
 use Rattle.picker_calls.proofs.CallLaws.{stood_picker, stood_memory}
-use Rattle.picker_answers.specs.declared.admitted.Admitted.TheVariants.{Refused, To}
+use Rattle.picker_answers.specs.declared.admitted.Admitted.{Admitted}
 use Rattle.picker_answers.specs.Admitting.{Ruled, Granted, AdmittedBy}
 use Rattle.picker_lists.specs.declared.rooms.Need.{Need}
 use Rattle.picker_lists.specs.declared.rooms.Need.TheVariants.{Pieces, Partials, Blocks}
 use Rattle.picker_lists.specs.Rooms.{need_in, need_of, need_on, short_on, room_rule, Roomy, RoomAdmitted}
-use Rattle.picker_lists.proofs.TableLaws.{memory_tests, list_tests, short_memory, few_places, ill_memory, places_enough}
+use Rattle.picker_lists.proofs.TableLaws.{memory_tests, list_tests, few_places, bad_memory, places_enough}
 
 -- ---- how many places are needed
 need_picker : (need : Need) (records : List Record) (words cells : List ℕ) → need_in need (decode records words cells) ≡ need_on need words
@@ -101,13 +100,13 @@ module _ (need : Need) (room : ℕ) (words cells : List ℕ) where
   -- ---- the verdict
   module _ (rows counts : List ℕ) (lent : ℕ) where
     -- too few places
-    pub room_short : short_on need room words ≡ true → RoomAdmitted need room words cells rows counts lent (Barred ShortMemory)
+    pub room_short : short_on need room words ≡ true → RoomAdmitted need room words cells rows counts lent (Err ShortMemory)
     unfolding RoomAdmitted short_on
     room_short h = λ partials l r rest n q ruled.
         list_table partials rest q ruled
         ∙ few_places headless valid (short (length partials) words cells) few (good_body partials words cells) _ h
 
-    module _ (v : Verdict) (c : Checked v lent rows words cells counts) where
+    module _ (v : Result ⊤ Refusal) (c : Checked v lent rows words cells counts) where
       memory_is : (partials : List Record) → length partials ≡ lent → rows ≡ rows_of words partials
           → memory_tests headless valid (short (length partials) words cells) (good_body partials words cells) ≡ refusal_of v
       unfolding memory_on
@@ -117,22 +116,19 @@ module _ (need : Need) (room : ℕ) (words cells : List ℕ) where
           ∙ subst (λ (k : ℕ). memory_refusal k (records_in (live_records words) (rows_of words partials)) words cells ≡ refusal_of v) (sym l)
           (subst (λ (zs : List ℕ). memory_refusal lent (records_in (live_records words) zs) words cells ≡ refusal_of v) r (sym c.is)))
 
-      pub verdict_short : v ≡ Short → RoomAdmitted need room words cells rows counts lent (Barred ShortMemory)
-      unfolding RoomAdmitted refusal_of
-      verdict_short e = λ partials l r rest n q ruled.
-          list_table partials rest q ruled
-          ∙ short_memory headless valid (short (length partials) words cells) few (good_body partials words cells) _
-          (memory_is partials l r ∙ ap refusal_of e)
-
-      pub verdict_ill : v ≡ IllFormed → short_on need room words ≡ false
-          → RoomAdmitted need room words cells rows counts lent (Barred IllFormedMemory)
+      pub verdict_refused : (why : Refusal) → v ≡ Err why → short_on need room words ≡ false → (r : Result Shape Refusal)
+          → IsErrAnd r (λ x. x ≡ why) → RoomAdmitted need room words cells rows counts lent r
       unfolding RoomAdmitted refusal_of short_on
-      verdict_ill e h = λ partials l r rest n q ruled.
+      verdict_refused why e h r passed =
+          let p = err_from_is_err_and r passed in
+          let same : r ≡ Err why = p.1 ∙ ap Err p.2 in
+          subst (RoomAdmitted need room words cells rows counts lent) (sym same)
+          (λ partials l w rest n q ruled.
           list_table partials rest q ruled
-          ∙ ill_memory headless valid (short (length partials) words cells) few (good_body partials words cells) _
-          (memory_is partials l r ∙ ap refusal_of e) h (n (picker_on (lending words cells partials)))
+          ∙ bad_memory headless valid (short (length partials) words cells) few (good_body partials words cells) _ why
+          (memory_is partials l w ∙ ap refusal_of e) h (n (picker_on (lending words cells partials))))
 
-      module _ (good : v ≡ Good) (h : short_on need room words ≡ false) (s : Shape) (shape : ShapeOf s words)
+      module _ (good : v ≡ Ok tt) (h : short_on need room words ≡ false) (s : Shape) (shape : ShapeOf s words)
           (long_rows : length rows ≡ 1536) where
         whole : memory_refusal lent (records_in (live_records words) rows) words cells ≡ none
         unfolding refusal_of
@@ -144,7 +140,7 @@ module _ (need : Need) (room : ℕ) (words cells : List ℕ) where
             places_enough headless valid (short lent words cells) few (good_body (records_in (live_records words) rows) words cells)
             whole h
 
-        pub verdict_good : RoomAdmitted need room words cells rows counts lent (At s)
+        pub verdict_good : RoomAdmitted need room words cells rows counts lent (Ok s)
         unfolding RoomAdmitted MemoryAdmitted
         verdict_good = record {
           stood = good_stood words cells rows counts lent v c good s shape long_rows;
@@ -152,23 +148,27 @@ module _ (need : Need) (room : ℕ) (words cells : List ℕ) where
         }
 
 -- ---- a list that was admitted
-pub roomy : (need : Need) (room : ℕ) (words cells rows counts : List ℕ) (lent : ℕ) (v : Admission)
-    → RoomAdmitted need room words cells rows counts lent v → (s : Shape) → v ≡ At s
+pub roomy : (need : Need) (room : ℕ) (words cells rows counts : List ℕ) (lent : ℕ) (v : Result Shape Refusal)
+    → RoomAdmitted need room words cells rows counts lent v → (s : Shape) → v ≡ Ok s
     → Roomy need room s (head_word words 7) lent rows counts words cells
 unfolding RoomAdmitted
 roomy need room words cells rows counts lent v g s e = subst (RoomAdmitted need room words cells rows counts lent) e g
 
 module _ (need : Need) (room : ℕ) (rest : Picker → Option Refusal) (not_memory : (d : Picker) → of_memory (rest d) ≡ false)
-    (Fits : Shape → Type 0) (words cells rows counts : List ℕ) (lent : ℕ) (v : Admission)
+    (Fits : Shape → Type 0) (words cells rows counts : List ℕ) (lent : ℕ) (v : Result Shape Refusal)
     (g : RoomAdmitted need room words cells rows counts lent v) where
   -- refused for memory or places
-  pub list_refused : (why : Refusal) → v ≡ Barred why → AdmittedBy (room_rule need room rest) Fits words cells rows counts lent (Refused why)
+  pub list_refused : (why : Refusal) → v ≡ Err why → (r : Result Admitted Refusal) → IsErrAnd r (λ x. x ≡ why)
+      → AdmittedBy (room_rule need room rest) Fits words cells rows counts lent r
   unfolding AdmittedBy RoomAdmitted
-  list_refused why e =
+  list_refused why e r passed =
+      let p = err_from_is_err_and r passed in
       let h = subst (RoomAdmitted need room words cells rows counts lent) e g in
-      λ partials l r q ruled. h partials l r rest not_memory q ruled
+      let same : r ≡ Err why = p.1 ∙ ap Err p.2 in
+      subst (AdmittedBy (room_rule need room rest) Fits words cells rows counts lent) (sym same)
+      (λ partials l w q ruled. h partials l w rest not_memory q ruled)
 
-  module _ (s : Shape) (e : v ≡ At s) where
+  module _ (s : Shape) (e : v ≡ Ok s) where
     abbrev stands : Roomy need room s (head_word words 7) lent rows counts words cells
     stands = roomy need room words cells rows counts lent v g s e
 
@@ -195,12 +195,12 @@ module _ (need : Need) (room : ℕ) (rest : Picker → Option Refusal) (not_memo
         ∙ (rule ∙ ap rest (stood_picker s (head_word words 7) lent rows counts words cells t partials l r))
 
     pub list_past : (why : Refusal) → rest (picker_in (head_word words 7) rows words cells) ≡ some why
-        → AdmittedBy (room_rule need room rest) Fits words cells rows counts lent (Refused why)
+        → AdmittedBy (room_rule need room rest) Fits words cells rows counts lent (Err why)
     unfolding AdmittedBy
     list_past why h = λ partials l r q ruled. rest_only partials l r q ruled ∙ h
 
     pub list_admitted : rest (picker_in (head_word words 7) rows words cells) ≡ none → Fits s → (live : ℕ) → live ≡ live_records words
-        → AdmittedBy (room_rule need room rest) Fits words cells rows counts lent (To s live)
+        → AdmittedBy (room_rule need room rest) Fits words cells rows counts lent (Ok (record { shape = s; live = live }))
     unfolding AdmittedBy
     list_admitted h f live many =
         subst (λ (n : ℕ). Granted (room_rule need room rest) Fits s n lent rows counts words cells) (stands.stood.rowed ∙ sym many)

@@ -23,21 +23,6 @@ list_tests headless valid short few good rest =
     (or_else (of_memory (check few ShortMemory rest)) ShortMemory (or_else (not good) IllFormedMemory (check few ShortMemory rest)))))
 
 -- ---- what they say
-ill_short : some IllFormedMemory ≡ some ShortMemory → ⊥
-unfolding of_memory
-ill_short e = true≢false (sym (ap of_memory e))
-
--- memory that is too short
-pub short_memory : (a v c l d : Bool) (rest : Option Refusal) → memory_tests a v c d ≡ some ShortMemory
-    → list_tests a v c l d rest ≡ some ShortMemory
-unfolding memory_tests list_tests or_else check of_memory
-short_memory true v c l d rest h = refl
-short_memory false false c l d rest h = absurd (ill_short h)
-short_memory false true true l d rest h = refl
-short_memory false true false true d rest h = refl
-short_memory false true false false true rest h = absurd (none-ne-some _ h)
-short_memory false true false false false rest h = absurd (ill_short h)
-
 -- too few places of a geometry that is valid
 pub few_places : (a v c l d : Bool) (rest : Option Refusal) → (not a && (v && l)) ≡ true → list_tests a v c l d rest ≡ some ShortMemory
 unfolding list_tests or_else check of_memory
@@ -47,16 +32,16 @@ few_places false true c false d rest h = absurd (true≢false (sym h))
 few_places false true true true d rest h = refl
 few_places false true false true d rest h = refl
 
--- memory that holds no picker
-pub ill_memory : (a v c l d : Bool) (rest : Option Refusal) → memory_tests a v c d ≡ some IllFormedMemory → (not a && (v && l)) ≡ false
-    → of_memory rest ≡ false → list_tests a v c l d rest ≡ some IllFormedMemory
+-- memory that is too short or holds no picker
+pub bad_memory : (a v c l d : Bool) (rest : Option Refusal) (why : Refusal) → memory_tests a v c d ≡ some why → (not a && (v && l)) ≡ false
+    → of_memory rest ≡ false → list_tests a v c l d rest ≡ some why
 unfolding memory_tests list_tests or_else check
-ill_memory true v c l d rest h r n = absurd (ill_short (sym h))
-ill_memory false false c l d rest h r n = refl
-ill_memory false true true l d rest h r n = absurd (ill_short (sym h))
-ill_memory false true false true d rest h r n = absurd (true≢false r)
-ill_memory false true false false true rest h r n = absurd (none-ne-some _ h)
-ill_memory false true false false false rest h r n = rw n refl
+bad_memory true v c l d rest why h r n = h
+bad_memory false false c l d rest why h r n = h
+bad_memory false true true l d rest why h r n = h
+bad_memory false true false true d rest why h r n = absurd (true≢false r)
+bad_memory false true false false true rest why h r n = absurd (none-ne-some _ h)
+bad_memory false true false false false rest why h r n = rw n h
 
 -- a picker, and places enough
 pub places_enough : (a v c l d : Bool) → memory_tests a v c d ≡ none → (not a && (v && l)) ≡ false → l ≡ false

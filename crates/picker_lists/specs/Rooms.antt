@@ -1,6 +1,6 @@
 -- The places that a question which fills a lent list needs, and 2 of them: between 2 and 3 of the memory, since the geometry decides it.
 -- Assumes nothing.
-use Rattle.std.specs.Prelude.{◌≡◌, Bool, false, not, ◌&&◌, List, ℕ, ◌≤◌, ltb, length}
+use Rattle.std.specs.Prelude.{◌≡◌, Bool, false, not, ◌&&◌, List, ℕ, ◌≤◌, ltb, length, Err, Ok, Result}
 use Rattle.std.proofs.Math.Option.{Option, some}
 use Rattle.types.specs.declared.refusal.Refusal.{Refusal}
 use Rattle.types.specs.declared.refusal.Refusal.TheVariants.{ShortMemory}
@@ -13,8 +13,6 @@ use Rattle.memory_records.specs.Rows.{rows_of}
 use Rattle.memory_layout.specs.declared.shape.Shape.{Shape}
 use Rattle.memory_layout.specs.Offsets.{head_length}
 use Rattle.memory_layout.specs.Decode.{head_word, pieces_on, blocks_on}
-use Rattle.picker_calls.specs.declared.admission.Admission.{Admission}
-use Rattle.picker_calls.specs.declared.admission.Admission.TheVariants.{Refused, At}
 use Rattle.picker_calls.specs.Calling.{refusal_on, of_memory}
 use Rattle.picker_calls.specs.Cores.{lending, Stood}
 use Rattle.picker_answers.specs.Admitting.{Ruled}
@@ -56,9 +54,9 @@ pub record Roomy (need : Need) (room : ℕ) (s : Shape) (live lent : ℕ) (rows 
   pub enough : need_of need s ≤ room
 
 -- refused for memory or places, whatever records the rows are and whatever the rest of the rule says; or neither
-unfoldable pub RoomAdmitted : (need : Need) (room : ℕ) (words cells rows counts : List ℕ) (lent : ℕ) (v : Admission) → Type 0
-RoomAdmitted need room words cells rows counts lent (Refused why) =
+unfoldable pub RoomAdmitted : (need : Need) (room : ℕ) (words cells rows counts : List ℕ) (lent : ℕ) (v : Result Shape Refusal) → Type 0
+RoomAdmitted need room words cells rows counts lent (Err why) =
     (partials : List Record) → length partials ≡ lent → rows ≡ rows_of words partials → (rest : Picker → Option Refusal)
     → ((d : Picker) → of_memory (rest d) ≡ false) → (q : Question) → Ruled (room_rule need room rest) q
     → refusal_on (lending words cells partials) (question q) ≡ some why
-RoomAdmitted need room words cells rows counts lent (At s) = Roomy need room s (head_word words 7) lent rows counts words cells
+RoomAdmitted need room words cells rows counts lent (Ok s) = Roomy need room s (head_word words 7) lent rows counts words cells

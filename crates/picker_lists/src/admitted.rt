@@ -9,7 +9,6 @@ ghost use Rattle.picker_lists.specs.Rooms.{need_of, room_rule};
 use crate::rooms::{Need, admit_room};
 use memory_records::live_records;
 use picker_answers::Admitted;
-use picker_calls::Admission;
 use types::Refusal;
 
 // 2 and 3: a list of the picker.
@@ -21,15 +20,16 @@ pub fn admit_list(
     counts: &mut [u16],
     need: Need,
     room: usize,
-) -> Admitted
+) -> Result<Admitted, Refusal>
     requires { (length rows.now ≡ 1536) × (length counts.old ≡ 1536) }
     ensures { AdmittedBy (room_rule need room (λ d. none)) (λ s. need_of need s ≤ room) words.now cells.now
         rows.now counts.new lent result }
 {
-    match admit_room(words, cells, rows, lent, counts, need, room) {
-        Admission::Refused(why) => Admitted::Refused(why),
-        Admission::At(s) => Admitted::To(s, live_records(words)),
-    }
+    let shape = admit_room(words, cells, rows, lent, counts, need, room)?;
+    Ok(Admitted {
+        shape,
+        live: live_records(words),
+    })
 }
 
 // 2, 3 and 5: a list of piece i.
@@ -41,18 +41,17 @@ pub fn admit_piece_list(
     counts: &mut [u16],
     room: usize,
     i: usize,
-) -> Admitted
+) -> Result<Admitted, Refusal>
     requires { (length rows.now ≡ 1536) × (length counts.old ≡ 1536) }
     ensures { AdmittedBy (room_rule Blocks room (λ d. refuse_bad_piece d i none)) (λ s. (i < s.pieces) × (s.blocks ≤ room))
         words.now cells.now rows.now counts.new lent result }
 {
-    match admit_room(words, cells, rows, lent, counts, Need::Blocks, room) {
-        Admission::Refused(why) => Admitted::Refused(why),
-        Admission::At(s) => {
-            if s.pieces <= i {
-                return Admitted::Refused(Refusal::OutOfRange);
-            }
-            Admitted::To(s, live_records(words))
-        }
+    let shape = admit_room(words, cells, rows, lent, counts, Need::Blocks, room)?;
+    if shape.pieces <= i {
+        return Err(Refusal::OutOfRange);
     }
+    Ok(Admitted {
+        shape,
+        live: live_records(words),
+    })
 }

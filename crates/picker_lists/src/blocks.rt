@@ -6,10 +6,8 @@ ghost use Rattle.picker_calls.specs.Cores.{lending};
 ghost use Rattle.picker_lists.specs.Listing.{tell_peers, tell_blocks, Listed, CoreListed};
 
 use crate::admitted::admit_piece_list;
-use crate::answers::{ListAnswer, of_records};
 use memory_records::{DownloadingPiece, live_records, unpack};
-use picker_answers::Admitted;
-use types::PieceIndex;
+use types::{PieceIndex, Refusal};
 
 fn get_downloaders_core(
     words: &[u64],
@@ -18,7 +16,7 @@ fn get_downloaders_core(
     lent: usize,
     out: &mut [u64],
     piece: PieceIndex,
-) -> ListAnswer
+) -> Result<Option<usize>, Refusal>
     requires { length rows.now ≡ 1536 }
     ensures { CoreListed 2 tell_peers words.now cells.now rows.now lent
         (list_of_piece get_downloaders (number_of piece.0) (length out.old / 2)) out.old out.new result }
@@ -26,12 +24,8 @@ fn get_downloaders_core(
     let mut counts = [0; 1536];
     let i = piece.number();
     let room = out.len() / 2;
-    match admit_piece_list(words, cells, rows, lent, &mut counts, room, i) {
-        Admitted::Refused(why) => ListAnswer::Refused(why),
-        Admitted::To(s, live) => {
-            ListAnswer::Records(ask_records::get_downloaders(words, cells, rows, live, s, i, out))
-        }
-    }
+    let picker = admit_piece_list(words, cells, rows, lent, &mut counts, room, i)?;
+    Ok(Some(ask_records::get_downloaders(words, cells, rows, picker.live, picker.shape, i, out)))
 }
 
 // Two words a record: whether there is a peer, and the peer.
@@ -41,7 +35,7 @@ pub fn get_downloaders(
     partials: &[DownloadingPiece],
     out: &mut [u64],
     piece: PieceIndex,
-) -> ListAnswer
+) -> Result<Option<usize>, Refusal>
     ensures { Listed 2 tell_peers (lending words.now cells.now partials.now)
         (list_of_piece get_downloaders (number_of piece.0) (length out.old / 2)) out.old out.new result }
 {
@@ -58,7 +52,7 @@ fn blocks_for_piece_core(
     lent: usize,
     out: &mut [u64],
     piece: PieceIndex,
-) -> ListAnswer
+) -> Result<Option<usize>, Refusal>
     requires { length rows.now ≡ 1536 }
     ensures { CoreListed 4 tell_blocks words.now cells.now rows.now lent
         (list_of_piece blocks_for_piece (number_of piece.0) (length out.old / 4)) out.old out.new result }
@@ -66,12 +60,8 @@ fn blocks_for_piece_core(
     let mut counts = [0; 1536];
     let i = piece.number();
     let room = out.len() / 4;
-    match admit_piece_list(words, cells, rows, lent, &mut counts, room, i) {
-        Admitted::Refused(why) => ListAnswer::Refused(why),
-        Admitted::To(s, live) => of_records(ask_records::blocks_for_piece(
-            words, cells, rows, live, s, i, out,
-        )),
-    }
+    let picker = admit_piece_list(words, cells, rows, lent, &mut counts, room, i)?;
+    Ok(ask_records::blocks_for_piece(words, cells, rows, picker.live, picker.shape, i, out))
 }
 
 // Four words a record: state, num_peers, whether there is a peer, and the peer. Nothing where no partial stands.
@@ -81,7 +71,7 @@ pub fn blocks_for_piece(
     partials: &[DownloadingPiece],
     out: &mut [u64],
     piece: PieceIndex,
-) -> ListAnswer
+) -> Result<Option<usize>, Refusal>
     ensures { Listed 4 tell_blocks (lending words.now cells.now partials.now)
         (list_of_piece blocks_for_piece (number_of piece.0) (length out.old / 4)) out.old out.new result }
 {

@@ -6,10 +6,9 @@ ghost use Rattle.picker_calls.specs.Cores.{lending};
 ghost use Rattle.picker_lists.specs.Listing.{tell_numbers, Listed, CoreListed};
 
 use crate::admitted::admit_list;
-use crate::answers::ListAnswer;
 use crate::rooms::Need;
 use memory_records::{DownloadingPiece, live_records, unpack};
-use picker_answers::Admitted;
+use types::Refusal;
 
 fn get_availability_vec_core(
     words: &[u64],
@@ -17,20 +16,16 @@ fn get_availability_vec_core(
     rows: &[u32],
     lent: usize,
     out: &mut [u16],
-) -> ListAnswer
+) -> Result<Option<usize>, Refusal>
     requires { length rows.now ≡ 1536 }
     ensures { CoreListed 1 tell_numbers words.now cells.now rows.now lent
         (list_of_picker get_availability_vec (length out.old)) out.old out.new result }
 {
     let mut counts = [0; 1536];
     let room = out.len();
-    match admit_list(words, cells, rows, lent, &mut counts, Need::Pieces, room) {
-        Admitted::Refused(why) => ListAnswer::Refused(why),
-        Admitted::To(s, live) => {
-            ask_columns::get_availability_vec(words, cells, s, out);
-            ListAnswer::Records(s.pieces)
-        }
-    }
+    let picker = admit_list(words, cells, rows, lent, &mut counts, Need::Pieces, room)?;
+    ask_columns::get_availability_vec(words, cells, picker.shape, out);
+    Ok(Some(picker.shape.pieces))
 }
 
 // The peers of each piece with the seeds.
@@ -39,7 +34,7 @@ pub fn get_availability_vec(
     cells: &[u16],
     partials: &[DownloadingPiece],
     out: &mut [u16],
-) -> ListAnswer
+) -> Result<Option<usize>, Refusal>
     ensures { Listed 1 tell_numbers (lending words.now cells.now partials.now)
         (list_of_picker get_availability_vec (length out.old)) out.old out.new result }
 {
@@ -55,20 +50,16 @@ fn piece_priorities_core(
     rows: &[u32],
     lent: usize,
     out: &mut [u16],
-) -> ListAnswer
+) -> Result<Option<usize>, Refusal>
     requires { length rows.now ≡ 1536 }
     ensures { CoreListed 1 tell_numbers words.now cells.now rows.now lent
         (list_of_picker piece_priorities (length out.old)) out.old out.new result }
 {
     let mut counts = [0; 1536];
     let room = out.len();
-    match admit_list(words, cells, rows, lent, &mut counts, Need::Pieces, room) {
-        Admitted::Refused(why) => ListAnswer::Refused(why),
-        Admitted::To(s, live) => {
-            ask_columns::piece_priorities(words, cells, s, out);
-            ListAnswer::Records(s.pieces)
-        }
-    }
+    let picker = admit_list(words, cells, rows, lent, &mut counts, Need::Pieces, room)?;
+    ask_columns::piece_priorities(words, cells, picker.shape, out);
+    Ok(Some(picker.shape.pieces))
 }
 
 pub fn piece_priorities(
@@ -76,7 +67,7 @@ pub fn piece_priorities(
     cells: &[u16],
     partials: &[DownloadingPiece],
     out: &mut [u16],
-) -> ListAnswer
+) -> Result<Option<usize>, Refusal>
     ensures { Listed 1 tell_numbers (lending words.now cells.now partials.now)
         (list_of_picker piece_priorities (length out.old)) out.old out.new result }
 {

@@ -2,10 +2,9 @@
 ghost use Rattle.std.specs.Prelude.{◌≡◌, length};
 ghost use Rattle.picker_lists.specs.Rooms.{need_of, short_on, RoomAdmitted};
 
-use check_memory::{Verdict, check_memory};
+use check_memory::check_memory;
 use geometry::valid_geometry;
 use memory_layout::{Shape, head_word, shape_of};
-use picker_calls::Admission;
 use types::Refusal;
 
 // A place for each piece, for each partial that there can be, or for each block of a whole piece.
@@ -48,23 +47,14 @@ pub fn admit_room(
     counts: &mut [u16],
     need: Need,
     room: usize,
-) -> Admission
+) -> Result<Shape, Refusal>
     requires { (length rows.now ≡ 1536) × (length counts.old ≡ 1536) }
     ensures { RoomAdmitted need room words.now cells.now rows.now counts.new lent result }
 {
-    match check_memory(words, cells, rows, lent, counts) {
-        Verdict::Short => Admission::Refused(Refusal::ShortMemory),
-        Verdict::IllFormed => {
-            if short_room(words, need, room) {
-                return Admission::Refused(Refusal::ShortMemory);
-            }
-            Admission::Refused(Refusal::IllFormedMemory)
-        }
-        Verdict::Good => {
-            if short_room(words, need, room) {
-                return Admission::Refused(Refusal::ShortMemory);
-            }
-            Admission::At(shape_of(words))
-        }
+    let checked = check_memory(words, cells, rows, lent, counts);
+    if short_room(words, need, room) {
+        return Err(Refusal::ShortMemory);
     }
+    checked?;
+    Ok(shape_of(words))
 }

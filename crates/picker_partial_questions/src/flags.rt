@@ -10,10 +10,9 @@ ghost use Rattle.picker_answers.specs.Admitting.{CoreAnswered};
 ghost use Rattle.picker_partial_questions.specs.Answers.{partial_flag_answer};
 ghost use Rattle.picker_answers.specs.Answers.{flag_answer};
 
-use crate::answers::PartialFlagAnswer;
 use memory_records::{DownloadingPiece, live_records, unpack};
-use picker_answers::{Admitted, FlagAnswer, admit_piece};
-use types::PieceIndex;
+use picker_answers::admit_piece;
+use types::{PieceIndex, Refusal};
 
 fn passed_hash_check_core(
     words: &[u64],
@@ -21,19 +20,15 @@ fn passed_hash_check_core(
     rows: &[u32],
     lent: usize,
     piece: PieceIndex,
-) -> PartialFlagAnswer
+) -> Result<Option<bool>, Refusal>
     requires { length rows.now ≡ 1536 }
     ensures { CoreAnswered words.now cells.now rows.now lent
         (of_piece passed_hash_check (number_of piece.0)) (partial_flag_answer result) }
 {
     let mut counts = [0; 1536];
     let i = piece.number();
-    match admit_piece(words, cells, rows, lent, &mut counts, i) {
-        Admitted::Refused(why) => PartialFlagAnswer::Refused(why),
-        Admitted::To(s, live) => PartialFlagAnswer::Replied(ask_partial::passed_hash_check(
-            rows, live, i,
-        )),
-    }
+    let picker = admit_piece(words, cells, rows, lent, &mut counts, i)?;
+    Ok(ask_partial::passed_hash_check(rows, picker.live, i))
 }
 
 pub fn passed_hash_check(
@@ -41,7 +36,7 @@ pub fn passed_hash_check(
     cells: &[u16],
     partials: &[DownloadingPiece],
     piece: PieceIndex,
-) -> PartialFlagAnswer
+) -> Result<Option<bool>, Refusal>
     ensures { partial_flag_answer result ≡ answer_on (lending words.now cells.now partials.now)
         (question (of_piece passed_hash_check (number_of piece.0))) }
 {
@@ -57,17 +52,15 @@ fn locked_core(
     rows: &[u32],
     lent: usize,
     piece: PieceIndex,
-) -> PartialFlagAnswer
+) -> Result<Option<bool>, Refusal>
     requires { length rows.now ≡ 1536 }
     ensures { CoreAnswered words.now cells.now rows.now lent
         (of_piece locked? (number_of piece.0)) (partial_flag_answer result) }
 {
     let mut counts = [0; 1536];
     let i = piece.number();
-    match admit_piece(words, cells, rows, lent, &mut counts, i) {
-        Admitted::Refused(why) => PartialFlagAnswer::Refused(why),
-        Admitted::To(s, live) => PartialFlagAnswer::Replied(ask_partial::locked(rows, live, i)),
-    }
+    let picker = admit_piece(words, cells, rows, lent, &mut counts, i)?;
+    Ok(ask_partial::locked(rows, picker.live, i))
 }
 
 pub fn locked(
@@ -75,7 +68,7 @@ pub fn locked(
     cells: &[u16],
     partials: &[DownloadingPiece],
     piece: PieceIndex,
-) -> PartialFlagAnswer
+) -> Result<Option<bool>, Refusal>
     ensures { partial_flag_answer result ≡ answer_on (lending words.now cells.now partials.now)
         (question (of_piece locked? (number_of piece.0))) }
 {
@@ -91,17 +84,15 @@ fn hashing_core(
     rows: &[u32],
     lent: usize,
     piece: PieceIndex,
-) -> PartialFlagAnswer
+) -> Result<Option<bool>, Refusal>
     requires { length rows.now ≡ 1536 }
     ensures { CoreAnswered words.now cells.now rows.now lent
         (of_piece hashing? (number_of piece.0)) (partial_flag_answer result) }
 {
     let mut counts = [0; 1536];
     let i = piece.number();
-    match admit_piece(words, cells, rows, lent, &mut counts, i) {
-        Admitted::Refused(why) => PartialFlagAnswer::Refused(why),
-        Admitted::To(s, live) => PartialFlagAnswer::Replied(ask_partial::hashing(rows, live, i)),
-    }
+    let picker = admit_piece(words, cells, rows, lent, &mut counts, i)?;
+    Ok(ask_partial::hashing(rows, picker.live, i))
 }
 
 pub fn hashing(
@@ -109,7 +100,7 @@ pub fn hashing(
     cells: &[u16],
     partials: &[DownloadingPiece],
     piece: PieceIndex,
-) -> PartialFlagAnswer
+) -> Result<Option<bool>, Refusal>
     ensures { partial_flag_answer result ≡ answer_on (lending words.now cells.now partials.now)
         (question (of_piece hashing? (number_of piece.0))) }
 {
@@ -125,17 +116,15 @@ fn is_hashing_core(
     rows: &[u32],
     lent: usize,
     piece: PieceIndex,
-) -> FlagAnswer
+) -> Result<bool, Refusal>
     requires { length rows.now ≡ 1536 }
     ensures { CoreAnswered words.now cells.now rows.now lent
         (of_piece is_hashing (number_of piece.0)) (flag_answer result) }
 {
     let mut counts = [0; 1536];
     let i = piece.number();
-    match admit_piece(words, cells, rows, lent, &mut counts, i) {
-        Admitted::Refused(why) => FlagAnswer::Refused(why),
-        Admitted::To(s, live) => FlagAnswer::Replied(ask_partial::is_hashing(rows, live, i)),
-    }
+    let picker = admit_piece(words, cells, rows, lent, &mut counts, i)?;
+    Ok(ask_partial::is_hashing(rows, picker.live, i))
 }
 
 // Whether a partial stands that is being hashed.
@@ -144,7 +133,7 @@ pub fn is_hashing(
     cells: &[u16],
     partials: &[DownloadingPiece],
     piece: PieceIndex,
-) -> FlagAnswer
+) -> Result<bool, Refusal>
     ensures { flag_answer result ≡ answer_on (lending words.now cells.now partials.now)
         (question (of_piece is_hashing (number_of piece.0))) }
 {
@@ -160,19 +149,15 @@ fn have_piece_core(
     rows: &[u32],
     lent: usize,
     piece: PieceIndex,
-) -> FlagAnswer
+) -> Result<bool, Refusal>
     requires { length rows.now ≡ 1536 }
     ensures { CoreAnswered words.now cells.now rows.now lent
         (of_piece ask_have_piece (number_of piece.0)) (flag_answer result) }
 {
     let mut counts = [0; 1536];
     let i = piece.number();
-    match admit_piece(words, cells, rows, lent, &mut counts, i) {
-        Admitted::Refused(why) => FlagAnswer::Refused(why),
-        Admitted::To(s, live) => FlagAnswer::Replied(ask_partial::have_piece(
-            cells, rows, live, s, i,
-        )),
-    }
+    let picker = admit_piece(words, cells, rows, lent, &mut counts, i)?;
+    Ok(ask_partial::have_piece(cells, rows, picker.live, picker.shape, i))
 }
 
 // Whether the piece is flushed, or passed while still a partial.
@@ -181,7 +166,7 @@ pub fn have_piece(
     cells: &[u16],
     partials: &[DownloadingPiece],
     piece: PieceIndex,
-) -> FlagAnswer
+) -> Result<bool, Refusal>
     ensures { flag_answer result ≡ answer_on (lending words.now cells.now partials.now)
         (question (of_piece ask_have_piece (number_of piece.0))) }
 {

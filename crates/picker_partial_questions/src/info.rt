@@ -10,10 +10,10 @@ ghost use Rattle.picker_answers.specs.Admitting.{CoreAnswered};
 ghost use Rattle.picker_partial_questions.specs.Answers.{info_answer};
 ghost use Rattle.picker_answers.specs.Answers.{flag_answer};
 
-use crate::answers::InfoAnswer;
+use ask_partial::PieceInfo;
 use memory_records::{DownloadingPiece, live_records, unpack};
-use picker_answers::{Admitted, FlagAnswer, admit_piece};
-use types::PieceIndex;
+use picker_answers::admit_piece;
+use types::{PieceIndex, Refusal};
 
 fn piece_info_core(
     words: &[u64],
@@ -21,19 +21,15 @@ fn piece_info_core(
     rows: &[u32],
     lent: usize,
     piece: PieceIndex,
-) -> InfoAnswer
+) -> Result<PieceInfo, Refusal>
     requires { length rows.now ≡ 1536 }
     ensures { CoreAnswered words.now cells.now rows.now lent
         (of_piece piece_info (number_of piece.0)) (info_answer result) }
 {
     let mut counts = [0; 1536];
     let i = piece.number();
-    match admit_piece(words, cells, rows, lent, &mut counts, i) {
-        Admitted::Refused(why) => InfoAnswer::Refused(why),
-        Admitted::To(s, live) => InfoAnswer::Replied(ask_partial::piece_info(
-            words, cells, rows, live, &counts, s, i,
-        )),
-    }
+    let picker = admit_piece(words, cells, rows, lent, &mut counts, i)?;
+    Ok(ask_partial::piece_info(words, cells, rows, picker.live, &counts, picker.shape, i))
 }
 
 pub fn piece_info(
@@ -41,7 +37,7 @@ pub fn piece_info(
     cells: &[u16],
     partials: &[DownloadingPiece],
     piece: PieceIndex,
-) -> InfoAnswer
+) -> Result<PieceInfo, Refusal>
     ensures { info_answer result ≡ answer_on (lending words.now cells.now partials.now)
         (question (of_piece piece_info (number_of piece.0))) }
 {
@@ -57,19 +53,15 @@ fn is_piece_finished_core(
     rows: &[u32],
     lent: usize,
     piece: PieceIndex,
-) -> FlagAnswer
+) -> Result<bool, Refusal>
     requires { length rows.now ≡ 1536 }
     ensures { CoreAnswered words.now cells.now rows.now lent
         (of_piece is_piece_finished (number_of piece.0)) (flag_answer result) }
 {
     let mut counts = [0; 1536];
     let i = piece.number();
-    match admit_piece(words, cells, rows, lent, &mut counts, i) {
-        Admitted::Refused(why) => FlagAnswer::Refused(why),
-        Admitted::To(s, live) => FlagAnswer::Replied(ask_partial::is_piece_finished(
-            words, cells, rows, live, &counts, s, i,
-        )),
-    }
+    let picker = admit_piece(words, cells, rows, lent, &mut counts, i)?;
+    Ok(ask_partial::is_piece_finished(words, cells, rows, picker.live, &counts, picker.shape, i))
 }
 
 // Whether every block is being written or on disk.
@@ -78,7 +70,7 @@ pub fn is_piece_finished(
     cells: &[u16],
     partials: &[DownloadingPiece],
     piece: PieceIndex,
-) -> FlagAnswer
+) -> Result<bool, Refusal>
     ensures { flag_answer result ≡ answer_on (lending words.now cells.now partials.now)
         (question (of_piece is_piece_finished (number_of piece.0))) }
 {

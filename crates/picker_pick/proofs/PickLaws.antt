@@ -1,4 +1,5 @@
 -- The core of the public pick, arm by arm: refused for the memory, refused by the judge, done. Assumes nothing.
+use Rattle.std.specs.Prelude.{Err, Ok, Result, IsErrAnd, ⊤}
 use mathlib.Core.Path.{◌≡◌, refl, sym, ap, ap₂, subst, ◌∙◌}
 use mathlib.Core.Bool.{Bool, true, false, not, ◌&&◌}
 use mathlib.Core.List.{List}
@@ -42,17 +43,12 @@ use Rattle.pick_pieces.specs.Whole.{PickRoom, loops_of, PickGave, PickLeft}
 use Rattle.pick_judge.specs.declared.arguments.PickInput.{PickInput}
 use Rattle.pick_judge.specs.Asking.{request_asked, request_numbers, PickJudged}
 use Rattle.pick_judge.proofs.JudgeLaws.{many_each}
-use Rattle.picker_calls.specs.declared.admission.Admission.{Admission}
-use Rattle.picker_calls.specs.declared.admission.Admission.TheVariants.{Refused as Barred, At}
-use Rattle.picker_calls.specs.declared.judgement.Judgement.{Judgement}
-use Rattle.picker_calls.specs.declared.judgement.Judgement.TheVariants.{Refused as No, Passed}
-use Rattle.picker_calls.specs.declared.outcomes.Outcome.TheVariants.{Refused}
 use Rattle.picker_calls.specs.Outcomes.{judged}
 use Rattle.picker_calls.specs.Cores.{Listless, Stood, Admitted}
 use Rattle.picker_calls.proofs.ListlessLaws.{listless}
 use Rattle.picker_calls.proofs.CoreLaws.{keep_insert, stood_at, barred, denied, acted}
 use Rattle.picker_output.specs.Picking.{not_picked, gave, pick_answer, OutputKept}
-use Rattle.picker_pick.specs.Answers.{PickCore}
+use Rattle.picker_pick.specs.Answers.{pick_outcome, PickCore}
 
 -- ---- none of its refusals is 2
 pick_listless : (request : PickRequest) (free : ℕ) (draws : Draws) → Listless (do_pick_pieces request free draws)
@@ -135,21 +131,30 @@ module _ (s : Shape) (d : Picker) (pieces : pieces_in d ≡ s.pieces) (q : Reque
       eqb-true q.bits (pieces_in d) b ∙ pieces
 
 -- ---- the arms
-module _ (words cells rows counts : List ℕ) (lent : ℕ) (v : Admission) (g : Admitted words cells rows counts lent v) where
+-- a refusal, as `?` passes it on
+pick_refused : (words cells rows : List ℕ) (lent : ℕ) (request : PickRequest) (draws : Draws) (start : ℕ) (out : List ℕ) (why : Refusal)
+    → PickCore words cells rows lent request draws start out words cells out (not_picked why) → (z : Result Picked Refusal)
+    → IsErrAnd z (λ x. x ≡ why) → PickCore words cells rows lent request draws start out words cells out (pick_outcome z)
+pick_refused words cells rows lent request draws start out why h (Err y) k =
+    subst (λ (x : Refusal). PickCore words cells rows lent request draws start out words cells out (not_picked x)) (sym k) h
+pick_refused words cells rows lent request draws start out why h (Ok p) k = absurd k
+
+module _ (words cells rows counts : List ℕ) (lent : ℕ) (v : Result Shape Refusal) (g : Admitted words cells rows counts lent v) where
   -- refused for the memory
-  pub pick_barred : (why : Refusal) → v ≡ Barred why → (request : PickRequest) (draws : Draws) (start : ℕ) (out : List ℕ)
-      → PickCore words cells rows lent request draws start out words cells out (not_picked why)
+  pub pick_barred : (why : Refusal) → v ≡ Err why → (request : PickRequest) (draws : Draws) (start : ℕ) (out : List ℕ)
+      → (z : Result Picked Refusal) → IsErrAnd z (λ x. x ≡ why)
+      → PickCore words cells rows lent request draws start out words cells out (pick_outcome z)
   unfolding pick_answer OutputKept
-  pick_barred why e request draws start out = record {
+  pick_barred why e request draws start out = pick_refused words cells rows lent request draws start out why (record {
     done = λ partials l r. record {
       called = ((barred words cells rows counts lent v g why e (do_pick_pieces request (length out - start) draws)
-          (pick_listless request (length out - start) draws) (Refused why) 0 Keep (refl, refl, refl)).done partials l r).1;
+          (pick_listless request (length out - start) draws) (Err why) refl).done partials l r).1;
       output = refl;
     };
-  }
+  })
 
-  module _ (s : Shape) (at : v ≡ At s) (a : PickInput) (bytes : List ℕ) (given : List ℤ) (draws : Draws) (out : List ℕ)
-      (q : Request) (eq : q ≡ request_numbers a) (free : ℕ) (ef : free ≡ length out - a.end) (j : Judgement)
+  module _ (s : Shape) (at : v ≡ Ok s) (a : PickInput) (bytes : List ℕ) (given : List ℤ) (draws : Draws) (out : List ℕ)
+      (q : Request) (eq : q ≡ request_numbers a) (free : ℕ) (ef : free ≡ length out - a.end) (j : Result ⊤ Refusal)
       (x : PickJudged s (do_pick_pieces (request_with q bytes (each number_of given)) free draws) j) where
     abbrev d : Picker
     d = picker_in (head_word words 7) rows words cells
@@ -168,19 +173,19 @@ module _ (words cells rows counts : List ℕ) (lent : ℕ) (v : Admission) (g : 
         ∙ refusal_same a bytes (each number_of given) d (length out - a.end) draws
 
     -- refused by the judge
-    pub pick_denied : (why : Refusal) → j ≡ No why → PickCore words cells rows lent request draws a.end out words cells out
-        (not_picked why)
+    pub pick_denied : (why : Refusal) → j ≡ Err why → (z : Result Picked Refusal) → IsErrAnd z (λ x. x ≡ why)
+        → PickCore words cells rows lent request draws a.end out words cells out (pick_outcome z)
     unfolding pick_answer OutputKept
-    pick_denied why e = record {
+    pick_denied why e = pick_refused words cells rows lent request draws a.end out why (record {
       done = λ partials l r. record {
         called = ((denied s lent rows counts words cells (stood_at words cells rows counts lent v g s at)
             (do_pick_pieces request (length out - a.end) draws) (pick_listless request (length out - a.end) draws) j judged_is why e
-            (Refused why) 0 Keep (refl, refl, refl)).done partials l r).1;
+            (Err why) refl).done partials l r).1;
         output = refl;
       };
-    }
+    })
 
-    module _ (e : j ≡ Passed) (live : ℕ) (many : live ≡ live_records words) where
+    module _ (e : j ≡ (Ok tt)) (live : ℕ) (many : live ≡ live_records words) where
       stood : Stood s (head_word words 7) lent rows counts words cells
       stood = stood_at words cells rows counts lent v g s at
 

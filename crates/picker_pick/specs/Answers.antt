@@ -1,5 +1,7 @@
 -- What the public pick answers, and what its core says of all records that its rows are. Assumes nothing.
-use Rattle.std.specs.Prelude.{ℕ, ◌≡◌, List, length}
+use Rattle.std.specs.Prelude.{ℕ, ◌≡◌, List, length, Err, Ok, Result}
+use Rattle.types.specs.declared.refusal.Refusal.{Refusal}
+use Rattle.pick_pieces.specs.declared.pieces.Picked.{Picked}
 use Rattle.model.specs.list.Order.{Draws}
 use Rattle.model.specs.pick.Blocks.{PickRequest}
 use Rattle.memory_records.specs.declared.record.DownloadingPiece.{DownloadingPiece as Record}
@@ -7,13 +9,11 @@ use Rattle.memory_records.specs.Rows.{rows_of}
 use Rattle.pick_pieces.specs.Whole.{loops_of}
 use Rattle.picker_calls.specs.Cores.{lending}
 use Rattle.picker_output.specs.Picking.{PickAnswer, not_picked, gave, PickCalled}
-use Rattle.picker_pick.specs.declared.PickOutcome.{PickOutcome}
-use Rattle.picker_pick.specs.declared.PickOutcome.TheVariants.{Refused, Done}
 
 -- the answer in the definition's terms
-abbrev pub pick_outcome : (r : PickOutcome) → PickAnswer
-pick_outcome (Refused why) = not_picked why
-pick_outcome (Done p) = gave p.end p.flags (loops_of p) p.used
+abbrev pub pick_outcome : (r : Result Picked Refusal) → PickAnswer
+pick_outcome (Err why) = not_picked why
+pick_outcome (Ok p) = gave p.end p.flags (loops_of p) p.used
 
 -- with any records that the rows are, which stay
 pub record PickCore (words cells rows : List ℕ) (lent : ℕ) (request : PickRequest) (draws : Draws) (start : ℕ)

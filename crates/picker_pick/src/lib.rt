@@ -13,15 +13,8 @@ ghost use Rattle.picker_pick.specs.Answers.{pick_outcome, PickCore};
 use memory_records::{DownloadingPiece, live_records, unpack};
 use pick_judge::{PickInput, judge_pick, places_free, request};
 use pick_pieces::Picked;
-use picker_calls::{Admission, Judgement, admit};
+use picker_calls::admit;
 use types::Refusal;
-
-// Refused, or where the output ends now, the flags, the draws used and the seven counters.
-#[derive(Drop)]
-pub enum PickOutcome {
-    Refused(Refusal),
-    Done(Picked),
-}
 
 fn pick_core(
     words: &mut [u64],
@@ -33,40 +26,32 @@ fn pick_core(
     out: &mut [u64],
     draws: &[u32],
     a: PickInput,
-) -> PickOutcome
+) -> Result<Picked, Refusal>
     requires { length rows.now ≡ 1536 }
     ensures { PickCore words.old cells.old rows.now lent
         (request_asked a bytes.now (each number_of suggestions.now)) draws.now a.end out.old
         words.new cells.new out.new (pick_outcome result) }
 {
     let mut counts = [0; 1536];
-    match admit(words, cells, rows, lent, &mut counts) {
-        Admission::Refused(why) => PickOutcome::Refused(why),
-        Admission::At(s) => {
-            let q = request(a);
-            let free = places_free(out.len(), a.end);
-            match judge_pick(s, q, bytes, suggestions, draws, free) {
-                Judgement::Refused(why) => PickOutcome::Refused(why),
-                Judgement::Passed => {
-                    let live = live_records(words);
-                    PickOutcome::Done(pick_pieces::pick_pieces(
-                        words,
-                        cells,
-                        rows,
-                        live,
-                        &counts,
-                        s,
-                        q,
-                        bytes,
-                        suggestions,
-                        draws,
-                        out,
-                        a.end,
-                    ))
-                }
-            }
-        }
-    }
+    let s = admit(words, cells, rows, lent, &mut counts)?;
+    let q = request(a);
+    let free = places_free(out.len(), a.end);
+    judge_pick(s, q, bytes, suggestions, draws, free)?;
+    let live = live_records(words);
+    Ok(pick_pieces::pick_pieces(
+        words,
+        cells,
+        rows,
+        live,
+        &counts,
+        s,
+        q,
+        bytes,
+        suggestions,
+        draws,
+        out,
+        a.end,
+    ))
 }
 
 // The blocks picked are appended to the output; a piece suggested that is none is passed over.
@@ -79,7 +64,7 @@ pub fn pick_pieces(
     out: &mut [u64],
     draws: &[u32],
     a: PickInput,
-) -> PickOutcome
+) -> Result<Picked, Refusal>
     ensures { PickCalled (lending words.old cells.old partials.now)
         (request_asked a bytes.now (each number_of suggestions.now)) draws.now a.end out.old
         (lending words.new cells.new partials.now) out.new (pick_outcome result) }

@@ -11,8 +11,8 @@ ghost use Rattle.picker_answers.specs.Admitting.{CoreAnswered};
 ghost use Rattle.picker_answers.specs.Answers.{number_answer, flag_answer};
 
 use memory_records::{DownloadingPiece, live_records, unpack};
-use picker_answers::{Admitted, FlagAnswer, NumberAnswer, admit_piece};
-use types::{PieceIndex, u16_to_u64};
+use picker_answers::admit_piece;
+use types::{PieceIndex, Refusal, u16_to_u64};
 
 fn pad_bytes_in_piece_core(
     words: &[u64],
@@ -20,17 +20,15 @@ fn pad_bytes_in_piece_core(
     rows: &[u32],
     lent: usize,
     piece: PieceIndex,
-) -> NumberAnswer
+) -> Result<u64, Refusal>
     requires { length rows.now ≡ 1536 }
     ensures { CoreAnswered words.now cells.now rows.now lent
         (of_piece pad_bytes_in_piece (number_of piece.0)) (number_answer result) }
 {
     let mut counts = [0; 1536];
     let i = piece.number();
-    match admit_piece(words, cells, rows, lent, &mut counts, i) {
-        Admitted::Refused(why) => NumberAnswer::Refused(why),
-        Admitted::To(s, live) => NumberAnswer::Replied(ask_piece::pad_bytes_in_piece(words, s, i)),
-    }
+    let picker = admit_piece(words, cells, rows, lent, &mut counts, i)?;
+    Ok(ask_piece::pad_bytes_in_piece(words, picker.shape, i))
 }
 
 pub fn pad_bytes_in_piece(
@@ -38,7 +36,7 @@ pub fn pad_bytes_in_piece(
     cells: &[u16],
     partials: &[DownloadingPiece],
     piece: PieceIndex,
-) -> NumberAnswer
+) -> Result<u64, Refusal>
     ensures { number_answer result ≡ answer_on (lending words.now cells.now partials.now)
         (question (of_piece pad_bytes_in_piece (number_of piece.0))) }
 {
@@ -54,19 +52,15 @@ fn peer_count_core(
     rows: &[u32],
     lent: usize,
     piece: PieceIndex,
-) -> NumberAnswer
+) -> Result<u64, Refusal>
     requires { length rows.now ≡ 1536 }
     ensures { CoreAnswered words.now cells.now rows.now lent
         (of_piece peer_count (number_of piece.0)) (number_answer result) }
 {
     let mut counts = [0; 1536];
     let i = piece.number();
-    match admit_piece(words, cells, rows, lent, &mut counts, i) {
-        Admitted::Refused(why) => NumberAnswer::Refused(why),
-        Admitted::To(s, live) => NumberAnswer::Replied(u16_to_u64(ask_piece::peer_count(
-            cells, s, i,
-        ))),
-    }
+    let picker = admit_piece(words, cells, rows, lent, &mut counts, i)?;
+    Ok(u16_to_u64(ask_piece::peer_count(cells, picker.shape, i)))
 }
 
 // The peers that have the piece, without the seeds.
@@ -75,7 +69,7 @@ pub fn peer_count(
     cells: &[u16],
     partials: &[DownloadingPiece],
     piece: PieceIndex,
-) -> NumberAnswer
+) -> Result<u64, Refusal>
     ensures { number_answer result ≡ answer_on (lending words.now cells.now partials.now)
         (question (of_piece peer_count (number_of piece.0))) }
 {
@@ -91,19 +85,15 @@ fn piece_priority_core(
     rows: &[u32],
     lent: usize,
     piece: PieceIndex,
-) -> NumberAnswer
+) -> Result<u64, Refusal>
     requires { length rows.now ≡ 1536 }
     ensures { CoreAnswered words.now cells.now rows.now lent
         (of_piece piece_priority (number_of piece.0)) (number_answer result) }
 {
     let mut counts = [0; 1536];
     let i = piece.number();
-    match admit_piece(words, cells, rows, lent, &mut counts, i) {
-        Admitted::Refused(why) => NumberAnswer::Refused(why),
-        Admitted::To(s, live) => NumberAnswer::Replied(u16_to_u64(ask_piece::piece_priority(
-            cells, s, i,
-        ))),
-    }
+    let picker = admit_piece(words, cells, rows, lent, &mut counts, i)?;
+    Ok(u16_to_u64(ask_piece::piece_priority(cells, picker.shape, i)))
 }
 
 pub fn piece_priority(
@@ -111,7 +101,7 @@ pub fn piece_priority(
     cells: &[u16],
     partials: &[DownloadingPiece],
     piece: PieceIndex,
-) -> NumberAnswer
+) -> Result<u64, Refusal>
     ensures { number_answer result ≡ answer_on (lending words.now cells.now partials.now)
         (question (of_piece piece_priority (number_of piece.0))) }
 {
@@ -127,19 +117,15 @@ fn download_state_core(
     rows: &[u32],
     lent: usize,
     piece: PieceIndex,
-) -> NumberAnswer
+) -> Result<u64, Refusal>
     requires { length rows.now ≡ 1536 }
     ensures { CoreAnswered words.now cells.now rows.now lent
         (of_piece download_state (number_of piece.0)) (number_answer result) }
 {
     let mut counts = [0; 1536];
     let i = piece.number();
-    match admit_piece(words, cells, rows, lent, &mut counts, i) {
-        Admitted::Refused(why) => NumberAnswer::Refused(why),
-        Admitted::To(s, live) => NumberAnswer::Replied(u16_to_u64(ask_piece::download_state(
-            cells, s, i,
-        ))),
-    }
+    let picker = admit_piece(words, cells, rows, lent, &mut counts, i)?;
+    Ok(u16_to_u64(ask_piece::download_state(cells, picker.shape, i)))
 }
 
 // The number of the piece's state.
@@ -148,7 +134,7 @@ pub fn download_state(
     cells: &[u16],
     partials: &[DownloadingPiece],
     piece: PieceIndex,
-) -> NumberAnswer
+) -> Result<u64, Refusal>
     ensures { number_answer result ≡ answer_on (lending words.now cells.now partials.now)
         (question (of_piece download_state (number_of piece.0))) }
 {
@@ -164,17 +150,15 @@ fn is_piece_flushed_core(
     rows: &[u32],
     lent: usize,
     piece: PieceIndex,
-) -> FlagAnswer
+) -> Result<bool, Refusal>
     requires { length rows.now ≡ 1536 }
     ensures { CoreAnswered words.now cells.now rows.now lent
         (of_piece is_piece_flushed (number_of piece.0)) (flag_answer result) }
 {
     let mut counts = [0; 1536];
     let i = piece.number();
-    match admit_piece(words, cells, rows, lent, &mut counts, i) {
-        Admitted::Refused(why) => FlagAnswer::Refused(why),
-        Admitted::To(s, live) => FlagAnswer::Replied(ask_piece::is_piece_flushed(cells, s, i)),
-    }
+    let picker = admit_piece(words, cells, rows, lent, &mut counts, i)?;
+    Ok(ask_piece::is_piece_flushed(cells, picker.shape, i))
 }
 
 pub fn is_piece_flushed(
@@ -182,7 +166,7 @@ pub fn is_piece_flushed(
     cells: &[u16],
     partials: &[DownloadingPiece],
     piece: PieceIndex,
-) -> FlagAnswer
+) -> Result<bool, Refusal>
     ensures { flag_answer result ≡ answer_on (lending words.now cells.now partials.now)
         (question (of_piece is_piece_flushed (number_of piece.0))) }
 {
@@ -198,17 +182,15 @@ fn is_downloading_core(
     rows: &[u32],
     lent: usize,
     piece: PieceIndex,
-) -> FlagAnswer
+) -> Result<bool, Refusal>
     requires { length rows.now ≡ 1536 }
     ensures { CoreAnswered words.now cells.now rows.now lent
         (of_piece is_downloading (number_of piece.0)) (flag_answer result) }
 {
     let mut counts = [0; 1536];
     let i = piece.number();
-    match admit_piece(words, cells, rows, lent, &mut counts, i) {
-        Admitted::Refused(why) => FlagAnswer::Refused(why),
-        Admitted::To(s, live) => FlagAnswer::Replied(ask_piece::is_downloading(cells, s, i)),
-    }
+    let picker = admit_piece(words, cells, rows, lent, &mut counts, i)?;
+    Ok(ask_piece::is_downloading(cells, picker.shape, i))
 }
 
 // Whether the piece is in a queue: in any state but Open.
@@ -217,7 +199,7 @@ pub fn is_downloading(
     cells: &[u16],
     partials: &[DownloadingPiece],
     piece: PieceIndex,
-) -> FlagAnswer
+) -> Result<bool, Refusal>
     ensures { flag_answer result ≡ answer_on (lending words.now cells.now partials.now)
         (question (of_piece is_downloading (number_of piece.0))) }
 {

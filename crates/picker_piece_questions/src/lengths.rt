@@ -10,8 +10,8 @@ ghost use Rattle.picker_answers.specs.Admitting.{CoreAnswered};
 ghost use Rattle.picker_answers.specs.Answers.{number_answer};
 
 use memory_records::{DownloadingPiece, live_records, unpack};
-use picker_answers::{Admitted, NumberAnswer, admit_piece};
-use types::PieceIndex;
+use picker_answers::admit_piece;
+use types::{PieceIndex, Refusal};
 
 fn piece_size_core(
     words: &[u64],
@@ -19,17 +19,15 @@ fn piece_size_core(
     rows: &[u32],
     lent: usize,
     piece: PieceIndex,
-) -> NumberAnswer
+) -> Result<u64, Refusal>
     requires { length rows.now ≡ 1536 }
     ensures { CoreAnswered words.now cells.now rows.now lent
         (of_piece piece_size (number_of piece.0)) (number_answer result) }
 {
     let mut counts = [0; 1536];
     let i = piece.number();
-    match admit_piece(words, cells, rows, lent, &mut counts, i) {
-        Admitted::Refused(why) => NumberAnswer::Refused(why),
-        Admitted::To(s, live) => NumberAnswer::Replied(ask_piece::piece_size(words, s, i)),
-    }
+    let picker = admit_piece(words, cells, rows, lent, &mut counts, i)?;
+    Ok(ask_piece::piece_size(words, picker.shape, i))
 }
 
 pub fn piece_size(
@@ -37,7 +35,7 @@ pub fn piece_size(
     cells: &[u16],
     partials: &[DownloadingPiece],
     piece: PieceIndex,
-) -> NumberAnswer
+) -> Result<u64, Refusal>
     ensures { number_answer result ≡ answer_on (lending words.now cells.now partials.now)
         (question (of_piece piece_size (number_of piece.0))) }
 {
@@ -53,17 +51,15 @@ fn blocks_in_piece_core(
     rows: &[u32],
     lent: usize,
     piece: PieceIndex,
-) -> NumberAnswer
+) -> Result<u64, Refusal>
     requires { length rows.now ≡ 1536 }
     ensures { CoreAnswered words.now cells.now rows.now lent
         (of_piece ask_blocks_in_piece (number_of piece.0)) (number_answer result) }
 {
     let mut counts = [0; 1536];
     let i = piece.number();
-    match admit_piece(words, cells, rows, lent, &mut counts, i) {
-        Admitted::Refused(why) => NumberAnswer::Refused(why),
-        Admitted::To(s, live) => NumberAnswer::Replied(ask_piece::blocks_in_piece(words, s, i)),
-    }
+    let picker = admit_piece(words, cells, rows, lent, &mut counts, i)?;
+    Ok(ask_piece::blocks_in_piece(words, picker.shape, i))
 }
 
 pub fn blocks_in_piece(
@@ -71,7 +67,7 @@ pub fn blocks_in_piece(
     cells: &[u16],
     partials: &[DownloadingPiece],
     piece: PieceIndex,
-) -> NumberAnswer
+) -> Result<u64, Refusal>
     ensures { number_answer result ≡ answer_on (lending words.now cells.now partials.now)
         (question (of_piece ask_blocks_in_piece (number_of piece.0))) }
 {
@@ -87,19 +83,15 @@ fn payload_blocks_in_piece_core(
     rows: &[u32],
     lent: usize,
     piece: PieceIndex,
-) -> NumberAnswer
+) -> Result<u64, Refusal>
     requires { length rows.now ≡ 1536 }
     ensures { CoreAnswered words.now cells.now rows.now lent
         (of_piece ask_payload_blocks_in_piece (number_of piece.0)) (number_answer result) }
 {
     let mut counts = [0; 1536];
     let i = piece.number();
-    match admit_piece(words, cells, rows, lent, &mut counts, i) {
-        Admitted::Refused(why) => NumberAnswer::Refused(why),
-        Admitted::To(s, live) => NumberAnswer::Replied(ask_piece::payload_blocks_in_piece(
-            words, s, i,
-        )),
-    }
+    let picker = admit_piece(words, cells, rows, lent, &mut counts, i)?;
+    Ok(ask_piece::payload_blocks_in_piece(words, picker.shape, i))
 }
 
 // The blocks without those that pad bytes fill whole.
@@ -108,7 +100,7 @@ pub fn payload_blocks_in_piece(
     cells: &[u16],
     partials: &[DownloadingPiece],
     piece: PieceIndex,
-) -> NumberAnswer
+) -> Result<u64, Refusal>
     ensures { number_answer result ≡ answer_on (lending words.now cells.now partials.now)
         (question (of_piece ask_payload_blocks_in_piece (number_of piece.0))) }
 {

@@ -1,14 +1,12 @@
 // The public questions of a piece that its own fields and the geometry answer. None requires anything: each is refused as the table says,
 // or answers what the definition replies.
 // Written by tools/publics.py, and not by hand.
-#![tactic(auto, using(picker_calls::proofs::PublicLaws::public_calls))]
+#![tactic(auto, using(picker_answers::proofs::AdmittedLaws::public_questions), unfolding(model::specs::Calls::question_refusal))]
 
-mod answers;
 mod fields;
 mod lengths;
 mod stats;
 
-pub use answers::StatsAnswer;
 pub use fields::{
     download_state, is_downloading, is_piece_flushed, pad_bytes_in_piece, peer_count,
     piece_priority,

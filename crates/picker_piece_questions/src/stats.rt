@@ -10,10 +10,10 @@ ghost use Rattle.picker_answers.specs.Admitting.{CoreAnswered};
 ghost use Rattle.picker_answers.specs.Answers.{number_answer};
 ghost use Rattle.picker_piece_questions.specs.Answers.{stats_answer};
 
-use crate::answers::StatsAnswer;
+use ask_piece::PieceStats;
 use memory_records::{DownloadingPiece, live_records, unpack};
-use picker_answers::{Admitted, NumberAnswer, admit_piece};
-use types::PieceIndex;
+use picker_answers::admit_piece;
+use types::{PieceIndex, Refusal};
 
 fn get_availability_core(
     words: &[u64],
@@ -21,19 +21,15 @@ fn get_availability_core(
     rows: &[u32],
     lent: usize,
     piece: PieceIndex,
-) -> NumberAnswer
+) -> Result<u64, Refusal>
     requires { length rows.now ≡ 1536 }
     ensures { CoreAnswered words.now cells.now rows.now lent
         (of_piece get_availability (number_of piece.0)) (number_answer result) }
 {
     let mut counts = [0; 1536];
     let i = piece.number();
-    match admit_piece(words, cells, rows, lent, &mut counts, i) {
-        Admitted::Refused(why) => NumberAnswer::Refused(why),
-        Admitted::To(s, live) => NumberAnswer::Replied(ask_piece::get_availability(
-            words, cells, s, i,
-        )),
-    }
+    let picker = admit_piece(words, cells, rows, lent, &mut counts, i)?;
+    Ok(ask_piece::get_availability(words, cells, picker.shape, i))
 }
 
 // Peers that have the piece, with the seeds.
@@ -42,7 +38,7 @@ pub fn get_availability(
     cells: &[u16],
     partials: &[DownloadingPiece],
     piece: PieceIndex,
-) -> NumberAnswer
+) -> Result<u64, Refusal>
     ensures { number_answer result ≡ answer_on (lending words.now cells.now partials.now)
         (question (of_piece get_availability (number_of piece.0))) }
 {
@@ -58,17 +54,15 @@ fn piece_stats_core(
     rows: &[u32],
     lent: usize,
     piece: PieceIndex,
-) -> StatsAnswer
+) -> Result<PieceStats, Refusal>
     requires { length rows.now ≡ 1536 }
     ensures { CoreAnswered words.now cells.now rows.now lent
         (of_piece piece_stats (number_of piece.0)) (stats_answer result) }
 {
     let mut counts = [0; 1536];
     let i = piece.number();
-    match admit_piece(words, cells, rows, lent, &mut counts, i) {
-        Admitted::Refused(why) => StatsAnswer::Refused(why),
-        Admitted::To(s, live) => StatsAnswer::Replied(ask_piece::piece_stats(words, cells, s, i)),
-    }
+    let picker = admit_piece(words, cells, rows, lent, &mut counts, i)?;
+    Ok(ask_piece::piece_stats(words, cells, picker.shape, i))
 }
 
 pub fn piece_stats(
@@ -76,7 +70,7 @@ pub fn piece_stats(
     cells: &[u16],
     partials: &[DownloadingPiece],
     piece: PieceIndex,
-) -> StatsAnswer
+) -> Result<PieceStats, Refusal>
     ensures { stats_answer result ≡ answer_on (lending words.now cells.now partials.now)
         (question (of_piece piece_stats (number_of piece.0))) }
 {

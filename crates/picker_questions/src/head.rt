@@ -10,22 +10,24 @@ ghost use Rattle.picker_answers.specs.Admitting.{CoreAnswered};
 ghost use Rattle.picker_answers.specs.Answers.{number_answer, flag_answer};
 
 use memory_records::{DownloadingPiece, live_records, unpack};
-use picker_answers::{Admitted, FlagAnswer, NumberAnswer, admit_picker};
-use types::usize_to_u64;
+use picker_answers::admit_picker;
+use types::{Refusal, usize_to_u64};
 
-fn num_pieces_core(words: &[u64], cells: &[u16], rows: &[u32], lent: usize) -> NumberAnswer
+fn num_pieces_core(words: &[u64], cells: &[u16], rows: &[u32], lent: usize) -> Result<u64, Refusal>
     requires { length rows.now ≡ 1536 }
     ensures { CoreAnswered words.now cells.now rows.now lent
         (of_picker num_pieces) (number_answer result) }
 {
     let mut counts = [0; 1536];
-    match admit_picker(words, cells, rows, lent, &mut counts) {
-        Admitted::Refused(why) => NumberAnswer::Refused(why),
-        Admitted::To(s, live) => NumberAnswer::Replied(usize_to_u64(ask_picker::num_pieces(s))),
-    }
+    let picker = admit_picker(words, cells, rows, lent, &mut counts)?;
+    Ok(usize_to_u64(ask_picker::num_pieces(picker.shape)))
 }
 
-pub fn num_pieces(words: &[u64], cells: &[u16], partials: &[DownloadingPiece]) -> NumberAnswer
+pub fn num_pieces(
+    words: &[u64],
+    cells: &[u16],
+    partials: &[DownloadingPiece],
+) -> Result<u64, Refusal>
     ensures { number_answer result ≡ answer_on (lending words.now cells.now partials.now)
         (question (of_picker num_pieces)) }
 {
@@ -35,21 +37,26 @@ pub fn num_pieces(words: &[u64], cells: &[u16], partials: &[DownloadingPiece]) -
     num_pieces_core(words, cells, &rows, lent)
 }
 
-fn blocks_per_piece_core(words: &[u64], cells: &[u16], rows: &[u32], lent: usize) -> NumberAnswer
+fn blocks_per_piece_core(
+    words: &[u64],
+    cells: &[u16],
+    rows: &[u32],
+    lent: usize,
+) -> Result<u64, Refusal>
     requires { length rows.now ≡ 1536 }
     ensures { CoreAnswered words.now cells.now rows.now lent
         (of_picker ask_blocks_per_piece) (number_answer result) }
 {
     let mut counts = [0; 1536];
-    match admit_picker(words, cells, rows, lent, &mut counts) {
-        Admitted::Refused(why) => NumberAnswer::Refused(why),
-        Admitted::To(s, live) => NumberAnswer::Replied(usize_to_u64(ask_picker::blocks_per_piece(
-            s,
-        ))),
-    }
+    let picker = admit_picker(words, cells, rows, lent, &mut counts)?;
+    Ok(usize_to_u64(ask_picker::blocks_per_piece(picker.shape)))
 }
 
-pub fn blocks_per_piece(words: &[u64], cells: &[u16], partials: &[DownloadingPiece]) -> NumberAnswer
+pub fn blocks_per_piece(
+    words: &[u64],
+    cells: &[u16],
+    partials: &[DownloadingPiece],
+) -> Result<u64, Refusal>
     ensures { number_answer result ≡ answer_on (lending words.now cells.now partials.now)
         (question (of_picker ask_blocks_per_piece)) }
 {
@@ -59,19 +66,21 @@ pub fn blocks_per_piece(words: &[u64], cells: &[u16], partials: &[DownloadingPie
     blocks_per_piece_core(words, cells, &rows, lent)
 }
 
-fn block_size_core(words: &[u64], cells: &[u16], rows: &[u32], lent: usize) -> NumberAnswer
+fn block_size_core(words: &[u64], cells: &[u16], rows: &[u32], lent: usize) -> Result<u64, Refusal>
     requires { length rows.now ≡ 1536 }
     ensures { CoreAnswered words.now cells.now rows.now lent
         (of_picker block_size) (number_answer result) }
 {
     let mut counts = [0; 1536];
-    match admit_picker(words, cells, rows, lent, &mut counts) {
-        Admitted::Refused(why) => NumberAnswer::Refused(why),
-        Admitted::To(s, live) => NumberAnswer::Replied(ask_picker::block_size(words, s)),
-    }
+    let picker = admit_picker(words, cells, rows, lent, &mut counts)?;
+    Ok(ask_picker::block_size(words, picker.shape))
 }
 
-pub fn block_size(words: &[u64], cells: &[u16], partials: &[DownloadingPiece]) -> NumberAnswer
+pub fn block_size(
+    words: &[u64],
+    cells: &[u16],
+    partials: &[DownloadingPiece],
+) -> Result<u64, Refusal>
     ensures { number_answer result ≡ answer_on (lending words.now cells.now partials.now)
         (question (of_picker block_size)) }
 {
@@ -81,19 +90,21 @@ pub fn block_size(words: &[u64], cells: &[u16], partials: &[DownloadingPiece]) -
     block_size_core(words, cells, &rows, lent)
 }
 
-fn total_size_core(words: &[u64], cells: &[u16], rows: &[u32], lent: usize) -> NumberAnswer
+fn total_size_core(words: &[u64], cells: &[u16], rows: &[u32], lent: usize) -> Result<u64, Refusal>
     requires { length rows.now ≡ 1536 }
     ensures { CoreAnswered words.now cells.now rows.now lent
         (of_picker total_size) (number_answer result) }
 {
     let mut counts = [0; 1536];
-    match admit_picker(words, cells, rows, lent, &mut counts) {
-        Admitted::Refused(why) => NumberAnswer::Refused(why),
-        Admitted::To(s, live) => NumberAnswer::Replied(ask_picker::total_size(words, s)),
-    }
+    let picker = admit_picker(words, cells, rows, lent, &mut counts)?;
+    Ok(ask_picker::total_size(words, picker.shape))
 }
 
-pub fn total_size(words: &[u64], cells: &[u16], partials: &[DownloadingPiece]) -> NumberAnswer
+pub fn total_size(
+    words: &[u64],
+    cells: &[u16],
+    partials: &[DownloadingPiece],
+) -> Result<u64, Refusal>
     ensures { number_answer result ≡ answer_on (lending words.now cells.now partials.now)
         (question (of_picker total_size)) }
 {
@@ -103,20 +114,27 @@ pub fn total_size(words: &[u64], cells: &[u16], partials: &[DownloadingPiece]) -
     total_size_core(words, cells, &rows, lent)
 }
 
-fn full_piece_size_core(words: &[u64], cells: &[u16], rows: &[u32], lent: usize) -> NumberAnswer
+fn full_piece_size_core(
+    words: &[u64],
+    cells: &[u16],
+    rows: &[u32],
+    lent: usize,
+) -> Result<u64, Refusal>
     requires { length rows.now ≡ 1536 }
     ensures { CoreAnswered words.now cells.now rows.now lent
         (of_picker full_piece_size) (number_answer result) }
 {
     let mut counts = [0; 1536];
-    match admit_picker(words, cells, rows, lent, &mut counts) {
-        Admitted::Refused(why) => NumberAnswer::Refused(why),
-        Admitted::To(s, live) => NumberAnswer::Replied(ask_picker::full_piece_size(words, s)),
-    }
+    let picker = admit_picker(words, cells, rows, lent, &mut counts)?;
+    Ok(ask_picker::full_piece_size(words, picker.shape))
 }
 
 // The length of a whole piece.
-pub fn full_piece_size(words: &[u64], cells: &[u16], partials: &[DownloadingPiece]) -> NumberAnswer
+pub fn full_piece_size(
+    words: &[u64],
+    cells: &[u16],
+    partials: &[DownloadingPiece],
+) -> Result<u64, Refusal>
     ensures { number_answer result ≡ answer_on (lending words.now cells.now partials.now)
         (question (of_picker full_piece_size)) }
 {
@@ -126,19 +144,21 @@ pub fn full_piece_size(words: &[u64], cells: &[u16], partials: &[DownloadingPiec
     full_piece_size_core(words, cells, &rows, lent)
 }
 
-fn num_seeds_core(words: &[u64], cells: &[u16], rows: &[u32], lent: usize) -> NumberAnswer
+fn num_seeds_core(words: &[u64], cells: &[u16], rows: &[u32], lent: usize) -> Result<u64, Refusal>
     requires { length rows.now ≡ 1536 }
     ensures { CoreAnswered words.now cells.now rows.now lent
         (of_picker num_seeds) (number_answer result) }
 {
     let mut counts = [0; 1536];
-    match admit_picker(words, cells, rows, lent, &mut counts) {
-        Admitted::Refused(why) => NumberAnswer::Refused(why),
-        Admitted::To(s, live) => NumberAnswer::Replied(ask_picker::num_seeds(words, s)),
-    }
+    let picker = admit_picker(words, cells, rows, lent, &mut counts)?;
+    Ok(ask_picker::num_seeds(words, picker.shape))
 }
 
-pub fn num_seeds(words: &[u64], cells: &[u16], partials: &[DownloadingPiece]) -> NumberAnswer
+pub fn num_seeds(
+    words: &[u64],
+    cells: &[u16],
+    partials: &[DownloadingPiece],
+) -> Result<u64, Refusal>
     ensures { number_answer result ≡ answer_on (lending words.now cells.now partials.now)
         (question (of_picker num_seeds)) }
 {
@@ -148,19 +168,17 @@ pub fn num_seeds(words: &[u64], cells: &[u16], partials: &[DownloadingPiece]) ->
     num_seeds_core(words, cells, &rows, lent)
 }
 
-fn cursor_core(words: &[u64], cells: &[u16], rows: &[u32], lent: usize) -> NumberAnswer
+fn cursor_core(words: &[u64], cells: &[u16], rows: &[u32], lent: usize) -> Result<u64, Refusal>
     requires { length rows.now ≡ 1536 }
     ensures { CoreAnswered words.now cells.now rows.now lent
         (of_picker cursor?) (number_answer result) }
 {
     let mut counts = [0; 1536];
-    match admit_picker(words, cells, rows, lent, &mut counts) {
-        Admitted::Refused(why) => NumberAnswer::Refused(why),
-        Admitted::To(s, live) => NumberAnswer::Replied(ask_picker::cursor(words, s)),
-    }
+    let picker = admit_picker(words, cells, rows, lent, &mut counts)?;
+    Ok(ask_picker::cursor(words, picker.shape))
 }
 
-pub fn cursor(words: &[u64], cells: &[u16], partials: &[DownloadingPiece]) -> NumberAnswer
+pub fn cursor(words: &[u64], cells: &[u16], partials: &[DownloadingPiece]) -> Result<u64, Refusal>
     ensures { number_answer result ≡ answer_on (lending words.now cells.now partials.now)
         (question (of_picker cursor?)) }
 {
@@ -170,19 +188,26 @@ pub fn cursor(words: &[u64], cells: &[u16], partials: &[DownloadingPiece]) -> Nu
     cursor_core(words, cells, &rows, lent)
 }
 
-fn reverse_cursor_core(words: &[u64], cells: &[u16], rows: &[u32], lent: usize) -> NumberAnswer
+fn reverse_cursor_core(
+    words: &[u64],
+    cells: &[u16],
+    rows: &[u32],
+    lent: usize,
+) -> Result<u64, Refusal>
     requires { length rows.now ≡ 1536 }
     ensures { CoreAnswered words.now cells.now rows.now lent
         (of_picker reverse_cursor?) (number_answer result) }
 {
     let mut counts = [0; 1536];
-    match admit_picker(words, cells, rows, lent, &mut counts) {
-        Admitted::Refused(why) => NumberAnswer::Refused(why),
-        Admitted::To(s, live) => NumberAnswer::Replied(ask_picker::reverse_cursor(words, s)),
-    }
+    let picker = admit_picker(words, cells, rows, lent, &mut counts)?;
+    Ok(ask_picker::reverse_cursor(words, picker.shape))
 }
 
-pub fn reverse_cursor(words: &[u64], cells: &[u16], partials: &[DownloadingPiece]) -> NumberAnswer
+pub fn reverse_cursor(
+    words: &[u64],
+    cells: &[u16],
+    partials: &[DownloadingPiece],
+) -> Result<u64, Refusal>
     ensures { number_answer result ≡ answer_on (lending words.now cells.now partials.now)
         (question (of_picker reverse_cursor?)) }
 {
@@ -192,20 +217,18 @@ pub fn reverse_cursor(words: &[u64], cells: &[u16], partials: &[DownloadingPiece
     reverse_cursor_core(words, cells, &rows, lent)
 }
 
-fn dirty_core(words: &[u64], cells: &[u16], rows: &[u32], lent: usize) -> FlagAnswer
+fn dirty_core(words: &[u64], cells: &[u16], rows: &[u32], lent: usize) -> Result<bool, Refusal>
     requires { length rows.now ≡ 1536 }
     ensures { CoreAnswered words.now cells.now rows.now lent
         (of_picker dirty?) (flag_answer result) }
 {
     let mut counts = [0; 1536];
-    match admit_picker(words, cells, rows, lent, &mut counts) {
-        Admitted::Refused(why) => FlagAnswer::Refused(why),
-        Admitted::To(s, live) => FlagAnswer::Replied(ask_picker::dirty(words, s)),
-    }
+    let picker = admit_picker(words, cells, rows, lent, &mut counts)?;
+    Ok(ask_picker::dirty(words, picker.shape))
 }
 
 // Whether the list has to be rebuilt.
-pub fn dirty(words: &[u64], cells: &[u16], partials: &[DownloadingPiece]) -> FlagAnswer
+pub fn dirty(words: &[u64], cells: &[u16], partials: &[DownloadingPiece]) -> Result<bool, Refusal>
     ensures { flag_answer result ≡ answer_on (lending words.now cells.now partials.now)
         (question (of_picker dirty?)) }
 {
@@ -220,18 +243,14 @@ fn get_download_queue_size_core(
     cells: &[u16],
     rows: &[u32],
     lent: usize,
-) -> NumberAnswer
+) -> Result<u64, Refusal>
     requires { length rows.now ≡ 1536 }
     ensures { CoreAnswered words.now cells.now rows.now lent
         (of_picker get_download_queue_size) (number_answer result) }
 {
     let mut counts = [0; 1536];
-    match admit_picker(words, cells, rows, lent, &mut counts) {
-        Admitted::Refused(why) => NumberAnswer::Refused(why),
-        Admitted::To(s, live) => NumberAnswer::Replied(usize_to_u64(
-            ask_picker::get_download_queue_size(words, s),
-        )),
-    }
+    let picker = admit_picker(words, cells, rows, lent, &mut counts)?;
+    Ok(usize_to_u64(ask_picker::get_download_queue_size(words, picker.shape)))
 }
 
 // How many partials stand.
@@ -239,7 +258,7 @@ pub fn get_download_queue_size(
     words: &[u64],
     cells: &[u16],
     partials: &[DownloadingPiece],
-) -> NumberAnswer
+) -> Result<u64, Refusal>
     ensures { number_answer result ≡ answer_on (lending words.now cells.now partials.now)
         (question (of_picker get_download_queue_size)) }
 {

@@ -1,14 +1,12 @@
 // The public questions of the picker that its head and its columns answer, and of what stands at a place. None requires anything: each is
 // refused as the table says, or answers what the definition replies.
 // Written by tools/publics.py, and not by hand.
-#![tactic(auto, using(picker_calls::proofs::PublicLaws::public_calls))]
+#![tactic(auto, using(picker_answers::proofs::AdmittedLaws::public_questions), unfolding(model::specs::Calls::question_refusal))]
 
-mod answers;
 mod copies;
 mod head;
 mod places;
 
-pub use answers::{CopiesAnswer, PlaceAnswer};
 pub use copies::distributed_copies;
 pub use head::{
     block_size, blocks_per_piece, cursor, dirty, full_piece_size, get_download_queue_size,

@@ -9,10 +9,10 @@ ghost use Rattle.picker_calls.specs.Cores.{lending};
 ghost use Rattle.picker_answers.specs.Admitting.{CoreAnswered};
 ghost use Rattle.picker_questions.specs.Answers.{place_answer};
 
-use crate::answers::PlaceAnswer;
+use ask_places::Placed;
 use memory_records::{DownloadingPiece, live_records, unpack};
-use picker_answers::{Admitted, admit_picker, admit_place};
-use types::i32_to_usize;
+use picker_answers::{admit_picker, admit_place};
+use types::{Refusal, i32_to_usize};
 
 fn partial_at_core(
     words: &[u64],
@@ -20,17 +20,15 @@ fn partial_at_core(
     rows: &[u32],
     lent: usize,
     place: i32,
-) -> PlaceAnswer
+) -> Result<Placed, Refusal>
     requires { length rows.now ≡ 1536 }
     ensures { CoreAnswered words.now cells.now rows.now lent
         (partial_at (number_of place)) (place_answer result) }
 {
     let mut counts = [0; 1536];
     let k = i32_to_usize(place);
-    match admit_picker(words, cells, rows, lent, &mut counts) {
-        Admitted::Refused(why) => PlaceAnswer::Refused(why),
-        Admitted::To(s, live) => PlaceAnswer::Replied(ask_places::partial_at(rows, live, k)),
-    }
+    let picker = admit_picker(words, cells, rows, lent, &mut counts)?;
+    Ok(ask_places::partial_at(rows, picker.live, k))
 }
 
 // The piece of the partial at a place, by rising piece.
@@ -39,7 +37,7 @@ pub fn partial_at(
     cells: &[u16],
     partials: &[DownloadingPiece],
     place: i32,
-) -> PlaceAnswer
+) -> Result<Placed, Refusal>
     ensures { place_answer result ≡ answer_on (lending words.now cells.now partials.now)
         (question (partial_at (number_of place))) }
 {
@@ -55,17 +53,15 @@ fn recent_extent_core(
     rows: &[u32],
     lent: usize,
     place: i32,
-) -> PlaceAnswer
+) -> Result<Placed, Refusal>
     requires { length rows.now ≡ 1536 }
     ensures { CoreAnswered words.now cells.now rows.now lent
         (recent_extent (number_of place)) (place_answer result) }
 {
     let mut counts = [0; 1536];
     let k = i32_to_usize(place);
-    match admit_picker(words, cells, rows, lent, &mut counts) {
-        Admitted::Refused(why) => PlaceAnswer::Refused(why),
-        Admitted::To(s, live) => PlaceAnswer::Replied(ask_places::recent_extent(words, s, k)),
-    }
+    let picker = admit_picker(words, cells, rows, lent, &mut counts)?;
+    Ok(ask_places::recent_extent(words, picker.shape, k))
 }
 
 // The extent at a place, the oldest first.
@@ -74,7 +70,7 @@ pub fn recent_extent(
     cells: &[u16],
     partials: &[DownloadingPiece],
     place: i32,
-) -> PlaceAnswer
+) -> Result<Placed, Refusal>
     ensures { place_answer result ≡ answer_on (lending words.now cells.now partials.now)
         (question (recent_extent (number_of place))) }
 {
@@ -90,17 +86,15 @@ fn list_place_core(
     rows: &[u32],
     lent: usize,
     place: i32,
-) -> PlaceAnswer
+) -> Result<Placed, Refusal>
     requires { length rows.now ≡ 1536 }
     ensures { CoreAnswered words.now cells.now rows.now lent
         (ask_list_place (number_of place)) (place_answer result) }
 {
     let mut counts = [0; 1536];
     let k = i32_to_usize(place);
-    match admit_place(words, cells, rows, lent, &mut counts, k) {
-        Admitted::Refused(why) => PlaceAnswer::Refused(why),
-        Admitted::To(s, live) => PlaceAnswer::Replied(ask_places::list_place(words, s, k)),
-    }
+    let picker = admit_place(words, cells, rows, lent, &mut counts, k)?;
+    Ok(ask_places::list_place(words, picker.shape, k))
 }
 
 // The piece at a place of the list.
@@ -109,7 +103,7 @@ pub fn list_place(
     cells: &[u16],
     partials: &[DownloadingPiece],
     place: i32,
-) -> PlaceAnswer
+) -> Result<Placed, Refusal>
     ensures { place_answer result ≡ answer_on (lending words.now cells.now partials.now)
         (question (ask_list_place (number_of place))) }
 {

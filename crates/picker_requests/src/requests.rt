@@ -3,12 +3,13 @@ ghost use Rattle.std.specs.Prelude.{◌≡◌, length};
 ghost use Rattle.picker_blocks.specs.Arguments.{downloading};
 ghost use Rattle.picker_calls.specs.Outcomes.{outcome};
 ghost use Rattle.picker_calls.specs.Calling.{Called};
-ghost use Rattle.picker_calls.specs.Cores.{lending, CoreCalled};
+ghost use Rattle.picker_calls.specs.Cores.{lending, CoreGives};
 
 use memory_edits::apply;
 use memory_records::{DownloadingPiece, live_records, unpack};
 use picker_blocks::{BlockRequest, block_number, judge_downloading};
-use picker_calls::{Admission, CallStep, Judgement, Outcome, admit, refused};
+use picker_calls::{CallStep, Outcome, admit};
+use types::Refusal;
 
 fn mark_as_downloading_core(
     words: &mut [u64],
@@ -17,46 +18,36 @@ fn mark_as_downloading_core(
     lent: usize,
     draws: &[u32],
     request: BlockRequest,
-) -> CallStep
+) -> Result<CallStep, Refusal>
     requires { length rows.now ≡ 1536 }
-    ensures { CoreCalled words.old cells.old rows.now lent
-        (downloading request draws.now) words.new cells.new
-        (outcome result.out) result.count result.edit }
+    ensures { CoreGives words.old cells.old rows.now lent
+        (downloading request draws.now) words.new cells.new result }
 {
     let mut counts = [0; 1536];
-    match admit(words, cells, rows, lent, &mut counts) {
-        Admission::Refused(why) => refused(why),
-        Admission::At(s) => {
-            let i = request.block.piece_index.number();
-            let j = block_number(request.block);
-            let live = live_records(words);
-            match judge_downloading(words, cells, rows, live, s, draws, i, j) {
-                Judgement::Refused(why) => refused(why),
-                Judgement::Passed => {
-                    let m = change_marks::mark_as_downloading(
-                        words,
-                        cells,
-                        rows,
-                        live,
-                        &counts,
-                        s,
-                        i,
-                        j,
-                        request.has_peer,
-                        request.peer,
-                        request.options,
-                        draws,
-                    );
-                    let edit = m.edit;
-                    CallStep {
-                        out: Outcome::Said(m.answer, m.used),
-                        count: live,
-                        edit: edit,
-                    }
-                }
-            }
-        }
-    }
+    let s = admit(words, cells, rows, lent, &mut counts)?;
+    let i = request.block.piece_index.number();
+    let j = block_number(request.block);
+    let live = live_records(words);
+    judge_downloading(words, cells, rows, live, s, draws, i, j)?;
+    let m = change_marks::mark_as_downloading(
+        words,
+        cells,
+        rows,
+        live,
+        &counts,
+        s,
+        i,
+        j,
+        request.has_peer,
+        request.peer,
+        request.options,
+        draws,
+    );
+    Ok(CallStep {
+        out: Outcome::Said(m.answer, m.used),
+        count: live,
+        edit: m.edit,
+    })
 }
 
 // The peer is asked for the block. Answers whether it was marked, and the draws used.
@@ -66,7 +57,7 @@ pub fn mark_as_downloading(
     partials: &mut [DownloadingPiece],
     draws: &[u32],
     request: BlockRequest,
-) -> Outcome
+) -> Result<Outcome, Refusal>
     ensures { Called (lending words.old cells.old partials.old)
         (downloading request draws.now) (lending words.new cells.new partials.new)
         (outcome result) }
@@ -74,7 +65,7 @@ pub fn mark_as_downloading(
     let mut rows = [0; 1536];
     let live = live_records(words);
     let lent = unpack(partials, live, &mut rows);
-    let r = mark_as_downloading_core(words, cells, &rows, lent, draws, request);
+    let r = mark_as_downloading_core(words, cells, &rows, lent, draws, request)?;
     apply(partials, r.count, r.edit);
-    r.out
+    Ok(r.out)
 }

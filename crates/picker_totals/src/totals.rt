@@ -10,26 +10,32 @@ ghost use Rattle.picker_answers.specs.Admitting.{CoreAnswered};
 ghost use Rattle.picker_answers.specs.Answers.{number_answer};
 ghost use Rattle.picker_totals.specs.Answers.{count_answer};
 
-use crate::answers::CountAnswer;
+use ask_totals::PieceCount;
 use memory_records::{DownloadingPiece, live_records, unpack};
-use picker_answers::{Admitted, NumberAnswer, admit_picker};
+use picker_answers::admit_picker;
+use types::Refusal;
 
-fn num_pad_bytes_core(words: &[u64], cells: &[u16], rows: &[u32], lent: usize) -> NumberAnswer
+fn num_pad_bytes_core(
+    words: &[u64],
+    cells: &[u16],
+    rows: &[u32],
+    lent: usize,
+) -> Result<u64, Refusal>
     requires { length rows.now ≡ 1536 }
     ensures { CoreAnswered words.now cells.now rows.now lent
         (of_picker num_pad_bytes) (number_answer result) }
 {
     let mut counts = [0; 1536];
-    match admit_picker(words, cells, rows, lent, &mut counts) {
-        Admitted::Refused(why) => NumberAnswer::Refused(why),
-        Admitted::To(s, live) => NumberAnswer::Replied(ask_totals::num_pad_bytes(
-            words, cells, rows, live, s,
-        )),
-    }
+    let picker = admit_picker(words, cells, rows, lent, &mut counts)?;
+    Ok(ask_totals::num_pad_bytes(words, cells, rows, picker.live, picker.shape))
 }
 
 // The pad bytes of all pieces.
-pub fn num_pad_bytes(words: &[u64], cells: &[u16], partials: &[DownloadingPiece]) -> NumberAnswer
+pub fn num_pad_bytes(
+    words: &[u64],
+    cells: &[u16],
+    partials: &[DownloadingPiece],
+) -> Result<u64, Refusal>
     ensures { number_answer result ≡ answer_on (lending words.now cells.now partials.now)
         (question (of_picker num_pad_bytes)) }
 {
@@ -39,22 +45,18 @@ pub fn num_pad_bytes(words: &[u64], cells: &[u16], partials: &[DownloadingPiece]
     num_pad_bytes_core(words, cells, &rows, lent)
 }
 
-fn num_have_core(words: &[u64], cells: &[u16], rows: &[u32], lent: usize) -> NumberAnswer
+fn num_have_core(words: &[u64], cells: &[u16], rows: &[u32], lent: usize) -> Result<u64, Refusal>
     requires { length rows.now ≡ 1536 }
     ensures { CoreAnswered words.now cells.now rows.now lent
         (of_picker ask_num_have) (number_answer result) }
 {
     let mut counts = [0; 1536];
-    match admit_picker(words, cells, rows, lent, &mut counts) {
-        Admitted::Refused(why) => NumberAnswer::Refused(why),
-        Admitted::To(s, live) => NumberAnswer::Replied(ask_totals::num_have(
-            words, cells, rows, live, s,
-        )),
-    }
+    let picker = admit_picker(words, cells, rows, lent, &mut counts)?;
+    Ok(ask_totals::num_have(words, cells, rows, picker.live, picker.shape))
 }
 
 // Pieces that are flushed, or passed while still partials.
-pub fn num_have(words: &[u64], cells: &[u16], partials: &[DownloadingPiece]) -> NumberAnswer
+pub fn num_have(words: &[u64], cells: &[u16], partials: &[DownloadingPiece]) -> Result<u64, Refusal>
     ensures { number_answer result ≡ answer_on (lending words.now cells.now partials.now)
         (question (of_picker ask_num_have)) }
 {
@@ -64,22 +66,27 @@ pub fn num_have(words: &[u64], cells: &[u16], partials: &[DownloadingPiece]) -> 
     num_have_core(words, cells, &rows, lent)
 }
 
-fn num_filtered_core(words: &[u64], cells: &[u16], rows: &[u32], lent: usize) -> NumberAnswer
+fn num_filtered_core(
+    words: &[u64],
+    cells: &[u16],
+    rows: &[u32],
+    lent: usize,
+) -> Result<u64, Refusal>
     requires { length rows.now ≡ 1536 }
     ensures { CoreAnswered words.now cells.now rows.now lent
         (of_picker ask_num_filtered) (number_answer result) }
 {
     let mut counts = [0; 1536];
-    match admit_picker(words, cells, rows, lent, &mut counts) {
-        Admitted::Refused(why) => NumberAnswer::Refused(why),
-        Admitted::To(s, live) => NumberAnswer::Replied(ask_totals::num_filtered(
-            words, cells, rows, live, s,
-        )),
-    }
+    let picker = admit_picker(words, cells, rows, lent, &mut counts)?;
+    Ok(ask_totals::num_filtered(words, cells, rows, picker.live, picker.shape))
 }
 
 // Pieces of priority 0 that are not had.
-pub fn num_filtered(words: &[u64], cells: &[u16], partials: &[DownloadingPiece]) -> NumberAnswer
+pub fn num_filtered(
+    words: &[u64],
+    cells: &[u16],
+    partials: &[DownloadingPiece],
+) -> Result<u64, Refusal>
     ensures { number_answer result ≡ answer_on (lending words.now cells.now partials.now)
         (question (of_picker ask_num_filtered)) }
 {
@@ -89,18 +96,19 @@ pub fn num_filtered(words: &[u64], cells: &[u16], partials: &[DownloadingPiece])
     num_filtered_core(words, cells, &rows, lent)
 }
 
-fn num_have_filtered_core(words: &[u64], cells: &[u16], rows: &[u32], lent: usize) -> NumberAnswer
+fn num_have_filtered_core(
+    words: &[u64],
+    cells: &[u16],
+    rows: &[u32],
+    lent: usize,
+) -> Result<u64, Refusal>
     requires { length rows.now ≡ 1536 }
     ensures { CoreAnswered words.now cells.now rows.now lent
         (of_picker ask_num_have_filtered) (number_answer result) }
 {
     let mut counts = [0; 1536];
-    match admit_picker(words, cells, rows, lent, &mut counts) {
-        Admitted::Refused(why) => NumberAnswer::Refused(why),
-        Admitted::To(s, live) => NumberAnswer::Replied(ask_totals::num_have_filtered(
-            words, cells, rows, live, s,
-        )),
-    }
+    let picker = admit_picker(words, cells, rows, lent, &mut counts)?;
+    Ok(ask_totals::num_have_filtered(words, cells, rows, picker.live, picker.shape))
 }
 
 // Pieces of priority 0 that are.
@@ -108,7 +116,7 @@ pub fn num_have_filtered(
     words: &[u64],
     cells: &[u16],
     partials: &[DownloadingPiece],
-) -> NumberAnswer
+) -> Result<u64, Refusal>
     ensures { number_answer result ≡ answer_on (lending words.now cells.now partials.now)
         (question (of_picker ask_num_have_filtered)) }
 {
@@ -118,22 +126,22 @@ pub fn num_have_filtered(
     num_have_filtered_core(words, cells, &rows, lent)
 }
 
-fn want_core(words: &[u64], cells: &[u16], rows: &[u32], lent: usize) -> CountAnswer
+fn want_core(words: &[u64], cells: &[u16], rows: &[u32], lent: usize) -> Result<PieceCount, Refusal>
     requires { length rows.now ≡ 1536 }
     ensures { CoreAnswered words.now cells.now rows.now lent
         (of_picker want) (count_answer result) }
 {
     let mut counts = [0; 1536];
-    match admit_picker(words, cells, rows, lent, &mut counts) {
-        Admitted::Refused(why) => CountAnswer::Refused(why),
-        Admitted::To(s, live) => CountAnswer::Replied(ask_totals::want(
-            words, cells, rows, live, s,
-        )),
-    }
+    let picker = admit_picker(words, cells, rows, lent, &mut counts)?;
+    Ok(ask_totals::want(words, cells, rows, picker.live, picker.shape))
 }
 
 // Pieces that are not filtered.
-pub fn want(words: &[u64], cells: &[u16], partials: &[DownloadingPiece]) -> CountAnswer
+pub fn want(
+    words: &[u64],
+    cells: &[u16],
+    partials: &[DownloadingPiece],
+) -> Result<PieceCount, Refusal>
     ensures { count_answer result ≡ answer_on (lending words.now cells.now partials.now)
         (question (of_picker want)) }
 {
@@ -143,22 +151,27 @@ pub fn want(words: &[u64], cells: &[u16], partials: &[DownloadingPiece]) -> Coun
     want_core(words, cells, &rows, lent)
 }
 
-fn have_want_core(words: &[u64], cells: &[u16], rows: &[u32], lent: usize) -> CountAnswer
+fn have_want_core(
+    words: &[u64],
+    cells: &[u16],
+    rows: &[u32],
+    lent: usize,
+) -> Result<PieceCount, Refusal>
     requires { length rows.now ≡ 1536 }
     ensures { CoreAnswered words.now cells.now rows.now lent
         (of_picker have_want) (count_answer result) }
 {
     let mut counts = [0; 1536];
-    match admit_picker(words, cells, rows, lent, &mut counts) {
-        Admitted::Refused(why) => CountAnswer::Refused(why),
-        Admitted::To(s, live) => CountAnswer::Replied(ask_totals::have_want(
-            words, cells, rows, live, s,
-        )),
-    }
+    let picker = admit_picker(words, cells, rows, lent, &mut counts)?;
+    Ok(ask_totals::have_want(words, cells, rows, picker.live, picker.shape))
 }
 
 // Those of them that are had.
-pub fn have_want(words: &[u64], cells: &[u16], partials: &[DownloadingPiece]) -> CountAnswer
+pub fn have_want(
+    words: &[u64],
+    cells: &[u16],
+    partials: &[DownloadingPiece],
+) -> Result<PieceCount, Refusal>
     ensures { count_answer result ≡ answer_on (lending words.now cells.now partials.now)
         (question (of_picker have_want)) }
 {
@@ -168,22 +181,22 @@ pub fn have_want(words: &[u64], cells: &[u16], partials: &[DownloadingPiece]) ->
     have_want_core(words, cells, &rows, lent)
 }
 
-fn have_core(words: &[u64], cells: &[u16], rows: &[u32], lent: usize) -> CountAnswer
+fn have_core(words: &[u64], cells: &[u16], rows: &[u32], lent: usize) -> Result<PieceCount, Refusal>
     requires { length rows.now ≡ 1536 }
     ensures { CoreAnswered words.now cells.now rows.now lent
         (of_picker have) (count_answer result) }
 {
     let mut counts = [0; 1536];
-    match admit_picker(words, cells, rows, lent, &mut counts) {
-        Admitted::Refused(why) => CountAnswer::Refused(why),
-        Admitted::To(s, live) => CountAnswer::Replied(ask_totals::have(
-            words, cells, rows, live, s,
-        )),
-    }
+    let picker = admit_picker(words, cells, rows, lent, &mut counts)?;
+    Ok(ask_totals::have(words, cells, rows, picker.live, picker.shape))
 }
 
 // Pieces that are had.
-pub fn have(words: &[u64], cells: &[u16], partials: &[DownloadingPiece]) -> CountAnswer
+pub fn have(
+    words: &[u64],
+    cells: &[u16],
+    partials: &[DownloadingPiece],
+) -> Result<PieceCount, Refusal>
     ensures { count_answer result ≡ answer_on (lending words.now cells.now partials.now)
         (question (of_picker have)) }
 {
@@ -193,21 +206,26 @@ pub fn have(words: &[u64], cells: &[u16], partials: &[DownloadingPiece]) -> Coun
     have_core(words, cells, &rows, lent)
 }
 
-fn all_pieces_core(words: &[u64], cells: &[u16], rows: &[u32], lent: usize) -> CountAnswer
+fn all_pieces_core(
+    words: &[u64],
+    cells: &[u16],
+    rows: &[u32],
+    lent: usize,
+) -> Result<PieceCount, Refusal>
     requires { length rows.now ≡ 1536 }
     ensures { CoreAnswered words.now cells.now rows.now lent
         (of_picker all_pieces) (count_answer result) }
 {
     let mut counts = [0; 1536];
-    match admit_picker(words, cells, rows, lent, &mut counts) {
-        Admitted::Refused(why) => CountAnswer::Refused(why),
-        Admitted::To(s, live) => CountAnswer::Replied(ask_totals::all_pieces(
-            words, cells, rows, live, s,
-        )),
-    }
+    let picker = admit_picker(words, cells, rows, lent, &mut counts)?;
+    Ok(ask_totals::all_pieces(words, cells, rows, picker.live, picker.shape))
 }
 
-pub fn all_pieces(words: &[u64], cells: &[u16], partials: &[DownloadingPiece]) -> CountAnswer
+pub fn all_pieces(
+    words: &[u64],
+    cells: &[u16],
+    partials: &[DownloadingPiece],
+) -> Result<PieceCount, Refusal>
     ensures { count_answer result ≡ answer_on (lending words.now cells.now partials.now)
         (question (of_picker all_pieces)) }
 {

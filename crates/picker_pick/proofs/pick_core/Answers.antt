@@ -14,8 +14,8 @@ pick_pieces-requires c = let a = c.args in
     let f = c.places_free-free in
     let j = c.judge_pick in
     let n = c.live_records-live in
-    let at = c.in-At.is in
-    let e = c.in-Passed.is in record {
+    let at = c.in_ok-s.was in
+    let e = c.in_ok-judge_pick.was in record {
       picks = pick_asks _ _ _ _ _ k.result k.ensures _ at a.a a.bytes.now a.suggestions.now a.draws.now a.out.now q.result q.ensures
           f.result f.ensures j.result j.ensures e n.result n.ensures;
       counts_held = pick_counts _ _ _ _ _ k.result k.ensures _ at a.a a.bytes.now a.suggestions.now a.draws.now a.out.now q.result
@@ -24,35 +24,36 @@ pick_pieces-requires c = let a = c.args in
           q.ensures f.result f.ensures j.result j.ensures e n.result n.ensures;
     }
 
-pub returns-in-Refused : goal.returns-in-Refused
-returns-in-Refused c = let a = c.args in
+pub returns-in_err-s : goal.returns-in_err-s
+returns-in_err-s c = let a = c.args in
     let k = c.admit in
-    pick_barred _ _ _ _ _ k.result k.ensures _ c.in-Refused.is (request_asked a.a a.bytes.now (each number_of a.suggestions.now))
-    a.draws.now a.a.end a.out.now
+    pick_barred _ _ _ _ _ k.result k.ensures _ c.in_err-s.was (request_asked a.a a.bytes.now (each number_of a.suggestions.now))
+    a.draws.now a.a.end a.out.now c.from_residual.result c.from_residual.ensures.1
 
-pub returns-in-Refused-judge_pick : goal.returns-in-Refused-judge_pick
-returns-in-Refused-judge_pick c = let a = c.args in
+pub returns-in_err-judge_pick : goal.returns-in_err-judge_pick
+returns-in_err-judge_pick c = let a = c.args in
     let k = c.admit in
     let q = c.request-q in
     let f = c.places_free-free in
     let j = c.judge_pick in
-    pick_denied _ _ _ _ _ k.result k.ensures _ c.in-At.is a.a a.bytes.now a.suggestions.now a.draws.now a.out.now
-    q.result q.ensures f.result f.ensures j.result j.ensures _ c.in-Refused-judge_pick.is
+    pick_denied _ _ _ _ _ k.result k.ensures _ c.in_ok-s.was a.a a.bytes.now a.suggestions.now a.draws.now a.out.now
+    q.result q.ensures f.result f.ensures j.result j.ensures _ c.in_err-judge_pick.was c.from_residual-in_err-judge_pick.result
+    c.from_residual-in_err-judge_pick.ensures.1
 
-pub shape_of-words-in-Passed : goal.shape_of-words-in-Passed
-shape_of-words-in-Passed c = c.pick_pieces.ensures.pick_left.words_kept.long
+pub shape_of-words : goal.shape_of-words
+shape_of-words c = c.pick_pieces.ensures.pick_left.words_kept.long
 
 pub shape_of-out : goal.shape_of-out
 shape_of-out c = c.pick_pieces.ensures.pick_gave.long
 
-pub returns-in-Passed : goal.returns-in-Passed
-returns-in-Passed c = let a = c.args in
+pub returns : goal.returns
+returns c = let a = c.args in
     let k = c.admit in
     let q = c.request-q in
     let f = c.places_free-free in
     let j = c.judge_pick in
     let n = c.live_records-live in
     let p = c.pick_pieces in
-    pick_did _ _ _ _ _ k.result k.ensures _ c.in-At.is a.a a.bytes.now a.suggestions.now a.draws.now a.out.now
-    q.result q.ensures f.result f.ensures j.result j.ensures c.in-Passed.is n.result n.ensures _ _ p.result
+    pick_did _ _ _ _ _ k.result k.ensures _ c.in_ok-s.was a.a a.bytes.now a.suggestions.now a.draws.now a.out.now
+    q.result q.ensures f.result f.ensures j.result j.ensures c.in_ok-judge_pick.was n.result n.ensures _ _ p.result
     p.ensures.pick_gave p.ensures.pick_left

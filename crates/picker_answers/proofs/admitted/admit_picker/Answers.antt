@@ -6,14 +6,14 @@ use Rattle.picker_answers.proofs.AdmittedLaws.{refused_for_memory, admitted_by_r
 use borrow.Author.Rules.{rules}
 use Rattle.picker_answers.proofs.admitted.admit_picker.Goals as goal
 
-pub returns-in-Refused : goal.returns-in-Refused
+pub returns-in_err-shape : goal.returns-in_err-shape
 unfolding of_memory
-returns-in-Refused c = let k = c.admit in
+returns-in_err-shape c = let k = c.admit in
     refused_for_memory (λ d. none) (λ d. refl) _ _ _ _ _ _ k.result k.ensures _
-    c.in-Refused.is
+    c.in_err-shape.was _ c.from_residual.ensures.1
 
-pub returns-in-At : goal.returns-in-At
+pub returns : goal.returns
 unfolding of_memory
-returns-in-At c = let k = c.admit in
+returns c = let k = c.admit in
     admitted_by_rule (λ d. none) (λ d. refl) _ _ _ _ _ _ k.result k.ensures _
-    c.in-At.is refl tt _ c.live_records.ensures
+    c.in_ok-shape.was refl tt _ c.live_records.ensures

@@ -11,12 +11,12 @@ use Rattle.picker_answers.proofs.admitted.admit_place.Goals as goal
 
 pub past_list-requires : goal.past_list-requires
 past_list-requires c = let k = c.admit in
-    (stood_at _ _ _ _ _ k.result k.ensures _ c.in-At.is).stands.bounds.spans.in_words
+    (stood_at _ _ _ _ _ k.result k.ensures _ c.in_ok-shape.was).stands.bounds.spans.in_words
 
 pub returns-then-past_list : goal.returns-then-past_list
 unfolding check
 returns-then-past_list c = let k = c.admit in
-    let at = c.in-At.is in
+    let at = c.in_ok-shape.was in
     let a = c.args in
     let t = (stood_at _ _ _ _ _ k.result k.ensures _ at).stands in
     refused_by_rule (λ d. check (no_place d.listing a.k) OutOfRange none) (place_rule a.k) _ _ _ _ _ _
@@ -24,16 +24,16 @@ returns-then-past_list c = let k = c.admit in
     (ap (λ (x : Bool). check x OutOfRange none)
     (sym (c.past_list.ensures.is _ _ t.bounds) ∙ c.if-past_list.true))
 
-pub returns-in-Refused : goal.returns-in-Refused
-returns-in-Refused c = let k = c.admit in
+pub returns-in_err-shape : goal.returns-in_err-shape
+returns-in_err-shape c = let k = c.admit in
     let a = c.args in
     refused_for_memory (λ d. check (no_place d.listing a.k) OutOfRange none) (place_rule a.k) _ _ _ _ _ _ k.result k.ensures _
-    c.in-Refused.is
+    c.in_err-shape.was _ c.from_residual.ensures.1
 
-pub returns-else-past_list : goal.returns-else-past_list
+pub returns : goal.returns
 unfolding check
-returns-else-past_list c = let k = c.admit in
-    let at = c.in-At.is in
+returns c = let k = c.admit in
+    let at = c.in_ok-shape.was in
     let a = c.args in
     let t = (stood_at _ _ _ _ _ k.result k.ensures _ at).stands in
     admitted_by_rule (λ d. check (no_place d.listing a.k) OutOfRange none) (place_rule a.k) _ _ _ _ _ _

@@ -7,36 +7,23 @@ use Rattle.types.specs.Piece.{number_of}
 use borrow.Author.Rules.{rules}
 use Rattle.model.specs.ask.Questions.{of_block, block_state, reply}
 use Rattle.model.specs.Calls.{question_refusal}
-use Rattle.picker_answers.proofs.AdmittedLaws.{granted, question_refused, question_replied, asked}
+use Rattle.picker_answers.proofs.AdmittedLaws.{granted, question_replied, asked}
 use Rattle.picker_block_questions.proofs.states.block_state_core.Goals as goal
 
 pub block_state-requires : goal.block_state-requires
 block_state-requires c = let v = c.admit_block in
-    let at = c.in-To.is in
-    let g = granted _ _ _ _ _ _ _ v.result v.ensures _ _ at in
+    let at = c.in_ok-picker.was in
+    let g = granted _ _ _ _ _ _ _ v.result v.ensures _ at in
     let t = g.stood in
     record {
       asked = asked _ _ _ _ _ _ _ t;
       i_lt_pieces = g.fits;
     }
 
-pub returns-in-Refused : goal.returns-in-Refused
-unfolding question_refusal
-returns-in-Refused c = let v = c.admit_block in
-    let i = c.number-i in
-    let i_is = i.ensures in
-    let j = c.i32_to_usize-j in
-    let a = c.args in
-    let z = a.block.block_index in
-    let fit : SFits w32 z = search rules in
-    let j_is = j.ensures ∙ ap number_of (to_z-of_z w32 z fit) in
-    question_refused _ _ _ _ _ _ _ v.result v.ensures (of_block block_state i.result j.result) _
-    (λ n. of_block block_state (i_is n) (j_is n)) (λ d. refl) _ c.in-Refused.is
-
-pub returns-in-To : goal.returns-in-To
+pub returns : goal.returns
 unfolding reply question_refusal
-returns-in-To c = let v = c.admit_block in
-    let at = c.in-To.is in
+returns c = let v = c.admit_block in
+    let at = c.in_ok-picker.was in
     let i = c.number-i in
     let i_is = i.ensures in
     let j = c.i32_to_usize-j in
@@ -45,5 +32,5 @@ returns-in-To c = let v = c.admit_block in
     let fit : SFits w32 z = search rules in
     let j_is = j.ensures ∙ ap number_of (to_z-of_z w32 z fit) in
     question_replied _ _ _ _ _ _ _ v.result v.ensures (of_block block_state i.result j.result) _
-    (λ n. of_block block_state (i_is n) (j_is n)) (λ d. refl) _ _ at _
+    (λ n. of_block block_state (i_is n) (j_is n)) (λ d. refl) _ at _
     c.block_state.ensures

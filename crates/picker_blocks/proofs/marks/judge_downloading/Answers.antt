@@ -16,14 +16,14 @@ pub num_peers_full-requires : goal.num_peers_full-requires
 num_peers_full-requires c = let b = c.judge_block in
     record {
       asked = c.requires;
-      i_lt_pieces = front_place _ _ _ _ c.requires.stands _ _ _ b.result b.ensures c.in-Passed.is;
+      i_lt_pieces = front_place _ _ _ _ c.requires.stands _ _ _ b.result b.ensures c.in_ok-judge_block.was;
     }
 
 pub returns-then-num_peers_full : goal.returns-then-num_peers_full
 unfolding refusal
 returns-then-num_peers_full c = let b = c.judge_block in
     record {
-      is = λ peer options. sym (front_passed _ _ _ _ c.requires.stands _ _ _ b.result b.ensures c.in-Passed.is _
+      is = λ peer options. sym (front_passed _ _ _ _ c.requires.stands _ _ _ b.result b.ensures c.in_ok-judge_block.was _
           ∙ check_yes _ TooManyPeers _ (sym c.num_peers_full.ensures ∙ c.if-num_peers_full.true));
     }
 
@@ -31,14 +31,14 @@ pub flushed-requires : goal.flushed-requires
 flushed-requires c = let b = c.judge_block in
     record {
       cells_span = c.requires.stands.bounds.spans.in_cells;
-      i_lt_pieces = (front_place _ _ _ _ c.requires.stands _ _ _ b.result b.ensures c.in-Passed.is).0;
+      i_lt_pieces = (front_place _ _ _ _ c.requires.stands _ _ _ b.result b.ensures c.in_ok-judge_block.was).0;
     }
 
 pub returns-then-flushed : goal.returns-then-flushed
 unfolding refusal
 returns-then-flushed c = let b = c.judge_block in
     record {
-      is = λ peer options. sym (front_passed _ _ _ _ c.requires.stands _ _ _ b.result b.ensures c.in-Passed.is _
+      is = λ peer options. sym (front_passed _ _ _ _ c.requires.stands _ _ _ b.result b.ensures c.in_ok-judge_block.was _
           ∙ (check_no _ TooManyPeers _ (sym c.num_peers_full.ensures ∙ c.if-num_peers_full.false)
           ∙ check_yes _ HavePiece _ (sym (c.flushed.ensures.is _ _ c.requires.stands.bounds) ∙ c.if-flushed.true)));
     }
@@ -47,29 +47,29 @@ pub no_partial_left-requires : goal.no_partial_left-requires
 no_partial_left-requires c = let b = c.judge_block in
     record {
       cells_span = c.requires.stands.bounds.spans.in_cells;
-      i_lt_pieces = (front_place _ _ _ _ c.requires.stands _ _ _ b.result b.ensures c.in-Passed.is).0;
+      i_lt_pieces = (front_place _ _ _ _ c.requires.stands _ _ _ b.result b.ensures c.in_ok-judge_block.was).0;
     }
 
 pub returns-then-no_partial_left : goal.returns-then-no_partial_left
 unfolding refusal
 returns-then-no_partial_left c = let b = c.judge_block in
     record {
-      is = λ peer options. sym (front_passed _ _ _ _ c.requires.stands _ _ _ b.result b.ensures c.in-Passed.is _
+      is = λ peer options. sym (front_passed _ _ _ _ c.requires.stands _ _ _ b.result b.ensures c.in_ok-judge_block.was _
           ∙ (check_no _ TooManyPeers _ (sym c.num_peers_full.ensures ∙ c.if-num_peers_full.false)
           ∙ (check_no _ HavePiece _ (sym (c.flushed.ensures.is _ _ c.requires.stands.bounds) ∙ c.if-flushed.false)
           ∙ check_yes _ TooManyPartials none (sym (c.no_partial_left.ensures.is _ _ c.requires.stands.bounds c.requires.many) ∙ c.if-no_partial_left.true))));
     }
 
-pub returns-in-Refused : goal.returns-in-Refused
+pub returns-in_err-judge_block : goal.returns-in_err-judge_block
 unfolding refusal
-returns-in-Refused c = let b = c.judge_block in
-    record { is = λ peer options. front_refused _ _ _ _ c.requires.stands _ _ _ b.result b.ensures _ c.in-Refused.is _ }
+returns-in_err-judge_block c = let b = c.judge_block in
+    record { is = λ peer options. front_refused _ _ _ _ c.requires.stands _ _ _ b.result b.ensures _ c.in_err-judge_block.was c.from_residual.result c.from_residual.ensures.1 _ }
 
-pub returns-else-no_partial_left : goal.returns-else-no_partial_left
+pub returns : goal.returns
 unfolding refusal
-returns-else-no_partial_left c = let b = c.judge_block in
+returns c = let b = c.judge_block in
     record {
-      is = λ peer options. sym (front_passed _ _ _ _ c.requires.stands _ _ _ b.result b.ensures c.in-Passed.is _
+      is = λ peer options. sym (front_passed _ _ _ _ c.requires.stands _ _ _ b.result b.ensures c.in_ok-judge_block.was _
           ∙ (check_no _ TooManyPeers _ (sym c.num_peers_full.ensures ∙ c.if-num_peers_full.false)
           ∙ (check_no _ HavePiece _ (sym (c.flushed.ensures.is _ _ c.requires.stands.bounds) ∙ c.if-flushed.false)
           ∙ check_no _ TooManyPartials none (sym (c.no_partial_left.ensures.is _ _ c.requires.stands.bounds c.requires.many) ∙ c.if-no_partial_left.false))));

@@ -16,26 +16,26 @@ pub no_partial_left-requires : goal.no_partial_left-requires
 no_partial_left-requires c = let b = c.judge_block in
     record {
       cells_span = c.requires.stands.bounds.spans.in_cells;
-      i_lt_pieces = (front_place _ _ _ _ c.requires.stands _ _ _ b.result b.ensures c.in-Passed.is).0;
+      i_lt_pieces = (front_place _ _ _ _ c.requires.stands _ _ _ b.result b.ensures c.in_ok-judge_block.was).0;
     }
 
 pub returns-then-no_partial_left : goal.returns-then-no_partial_left
 unfolding refusal
 returns-then-no_partial_left c = let b = c.judge_block in
     record {
-      is = λ peer options. sym (front_passed _ _ _ _ c.requires.stands _ _ _ b.result b.ensures c.in-Passed.is _
+      is = λ peer options. sym (front_passed _ _ _ _ c.requires.stands _ _ _ b.result b.ensures c.in_ok-judge_block.was _
           ∙ check_yes _ TooManyPartials none (sym (c.no_partial_left.ensures.is _ _ c.requires.stands.bounds c.requires.many) ∙ c.if-no_partial_left.true));
     }
 
-pub returns-in-Refused : goal.returns-in-Refused
+pub returns-in_err-judge_block : goal.returns-in_err-judge_block
 unfolding refusal
-returns-in-Refused c = let b = c.judge_block in
-    record { is = λ peer options. front_refused _ _ _ _ c.requires.stands _ _ _ b.result b.ensures _ c.in-Refused.is _ }
+returns-in_err-judge_block c = let b = c.judge_block in
+    record { is = λ peer options. front_refused _ _ _ _ c.requires.stands _ _ _ b.result b.ensures _ c.in_err-judge_block.was c.from_residual.result c.from_residual.ensures.1 _ }
 
-pub returns-else-no_partial_left : goal.returns-else-no_partial_left
+pub returns : goal.returns
 unfolding refusal
-returns-else-no_partial_left c = let b = c.judge_block in
+returns c = let b = c.judge_block in
     record {
-      is = λ peer options. sym (front_passed _ _ _ _ c.requires.stands _ _ _ b.result b.ensures c.in-Passed.is _
+      is = λ peer options. sym (front_passed _ _ _ _ c.requires.stands _ _ _ b.result b.ensures c.in_ok-judge_block.was _
           ∙ check_no _ TooManyPartials none (sym (c.no_partial_left.ensures.is _ _ c.requires.stands.bounds c.requires.many) ∙ c.if-no_partial_left.false));
     }

@@ -16,4 +16,4 @@ returns-in_default c = let a = c.args in
 pub returns : goal.returns
 returns c = let a = c.args in
     let d = picker_in a.live a.rows.now a.words.now a.cells.now in
-    full_there d a.i a.j _ (subst (BlockTold (block_in (partial_of d a.i) a.j)) c.in-Block.is c.block_of.ensures)
+    full_there d a.i a.j _ (subst (BlockTold (block_in (partial_of d a.i) a.j)) c.in-Some.is c.block_of.ensures)

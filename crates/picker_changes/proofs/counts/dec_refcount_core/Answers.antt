@@ -5,21 +5,21 @@ use Rattle.model.specs.change.Changes.{dec_refcount}
 use Rattle.model.specs.Calls.{act, do_dec_refcount}
 use Rattle.memory_layout.specs.Standing.{edit_records}
 use Rattle.picker_calls.proofs.ListlessLaws.{listless}
-use Rattle.picker_calls.proofs.CoreLaws.{stood_at, stood_beside, of_argument, barred, denied, passed, acted_quietly, keep_insert}
+use Rattle.picker_calls.proofs.CoreLaws.{stood_at, stood_beside, of_argument, of_argument_on, barred, denied, passed, acted_quietly, keep_insert}
 use Rattle.picker_changes.proofs.CountLaws.{dec_passed}
 use borrow.Author.Rules.{rules}
 use Rattle.picker_changes.proofs.counts.dec_refcount_core.Goals as goal
 
 pub judge_dec_refcount-requires : goal.judge_dec_refcount-requires
 judge_dec_refcount-requires c = let m = c.admit in
-    stood_beside _ _ _ _ _ _ (stood_at _ _ _ _ _ m.result m.ensures _ c.in-At.is)
+    stood_beside _ _ _ _ _ _ (stood_at _ _ _ _ _ m.result m.ensures _ c.in_ok-s.was)
 
 pub dec_refcount-used-requires : goal.dec_refcount-used-requires
 dec_refcount-used-requires c = let m = c.admit in
     let j = c.judge_dec_refcount in
-    let t = stood_at _ _ _ _ _ m.result m.ensures _ c.in-At.is in
+    let t = stood_at _ _ _ _ _ m.result m.ensures _ c.in_ok-s.was in
     let l = listless (do_dec_refcount _ _) refl in
-    let p = passed _ _ _ _ _ _ t _ l j.result (j.ensures.is _ t.stands) c.in-Passed.is in
+    let p = passed _ _ _ _ _ _ t _ l j.result (j.ensures.is _ t.stands) c.in_ok-judge_dec_refcount.was in
     let all = dec_passed _ _ _ _ t.stands _ _ p in
     record {
       stands_beside = stood_beside _ _ _ _ _ _ t;
@@ -27,31 +27,31 @@ dec_refcount-used-requires c = let m = c.admit in
       nonzero = all.1;
     }
 
-pub returns-in-Refused : goal.returns-in-Refused
-returns-in-Refused c = let m = c.admit in
+pub returns-in_err-s : goal.returns-in_err-s
+returns-in_err-s c = let m = c.admit in
     let l = listless (do_dec_refcount _ _) refl in
-    barred _ _ _ _ _ m.result m.ensures _ c.in-Refused.is _ l _ _ _ c.refused.ensures
+    barred _ _ _ _ _ m.result m.ensures _ c.in_err-s.was _ l c.from_residual.result c.from_residual.ensures.1
 
-pub returns-in-Refused-judge_dec_refcount : goal.returns-in-Refused-judge_dec_refcount
-returns-in-Refused-judge_dec_refcount c = let a = c.args in
+pub returns-in_err-judge_dec_refcount : goal.returns-in_err-judge_dec_refcount
+returns-in_err-judge_dec_refcount c = let a = c.args in
     let m = c.admit in
     let j = c.judge_dec_refcount in
-    let t = stood_at _ _ _ _ _ m.result m.ensures _ c.in-At.is in
-    of_argument (λ (i : ℕ). do_dec_refcount i a.draws.now) _ _ c.number-i.ensures _ _ _ _ _ _ _ _ _
+    let t = stood_at _ _ _ _ _ m.result m.ensures _ c.in_ok-s.was in
+    of_argument_on (λ (i : ℕ). do_dec_refcount i a.draws.now) _ _ c.number-i.ensures _ _ _ _ _ _ _
     (denied _ _ _ _ _ _ t _ (listless (do_dec_refcount _ _) refl) j.result (j.ensures.is _ t.stands) _
-    c.in-Refused-judge_dec_refcount.is _ _ _ c.refused-in-Refused-judge_dec_refcount.ensures)
+    c.in_err-judge_dec_refcount.was c.from_residual-in_err-judge_dec_refcount.result c.from_residual-in_err-judge_dec_refcount.ensures.1)
 
-pub returns-in-Passed : goal.returns-in-Passed
+pub returns : goal.returns
 unfolding act edit_records
-returns-in-Passed c = let a = c.args in
+returns c = let a = c.args in
     let m = c.admit in
     let n = c.number-i in
     let j = c.judge_dec_refcount in
     let r = c.live_records-live in
     let x = c.dec_refcount-used in
-    let t = stood_at _ _ _ _ _ m.result m.ensures _ c.in-At.is in
+    let t = stood_at _ _ _ _ _ m.result m.ensures _ c.in_ok-s.was in
     let l = listless (do_dec_refcount _ _) refl in
-    let p = passed _ _ _ _ _ _ t _ l j.result (j.ensures.is _ t.stands) c.in-Passed.is in
+    let p = passed _ _ _ _ _ _ t _ l j.result (j.ensures.is _ t.stands) c.in_ok-judge_dec_refcount.was in
     let d = x.ensures.done _ t.stands in
     of_argument (λ (i : ℕ). do_dec_refcount i a.draws.now) _ _ n.ensures _ _ _ _ _ _ _ _ _
     (acted_quietly _ _ _ _ _ _ t _ l p r.result r.ensures _ keep_insert _ _ (dec_refcount a.draws.now n.result) refl

@@ -1,9 +1,15 @@
 -- `piece_passed` meets its contract. Assumes nothing.
 -- Written by tools/public_answers.py, and not by hand.
 use Rattle.picker_calls.proofs.PublicLaws.{rows_are}
+use Rattle.picker_calls.proofs.CoreLaws.{called_on}
 use Rattle.picker_flags.proofs.flags.piece_passed.Goals as goal
+
+pub returns-in_err-r : goal.returns-in_err-r
+returns-in_err-r c =
+    let t = rows_are _ _ _ _ _ c.live_records-live.ensures c.unpack-lent.ensures in
+    called_on _ _ _ _ (c.in_err-r.ensures.done _ t.0 t.1).1 c.from_residual.result c.from_residual.ensures.1
 
 pub returns : goal.returns
 returns c =
     let t = rows_are _ _ _ _ _ c.live_records-live.ensures c.unpack-lent.ensures in
-    rw c.apply.ensures (c.piece_passed_core-r.ensures.done _ t.0 t.1).1
+    rw c.apply.ensures (c.in_ok-r.ensures.done _ t.0 t.1).1

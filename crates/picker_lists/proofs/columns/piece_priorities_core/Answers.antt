@@ -5,29 +5,24 @@ use Rattle.model.specs.Calls.{question_refusal, records_needed}
 use Rattle.picker_answers.proofs.AdmittedLaws.{granted, beside}
 use Rattle.picker_lists.specs.Rooms.{room_rule}
 use Rattle.picker_lists.specs.Listing.{tell_numbers}
-use Rattle.picker_lists.proofs.ListLaws.{list_refused, list_replied, column_written}
+use Rattle.picker_lists.proofs.ListLaws.{list_replied, column_written}
 use borrow.Author.Rules.{rules}
 use Rattle.picker_lists.proofs.columns.piece_priorities_core.Goals as goal
 
 pub piece_priorities-requires : goal.piece_priorities-requires
 piece_priorities-requires c = let v = c.admit_list in
-    let at = c.in-To.is in
-    let g = granted _ _ _ _ _ _ _ v.result v.ensures _ _ at in
+    let at = c.in_ok-picker.was in
+    let g = granted _ _ _ _ _ _ _ v.result v.ensures _ at in
     record {
       stands_beside = beside _ _ _ _ _ _ _ g.stood;
       pieces_in_bounds = g.fits;
     }
 
-pub returns-in-Refused : goal.returns-in-Refused
-unfolding question_refusal records_needed room_rule
-returns-in-Refused c = let v = c.admit_list in
-    list_refused _ _ _ _ _ _ _ v.result v.ensures _ _ refl (λ d. refl) _ _ _ _ c.in-Refused.is
-
-pub returns-in-To : goal.returns-in-To
+pub returns : goal.returns
 unfolding reply question_refusal records_needed room_rule tell_numbers
-returns-in-To c = let v = c.admit_list in
-    let at = c.in-To.is in
-    let t = (granted _ _ _ _ _ _ _ v.result v.ensures _ _ at).stood in
+returns c = let v = c.admit_list in
+    let at = c.in_ok-picker.was in
+    let t = (granted _ _ _ _ _ _ _ v.result v.ensures _ at).stood in
     let x = c.piece_priorities in
-    list_replied _ _ _ _ _ _ _ v.result v.ensures _ _ refl (λ d. refl) _ _ _ _ _ at _ _
+    list_replied _ _ _ _ _ _ _ v.result v.ensures _ _ refl (λ d. refl) _ _ _ _ at _ _
     (x.ensures.is _ t.stands.bounds) (column_written _ _ _ _ _ _ x.ensures)

@@ -3,33 +3,25 @@ use mathlib.Core.Path.{refl}
 use borrow.Author.Rules.{rules}
 use Rattle.model.specs.ask.Questions.{of_piece, piece_info, reply}
 use Rattle.model.specs.Calls.{question_refusal}
-use Rattle.picker_answers.proofs.AdmittedLaws.{granted, question_refused, question_replied, asked}
+use Rattle.picker_answers.proofs.AdmittedLaws.{granted, question_replied, asked}
 use Rattle.picker_partial_questions.proofs.info.piece_info_core.Goals as goal
 
 pub piece_info-requires : goal.piece_info-requires
 piece_info-requires c = let v = c.admit_piece in
-    let at = c.in-To.is in
-    let g = granted _ _ _ _ _ _ _ v.result v.ensures _ _ at in
+    let at = c.in_ok-picker.was in
+    let g = granted _ _ _ _ _ _ _ v.result v.ensures _ at in
     let t = g.stood in
     record {
       asked_counts = record { asked = asked _ _ _ _ _ _ _ t; held = t.counted; wide = t.long_counts };
       i_lt_pieces = g.fits;
     }
 
-pub returns-in-Refused : goal.returns-in-Refused
-unfolding question_refusal
-returns-in-Refused c = let v = c.admit_piece in
-    let i = c.number-i in
-    let i_is = i.ensures in
-    question_refused _ _ _ _ _ _ _ v.result v.ensures (of_piece piece_info i.result) _
-    (λ n. of_piece piece_info (i_is n)) (λ d. refl) _ c.in-Refused.is
-
-pub returns-in-To : goal.returns-in-To
+pub returns : goal.returns
 unfolding reply question_refusal
-returns-in-To c = let v = c.admit_piece in
-    let at = c.in-To.is in
+returns c = let v = c.admit_piece in
+    let at = c.in_ok-picker.was in
     let i = c.number-i in
     let i_is = i.ensures in
     question_replied _ _ _ _ _ _ _ v.result v.ensures (of_piece piece_info i.result) _
-    (λ n. of_piece piece_info (i_is n)) (λ d. refl) _ _ at _
+    (λ n. of_piece piece_info (i_is n)) (λ d. refl) _ at _
     c.piece_info.ensures

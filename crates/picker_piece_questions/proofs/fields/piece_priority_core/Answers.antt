@@ -3,35 +3,27 @@ use mathlib.Core.Path.{refl, ap, ◌∙◌}
 use borrow.Author.Rules.{rules}
 use Rattle.model.specs.ask.Questions.{of_piece, piece_priority, reply, one}
 use Rattle.model.specs.Calls.{question_refusal}
-use Rattle.picker_answers.proofs.AdmittedLaws.{granted, question_refused, question_replied}
+use Rattle.picker_answers.proofs.AdmittedLaws.{granted, question_replied}
 use Rattle.picker_piece_questions.proofs.fields.piece_priority_core.Goals as goal
 
 pub piece_priority-requires : goal.piece_priority-requires
 piece_priority-requires c = let v = c.admit_piece in
-    let at = c.in-To.is in
-    let g = granted _ _ _ _ _ _ _ v.result v.ensures _ _ at in
+    let at = c.in_ok-picker.was in
+    let g = granted _ _ _ _ _ _ _ v.result v.ensures _ at in
     let t = g.stood in
     record {
       cells_span = t.stands.bounds.spans.in_cells;
       i_lt_pieces = g.fits;
     }
 
-pub returns-in-Refused : goal.returns-in-Refused
-unfolding question_refusal
-returns-in-Refused c = let v = c.admit_piece in
-    let i = c.number-i in
-    let i_is = i.ensures in
-    question_refused _ _ _ _ _ _ _ v.result v.ensures (of_piece piece_priority i.result) _
-    (λ n. of_piece piece_priority (i_is n)) (λ d. refl) _ c.in-Refused.is
-
-pub returns-in-To : goal.returns-in-To
+pub returns : goal.returns
 unfolding reply question_refusal
-returns-in-To c = let v = c.admit_piece in
-    let at = c.in-To.is in
-    let g = granted _ _ _ _ _ _ _ v.result v.ensures _ _ at in
+returns c = let v = c.admit_piece in
+    let at = c.in_ok-picker.was in
+    let g = granted _ _ _ _ _ _ _ v.result v.ensures _ at in
     let t = g.stood in
     let i = c.number-i in
     let i_is = i.ensures in
     question_replied _ _ _ _ _ _ _ v.result v.ensures (of_piece piece_priority i.result) _
-    (λ n. of_piece piece_priority (i_is n)) (λ d. refl) _ _ at _
+    (λ n. of_piece piece_priority (i_is n)) (λ d. refl) _ at _
     (ap one c.u16_to_u64.ensures ∙ c.piece_priority.ensures.is _ _ t.stands.bounds)

@@ -3,13 +3,13 @@ use mathlib.Core.Path.{refl}
 use borrow.Author.Rules.{rules}
 use Rattle.model.specs.ask.Questions.{of_piece, ask_payload_blocks_in_piece, reply}
 use Rattle.model.specs.Calls.{question_refusal}
-use Rattle.picker_answers.proofs.AdmittedLaws.{granted, question_refused, question_replied, shaped}
+use Rattle.picker_answers.proofs.AdmittedLaws.{granted, question_replied, shaped}
 use Rattle.picker_piece_questions.proofs.lengths.payload_blocks_in_piece_core.Goals as goal
 
 pub payload_blocks_in_piece-requires : goal.payload_blocks_in_piece-requires
 payload_blocks_in_piece-requires c = let v = c.admit_piece in
-    let at = c.in-To.is in
-    let g = granted _ _ _ _ _ _ _ v.result v.ensures _ _ at in
+    let at = c.in_ok-picker.was in
+    let g = granted _ _ _ _ _ _ _ v.result v.ensures _ at in
     let t = g.stood in
     record {
       words_span = t.stands.bounds.spans.in_words;
@@ -17,22 +17,14 @@ payload_blocks_in_piece-requires c = let v = c.admit_piece in
       i_lt_pieces = g.fits;
     }
 
-pub returns-in-Refused : goal.returns-in-Refused
-unfolding question_refusal
-returns-in-Refused c = let v = c.admit_piece in
-    let i = c.number-i in
-    let i_is = i.ensures in
-    question_refused _ _ _ _ _ _ _ v.result v.ensures (of_piece ask_payload_blocks_in_piece i.result) _
-    (λ n. of_piece ask_payload_blocks_in_piece (i_is n)) (λ d. refl) _ c.in-Refused.is
-
-pub returns-in-To : goal.returns-in-To
+pub returns : goal.returns
 unfolding reply question_refusal
-returns-in-To c = let v = c.admit_piece in
-    let at = c.in-To.is in
-    let g = granted _ _ _ _ _ _ _ v.result v.ensures _ _ at in
+returns c = let v = c.admit_piece in
+    let at = c.in_ok-picker.was in
+    let g = granted _ _ _ _ _ _ _ v.result v.ensures _ at in
     let t = g.stood in
     let i = c.number-i in
     let i_is = i.ensures in
     question_replied _ _ _ _ _ _ _ v.result v.ensures (of_piece ask_payload_blocks_in_piece i.result) _
-    (λ n. of_piece ask_payload_blocks_in_piece (i_is n)) (λ d. refl) _ _ at _
+    (λ n. of_piece ask_payload_blocks_in_piece (i_is n)) (λ d. refl) _ at _
     (c.payload_blocks_in_piece.ensures.is _ _ t.stands.bounds)

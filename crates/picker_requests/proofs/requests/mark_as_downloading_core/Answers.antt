@@ -18,15 +18,15 @@ use Rattle.picker_requests.proofs.requests.mark_as_downloading_core.Goals as goa
 
 pub judge_downloading-requires : goal.judge_downloading-requires
 judge_downloading-requires c = let m = c.admit in
-    let t = stood_rows _ _ _ _ _ m.result m.ensures _ c.in-At.is _ c.live_records-live.ensures in
+    let t = stood_rows _ _ _ _ _ m.result m.ensures _ c.in_ok-s.was _ c.live_records-live.ensures in
     record { stands = t.stands; many = t.many; wide = t.long_rows }
 
 pub mark_as_downloading-m-requires : goal.mark_as_downloading-m-requires
 mark_as_downloading-m-requires c = let m = c.admit in
     let b = c.judge_downloading in
-    let t = stood_rows _ _ _ _ _ m.result m.ensures _ c.in-At.is _ c.live_records-live.ensures in
+    let t = stood_rows _ _ _ _ _ m.result m.ensures _ c.in_ok-s.was _ c.live_records-live.ensures in
     let p = downloading_accepted _ _ _ _ _ t.stands.bounds _ _ _ none 0
-    (sym (b.ensures.is none 0) ∙ ap judged c.in-Passed.is) in
+    (sym (b.ensures.is none 0) ∙ ap judged c.in_ok-judge_downloading.was) in
     record {
       rows_stand = t;
       i_lt_pieces = p.0.place;
@@ -35,27 +35,24 @@ mark_as_downloading-m-requires c = let m = c.admit in
       min_draws_in_bounds = p.0.draw;
     }
 
-pub returns-in-Refused : goal.returns-in-Refused
-returns-in-Refused c = let m = c.admit in
-    barred _ _ _ _ _ m.result m.ensures _ c.in-Refused.is _ (listless (do_mark_as_downloading _ _ _ _ _) refl) _ _ _
-    c.refused.ensures
+pub returns-in_err-s : goal.returns-in_err-s
+returns-in_err-s c = let m = c.admit in
+    barred _ _ _ _ _ m.result m.ensures _ c.in_err-s.was _ (listless (do_mark_as_downloading _ _ _ _ _) refl) c.from_residual.result c.from_residual.ensures.1
 
-pub returns-in-Refused-judge_downloading : goal.returns-in-Refused-judge_downloading
-returns-in-Refused-judge_downloading c = let a = c.args in
+pub returns-in_err-judge_downloading : goal.returns-in_err-judge_downloading
+returns-in_err-judge_downloading c = let a = c.args in
     let m = c.admit in
     let n = c.live_records-live in
     let b = c.judge_downloading in
     let peer = named_peer a.request.has_peer a.request.peer in
-    block_denied _ _ _ _ _ m.result m.ensures _ c.in-At.is n.result n.ensures
+    block_denied _ _ _ _ _ m.result m.ensures _ c.in_ok-s.was n.result n.ensures
     (λ i j. do_mark_as_downloading i j peer a.request.options.0 a.draws.now)
     (λ i j. listless (do_mark_as_downloading i j peer a.request.options.0 a.draws.now) refl) _ _ _ _
-    c.number-i.ensures c.block_number-j.ensures b.result (b.ensures.is peer a.request.options.0) _ c.in-Refused-judge_downloading.is _ _
-    _
-    c.refused-in-Refused-judge_downloading.ensures
+    c.number-i.ensures c.block_number-j.ensures b.result (b.ensures.is peer a.request.options.0) _ c.in_err-judge_downloading.was c.from_residual-in_err-judge_downloading.result c.from_residual-in_err-judge_downloading.ensures.1
 
-pub returns-in-Passed : goal.returns-in-Passed
+pub returns : goal.returns
 unfolding act
-returns-in-Passed c = let a = c.args in
+returns c = let a = c.args in
     let m = c.admit in
     let i = c.number-i in
     let j = c.block_number-j in
@@ -64,10 +61,10 @@ returns-in-Passed c = let a = c.args in
     let x = c.mark_as_downloading-m in
     let d = picker_in n.result a.rows.now a.words.now a.cells.now in
     let peer = named_peer a.request.has_peer a.request.peer in
-    block_said _ _ _ _ _ m.result m.ensures _ c.in-At.is n.result n.ensures
+    block_said _ _ _ _ _ m.result m.ensures _ c.in_ok-s.was n.result n.ensures
     (λ i j. do_mark_as_downloading i j peer a.request.options.0 a.draws.now)
     (λ i j. listless (do_mark_as_downloading i j peer a.request.options.0 a.draws.now) refl) _ _ _ _
-    i.ensures j.ensures b.result (b.ensures.is peer a.request.options.0) c.in-Passed.is x.result.edit
+    i.ensures j.ensures b.result (b.ensures.is peer a.request.options.0) c.in_ok-judge_downloading.was x.result.edit
     x.ensures.room _ _
     (mark_as_downloading a.draws.now i.result j.result peer a.request.options.0)
     (ap (λ (p : Option ℕ). changing (mark_as_downloading a.draws.now i.result j.result p a.request.options.0 (drawing 0 d)))

@@ -10,31 +10,31 @@ use Rattle.picker_seeds.proofs.seeds.inc_refcount_all_core.Goals as goal
 
 pub judge_inc_refcount_all-requires : goal.judge_inc_refcount_all-requires
 judge_inc_refcount_all-requires c = let m = c.admit in
-    stood_beside _ _ _ _ _ _ (stood_at _ _ _ _ _ m.result m.ensures _ c.in-At.is)
+    stood_beside _ _ _ _ _ _ (stood_at _ _ _ _ _ m.result m.ensures _ c.in_ok-s.was)
 
 pub inc_refcount_all-requires : goal.inc_refcount_all-requires
 inc_refcount_all-requires c = let m = c.admit in
-    stood_beside _ _ _ _ _ _ (stood_at _ _ _ _ _ m.result m.ensures _ c.in-At.is)
+    stood_beside _ _ _ _ _ _ (stood_at _ _ _ _ _ m.result m.ensures _ c.in_ok-s.was)
 
-pub returns-in-Refused : goal.returns-in-Refused
-returns-in-Refused c = let m = c.admit in
+pub returns-in_err-s : goal.returns-in_err-s
+returns-in_err-s c = let m = c.admit in
     let l = listless do_inc_refcount_all refl in
-    barred _ _ _ _ _ m.result m.ensures _ c.in-Refused.is _ l _ _ _ c.refused.ensures
+    barred _ _ _ _ _ m.result m.ensures _ c.in_err-s.was _ l c.from_residual.result c.from_residual.ensures.1
 
-pub returns-in-Refused-judge_inc_refcount_all : goal.returns-in-Refused-judge_inc_refcount_all
-returns-in-Refused-judge_inc_refcount_all c = let m = c.admit in
+pub returns-in_err-judge_inc_refcount_all : goal.returns-in_err-judge_inc_refcount_all
+returns-in_err-judge_inc_refcount_all c = let m = c.admit in
     let j = c.judge_inc_refcount_all in
-    let t = stood_at _ _ _ _ _ m.result m.ensures _ c.in-At.is in
+    let t = stood_at _ _ _ _ _ m.result m.ensures _ c.in_ok-s.was in
     denied _ _ _ _ _ _ t _ (listless do_inc_refcount_all refl) j.result (j.ensures.is _ t.stands) _
-    c.in-Refused-judge_inc_refcount_all.is _ _ _ c.refused-in-Refused-judge_inc_refcount_all.ensures
+    c.in_err-judge_inc_refcount_all.was c.from_residual-in_err-judge_inc_refcount_all.result c.from_residual-in_err-judge_inc_refcount_all.ensures.1
 
-pub returns-in-Passed : goal.returns-in-Passed
+pub returns : goal.returns
 unfolding act edit_records
-returns-in-Passed c = let m = c.admit in
+returns c = let m = c.admit in
     let j = c.judge_inc_refcount_all in
     let r = c.live_records-live in
     let x = c.inc_refcount_all in
-    let t = stood_at _ _ _ _ _ m.result m.ensures _ c.in-At.is in
+    let t = stood_at _ _ _ _ _ m.result m.ensures _ c.in_ok-s.was in
     let l = listless do_inc_refcount_all refl in
-    let p = passed _ _ _ _ _ _ t _ l j.result (j.ensures.is _ t.stands) c.in-Passed.is in
+    let p = passed _ _ _ _ _ _ t _ l j.result (j.ensures.is _ t.stands) c.in_ok-judge_inc_refcount_all.was in
     acted_undrawn _ _ _ _ _ _ t _ l p r.result r.ensures _ keep_insert _ _ inc_refcount_all refl (x.ensures.made _ t.stands)
