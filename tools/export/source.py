@@ -5,7 +5,7 @@ from collections import namedtuple
 
 Call = namedtuple('Call', 'name remark params answer contract uses crate')
 FUNCTION = re.compile(
-    r'((?://[^\n]*\n)*)(?:#\[.*?\]\n)*pub fn (\w+)\(([^)]*)\) -> (\w+)\n    ensures(?: \w+)? \{ ((?:(?!\n\{).)*?) \}\n\{', re.S)
+    r'((?://[^\n]*\n)*)(?:#\[.*?\]\n)*pub fn (\w+)\(([^)]*)\) -> ([^\n]+)\n    ensures(?: \w+)? \{ ((?:(?!\n\{).)*?) \}\n\{', re.S)
 USE = re.compile(r'^ghost use (\S+?)\.\{([^}]*)\};', re.M)
 
 

@@ -59,23 +59,24 @@ def several(name, struct, home):
     return Answer('of_' + name, struct, home, 'of_' + name, name + '_in')
 
 
+# by the answer's type
 ANSWERS = {
-    'NumberAnswer': reply('number'),
-    'FlagAnswer': reply('flag'),
-    'PlaceAnswer': reply('place'),
-    'PartialFlagAnswer': reply('partial_flag'),
-    'BlockNumberAnswer': reply('block_number'),
-    'PeerAnswer': reply('peer'),
-    'ListAnswer': reply('list'),
-    'Making': reply('making'),
-    'ImageTaken': reply('image'),
-    'Outcome': several('outcome', 'Changed', 'Changes'),
-    'CopiesAnswer': several('copies', 'Copied', 'Records'),
-    'CountAnswer': several('count', 'Counted', 'Records'),
-    'SizesAnswer': several('sizes', 'Sized', 'Records'),
-    'StatsAnswer': several('stats', 'Stats', 'Records'),
-    'InfoAnswer': several('info', 'Info', 'Records'),
-    'PickOutcome': several('pick', 'PickAnswered', 'Picks'),
+    'Result<u64, Refusal>': reply('number'),
+    'Result<bool, Refusal>': reply('flag'),
+    'Result<Placed, Refusal>': reply('place'),
+    'Result<Option<bool>, Refusal>': reply('partial_flag'),
+    'Result<Option<u16>, Refusal>': reply('block_number'),
+    'Result<PeerOf, Refusal>': reply('peer'),
+    'Result<Option<usize>, Refusal>': reply('list'),
+    'Result<(), Refusal>': reply('making'),
+    'Result<usize, Refusal>': reply('image'),
+    'Result<Outcome, Refusal>': several('outcome', 'Changed', 'Changes'),
+    'Result<DistributedCopies, Refusal>': several('copies', 'Copied', 'Records'),
+    'Result<PieceCount, Refusal>': several('count', 'Counted', 'Records'),
+    'Result<QueueSizes, Refusal>': several('sizes', 'Sized', 'Records'),
+    'Result<PieceStats, Refusal>': several('stats', 'Stats', 'Records'),
+    'Result<PieceInfo, Refusal>': several('info', 'Info', 'Records'),
+    'Result<Picked, Refusal>': several('pick', 'PickAnswered', 'Picks'),
 }
 
 # How an argument is made of numbers: its type in C, the function, and the definition that it equals

@@ -1,13 +1,9 @@
 -- Answers of one number at most, as a struct of numbers. Assumes nothing.
-use Rattle.std.specs.Prelude.{ℕ, Bool, cond}
+use Rattle.std.specs.Prelude.{ℕ, Bool, cond, None, Option, Some}
 use Rattle.types.specs.declared.refusal.Refusal.{Refusal}
 use Rattle.types.specs.Refusal.{refusal_number}
 use Rattle.ask_places.specs.declared.Placed.{Placed}
 use Rattle.ask_places.specs.declared.Placed.TheVariants.{Number, Nothing, Stale}
-use Rattle.ask_partial.specs.declared.flags.FlagOf.{FlagOf}
-use Rattle.ask_partial.specs.declared.flags.FlagOf.TheVariants.{Flag, Nothing as NoFlag}
-use Rattle.ask_block.specs.declared.states.NumberOf.{NumberOf}
-use Rattle.ask_block.specs.declared.states.NumberOf.TheVariants.{Number as BlockNumber, Nothing as NoNumber}
 use Rattle.ask_block.specs.declared.peers.PeerOf.{PeerOf}
 use Rattle.ask_block.specs.declared.peers.PeerOf.TheVariants.{Peer, NoPeer, Nothing as NoBlock}
 use Rattle.export_answers.specs.declared.answered.Answered.{Answered}
@@ -39,14 +35,14 @@ of_placed Nothing = valued 0 0
 of_placed Stale = valued 2 0
 
 -- a flag of a partial, or nothing
-abbrev pub of_flag_of : (x : FlagOf) → Answered
-of_flag_of (Flag flag) = of_flag flag
-of_flag_of NoFlag = valued 0 0
+abbrev pub of_flag_of : (x : Option Bool) → Answered
+of_flag_of (Some flag) = of_flag flag
+of_flag_of None = valued 0 0
 
 -- a number of a block, or nothing
-abbrev pub of_number_of : (x : NumberOf) → Answered
-of_number_of (BlockNumber n) = valued 1 n
-of_number_of NoNumber = valued 0 0
+abbrev pub of_number_of : (x : Option ℕ) → Answered
+of_number_of (Some n) = valued 1 n
+of_number_of None = valued 0 0
 
 -- a peer, none, or nothing
 abbrev pub of_peer_of : (x : PeerOf) → Answered

@@ -1,8 +1,9 @@
 -- What a change answers, as a struct of numbers. Assumes nothing.
-use Rattle.std.specs.Prelude.{ℕ, Bool, cond}
+use Rattle.std.specs.Prelude.{ℕ, Bool, cond, Err, Ok, Result}
+use Rattle.types.specs.declared.refusal.Refusal.{Refusal}
 use Rattle.types.specs.Refusal.{refusal_number}
 use Rattle.picker_calls.specs.declared.outcomes.Outcome.{Outcome}
-use Rattle.picker_calls.specs.declared.outcomes.Outcome.TheVariants.{Refused, Done, Said}
+use Rattle.picker_calls.specs.declared.outcomes.Outcome.TheVariants.{Done, Said}
 use Rattle.export_answers.specs.declared.changes.Changed.{Changed}
 use Rattle.export_answers.specs.Refusals.{refusal_place}
 
@@ -18,7 +19,7 @@ change_refused number place = record { refusal = number; kind = 0; place = place
 abbrev pub change_said : (used value : ℕ) → Changed
 change_said used value = record { refusal = 0; kind = 1; place = 0; value = value; draws = used }
 
-abbrev pub of_outcome : (o : Outcome) → Changed
-of_outcome (Refused why) = change_refused (refusal_number why) (refusal_place why)
-of_outcome (Done used) = record { refusal = 0; kind = 0; place = 0; value = 0; draws = used }
-of_outcome (Said truth used) = change_said used (truth_value truth)
+abbrev pub of_outcome : (o : Result Outcome Refusal) → Changed
+of_outcome (Err why) = change_refused (refusal_number why) (refusal_place why)
+of_outcome (Ok (Done used)) = record { refusal = 0; kind = 0; place = 0; value = 0; draws = used }
+of_outcome (Ok (Said truth used)) = change_said used (truth_value truth)

@@ -1,8 +1,8 @@
 -- What a pick answers, as a struct of numbers. Assumes nothing.
-use Rattle.std.specs.Prelude.{ℕ}
+use Rattle.std.specs.Prelude.{ℕ, Err, Ok, Result}
+use Rattle.types.specs.declared.refusal.Refusal.{Refusal}
+use Rattle.pick_pieces.specs.declared.pieces.Picked.{Picked}
 use Rattle.types.specs.Refusal.{refusal_number}
-use Rattle.picker_pick.specs.declared.PickOutcome.{PickOutcome}
-use Rattle.picker_pick.specs.declared.PickOutcome.TheVariants.{Refused, Done}
 use Rattle.export_answers.specs.declared.picks.PickAnswered.{PickAnswered}
 use Rattle.export_answers.specs.Refusals.{refusal_place}
 
@@ -24,9 +24,9 @@ pick_refused number place =
       busy_loops = 0;
     }
 
-abbrev pub of_pick : (o : PickOutcome) → PickAnswered
-of_pick (Refused why) = pick_refused (refusal_number why) (refusal_place why)
-of_pick (Done p) =
+abbrev pub of_pick : (o : Result Picked Refusal) → PickAnswered
+of_pick (Err why) = pick_refused (refusal_number why) (refusal_place why)
+of_pick (Ok p) =
     record {
       refusal = 0;
       flags = p.flags;

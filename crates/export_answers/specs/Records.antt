@@ -1,38 +1,34 @@
 -- Public answers of several numbers, as structs of numbers. Assumes nothing.
-use Rattle.std.specs.Prelude.{ℕ, false}
+use Rattle.std.specs.Prelude.{ℕ, false, Err, Ok, Result}
+use Rattle.types.specs.declared.refusal.Refusal.{Refusal}
+use Rattle.ask_totals.specs.declared.count.PieceCount.{PieceCount}
+use Rattle.ask_progress.specs.declared.QueueSizes.{QueueSizes}
+use Rattle.ask_piece.specs.declared.stats.PieceStats.{PieceStats}
+use Rattle.ask_partial.specs.declared.info.PieceInfo.{PieceInfo}
+use Rattle.ask_columns.specs.declared.copies.DistributedCopies.{DistributedCopies}
 use Rattle.types.specs.Refusal.{refusal_number}
 use Rattle.export_answers.specs.Refusals.{refusal_place}
 use Rattle.export_answers.specs.declared.records.Copied.{Copied}
-use Rattle.picker_questions.specs.declared.answers.CopiesAnswer.{CopiesAnswer}
-use Rattle.picker_questions.specs.declared.answers.CopiesAnswer.TheVariants.{Refused as CopiesAnswerRefused, Replied as CopiesAnswerReplied}
 use Rattle.export_answers.specs.declared.records.Counted.{Counted}
-use Rattle.picker_totals.specs.declared.answers.CountAnswer.{CountAnswer}
-use Rattle.picker_totals.specs.declared.answers.CountAnswer.TheVariants.{Refused as CountAnswerRefused, Replied as CountAnswerReplied}
 use Rattle.export_answers.specs.declared.records.Sized.{Sized}
-use Rattle.picker_totals.specs.declared.answers.SizesAnswer.{SizesAnswer}
-use Rattle.picker_totals.specs.declared.answers.SizesAnswer.TheVariants.{Refused as SizesAnswerRefused, Replied as SizesAnswerReplied}
 use Rattle.export_answers.specs.declared.records.Stats.{Stats}
-use Rattle.picker_piece_questions.specs.declared.answers.StatsAnswer.{StatsAnswer}
-use Rattle.picker_piece_questions.specs.declared.answers.StatsAnswer.TheVariants.{Refused as StatsAnswerRefused, Replied as StatsAnswerReplied}
 use Rattle.export_answers.specs.declared.records.Info.{Info}
-use Rattle.picker_partial_questions.specs.declared.answers.InfoAnswer.{InfoAnswer}
-use Rattle.picker_partial_questions.specs.declared.answers.InfoAnswer.TheVariants.{Refused as InfoAnswerRefused, Replied as InfoAnswerReplied}
 
 -- the least copies of a piece, and how many pieces have more in thousandths
 abbrev pub copies_refused : (number place : ℕ) → Copied
 copies_refused number place = record { refusal = number; place = place; integer = 0; fraction = 0 }
 
-abbrev pub of_copies : (o : CopiesAnswer) → Copied
-of_copies (CopiesAnswerRefused why) = copies_refused (refusal_number why) (refusal_place why)
-of_copies (CopiesAnswerReplied x) = record { refusal = 0; place = 0; integer = x.integer; fraction = x.fraction }
+abbrev pub of_copies : (o : Result DistributedCopies Refusal) → Copied
+of_copies (Err why) = copies_refused (refusal_number why) (refusal_place why)
+of_copies (Ok x) = record { refusal = 0; place = 0; integer = x.integer; fraction = x.fraction }
 
 -- pieces, their pad bytes, and whether the last piece is among them
 abbrev pub count_refused : (number place : ℕ) → Counted
 count_refused number place = record { refusal = number; place = place; num_pieces = 0; pad_bytes = 0; last_piece = false }
 
-abbrev pub of_count : (o : CountAnswer) → Counted
-of_count (CountAnswerRefused why) = count_refused (refusal_number why) (refusal_place why)
-of_count (CountAnswerReplied x) =
+abbrev pub of_count : (o : Result PieceCount Refusal) → Counted
+of_count (Err why) = count_refused (refusal_number why) (refusal_place why)
+of_count (Ok x) =
     record {
       refusal = 0;
       place = 0;
@@ -45,9 +41,9 @@ of_count (CountAnswerReplied x) =
 abbrev pub sizes_refused : (number place : ℕ) → Sized
 sizes_refused number place = record { refusal = number; place = place; downloading = 0; full = 0; finished = 0; zero_prio = 0 }
 
-abbrev pub of_sizes : (o : SizesAnswer) → Sized
-of_sizes (SizesAnswerRefused why) = sizes_refused (refusal_number why) (refusal_place why)
-of_sizes (SizesAnswerReplied x) =
+abbrev pub of_sizes : (o : Result QueueSizes Refusal) → Sized
+of_sizes (Err why) = sizes_refused (refusal_number why) (refusal_place why)
+of_sizes (Ok x) =
     record {
       refusal = 0;
       place = 0;
@@ -70,9 +66,9 @@ stats_refused number place =
       downloading = false;
     }
 
-abbrev pub of_stats : (o : StatsAnswer) → Stats
-of_stats (StatsAnswerRefused why) = stats_refused (refusal_number why) (refusal_place why)
-of_stats (StatsAnswerReplied x) =
+abbrev pub of_stats : (o : Result PieceStats Refusal) → Stats
+of_stats (Err why) = stats_refused (refusal_number why) (refusal_place why)
+of_stats (Ok x) =
     record {
       refusal = 0;
       place = 0;
@@ -98,9 +94,9 @@ info_refused number place =
       hashing = false;
     }
 
-abbrev pub of_info : (o : InfoAnswer) → Info
-of_info (InfoAnswerRefused why) = info_refused (refusal_number why) (refusal_place why)
-of_info (InfoAnswerReplied x) =
+abbrev pub of_info : (o : Result PieceInfo Refusal) → Info
+of_info (Err why) = info_refused (refusal_number why) (refusal_place why)
+of_info (Ok x) =
     record {
       refusal = 0;
       place = 0;

@@ -1,10 +1,9 @@
 // Answers of one number at most.
 ghost use Rattle.std.specs.Prelude.{◌≡◌};
-ghost use Rattle.export_answers.specs.Answers.{refused_answer, valued, flag_value, of_flag, of_placed, of_flag_of, of_number_of, of_peer_of};
+ghost use Rattle.export_answers.specs.Answers.{refused_answer, valued, of_flag, of_placed, of_flag_of, of_number_of, of_peer_of};
 
 use crate::refusals::{number, place};
-use ask_block::{NumberOf, PeerOf};
-use ask_partial::FlagOf;
+use ask_block::PeerOf;
 use ask_places::Placed;
 use types::Refusal;
 
@@ -55,48 +54,22 @@ pub fn of_u64(n: u64) -> Answered
 pub fn of_usize(n: usize) -> Answered
     ensures { result ≡ valued 1 n }
 {
-    Answered {
-        refusal: 0,
-        kind: 1,
-        place: 0,
-        value: n as u64,
-    }
+    of_u64(n as u64)
 }
 
 // 1 for true.
-fn flag_value(flag: bool) -> u64
-    ensures { result ≡ flag_value flag }
-{
-    if flag { 1 } else { 0 }
-}
-
 pub fn of_bool(flag: bool) -> Answered
     ensures { result ≡ of_flag flag }
 {
-    Answered {
-        refusal: 0,
-        kind: 1,
-        place: 0,
-        value: flag_value(flag),
-    }
+    of_u64(u64::from(flag))
 }
 
 pub fn of_placed(x: Placed) -> Answered
     ensures { result ≡ of_placed x }
 {
     match x {
-        Placed::Number(n) => Answered {
-            refusal: 0,
-            kind: 1,
-            place: 0,
-            value: n,
-        },
-        Placed::Nothing => Answered {
-            refusal: 0,
-            kind: 0,
-            place: 0,
-            value: 0,
-        },
+        Placed::Number(n) => of_u64(n),
+        Placed::Nothing => nothing(),
         Placed::Stale => Answered {
             refusal: 0,
             kind: 2,
@@ -106,31 +79,21 @@ pub fn of_placed(x: Placed) -> Answered
     }
 }
 
-pub fn of_flag_of(x: FlagOf) -> Answered
+pub fn of_flag_of(x: Option<bool>) -> Answered
     ensures { result ≡ of_flag_of x }
 {
     match x {
-        FlagOf::Flag(flag) => of_bool(flag),
-        FlagOf::Nothing => nothing(),
+        Some(flag) => of_bool(flag),
+        None => nothing(),
     }
 }
 
-pub fn of_number_of(x: NumberOf) -> Answered
+pub fn of_number_of(x: Option<u16>) -> Answered
     ensures { result ≡ of_number_of x }
 {
     match x {
-        NumberOf::Number(n) => Answered {
-            refusal: 0,
-            kind: 1,
-            place: 0,
-            value: n as u64,
-        },
-        NumberOf::Nothing => Answered {
-            refusal: 0,
-            kind: 0,
-            place: 0,
-            value: 0,
-        },
+        Some(n) => of_u64(u64::from(n)),
+        None => nothing(),
     }
 }
 
@@ -138,23 +101,13 @@ pub fn of_peer_of(x: PeerOf) -> Answered
     ensures { result ≡ of_peer_of x }
 {
     match x {
-        PeerOf::Peer(peer) => Answered {
-            refusal: 0,
-            kind: 1,
-            place: 0,
-            value: peer,
-        },
+        PeerOf::Peer(peer) => of_u64(peer),
         PeerOf::NoPeer => Answered {
             refusal: 0,
             kind: 3,
             place: 0,
             value: 0,
         },
-        PeerOf::Nothing => Answered {
-            refusal: 0,
-            kind: 0,
-            place: 0,
-            value: 0,
-        },
+        PeerOf::Nothing => nothing(),
     }
 }

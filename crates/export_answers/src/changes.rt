@@ -4,6 +4,7 @@ ghost use Rattle.export_answers.specs.Changes.{truth_value, of_outcome};
 
 use crate::refusals::{number, place};
 use picker_calls::Outcome;
+use types::Refusal;
 
 // `kind` is 0 for a change that answers nothing, 1 where `value` is 1 for true or 0 for false; `draws` are the draws used.
 #[repr(C)]
@@ -22,25 +23,25 @@ fn truth_value(truth: bool) -> u64
     if truth { 1 } else { 0 }
 }
 
-pub fn of_outcome(o: Outcome) -> Changed
+pub fn of_outcome(o: Result<Outcome, Refusal>) -> Changed
     ensures { result ≡ of_outcome o }
 {
     match o {
-        Outcome::Refused(why) => Changed {
+        Err(why) => Changed {
             refusal: number(why),
             kind: 0,
             place: place(why),
             value: 0,
             draws: 0,
         },
-        Outcome::Done(used) => Changed {
+        Ok(Outcome::Done(used)) => Changed {
             refusal: 0,
             kind: 0,
             place: 0,
             value: 0,
             draws: used,
         },
-        Outcome::Said(truth, used) => Changed {
+        Ok(Outcome::Said(truth, used)) => Changed {
             refusal: 0,
             kind: 1,
             place: 0,

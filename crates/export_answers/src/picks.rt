@@ -3,7 +3,8 @@ ghost use Rattle.std.specs.Prelude.{◌≡◌};
 ghost use Rattle.export_answers.specs.Picks.{of_pick};
 
 use crate::refusals::{number, place};
-use picker_pick::PickOutcome;
+use pick_pieces::Picked;
+use types::Refusal;
 
 // Where the output ends now, the flags, the draws used, and the seven counters.
 #[repr(C)]
@@ -23,11 +24,11 @@ pub struct PickAnswered {
     pub busy_loops: u64,
 }
 
-pub fn of_pick(o: PickOutcome) -> PickAnswered
+pub fn of_pick(o: Result<Picked, Refusal>) -> PickAnswered
     ensures { result ≡ of_pick o }
 {
     match o {
-        PickOutcome::Refused(why) => PickAnswered {
+        Err(why) => PickAnswered {
             refusal: number(why),
             flags: 0,
             place: place(why),
@@ -41,7 +42,7 @@ pub fn of_pick(o: PickOutcome) -> PickAnswered
             rand_loops: 0,
             busy_loops: 0,
         },
-        PickOutcome::Done(p) => PickAnswered {
+        Ok(p) => PickAnswered {
             refusal: 0,
             flags: p.flags,
             place: 0,

@@ -3,10 +3,12 @@ ghost use Rattle.std.specs.Prelude.{◌≡◌};
 ghost use Rattle.export_answers.specs.Records.{of_copies, of_count, of_sizes, of_stats, of_info};
 
 use crate::refusals::{number, place};
-use picker_partial_questions::InfoAnswer;
-use picker_piece_questions::StatsAnswer;
-use picker_questions::CopiesAnswer;
-use picker_totals::{CountAnswer, SizesAnswer};
+use ask_columns::DistributedCopies;
+use ask_partial::PieceInfo;
+use ask_piece::PieceStats;
+use ask_progress::QueueSizes;
+use ask_totals::PieceCount;
+use types::Refusal;
 
 // The least copies of a piece, and how many pieces have more in thousandths.
 #[repr(C)]
@@ -18,17 +20,17 @@ pub struct Copied {
     pub fraction: u64,
 }
 
-pub fn of_copies(o: CopiesAnswer) -> Copied
+pub fn of_copies(o: Result<DistributedCopies, Refusal>) -> Copied
     ensures { result ≡ of_copies o }
 {
     match o {
-        CopiesAnswer::Refused(why) => Copied {
+        Err(why) => Copied {
             refusal: number(why),
             place: place(why),
             integer: 0,
             fraction: 0,
         },
-        CopiesAnswer::Replied(x) => Copied {
+        Ok(x) => Copied {
             refusal: 0,
             place: 0,
             integer: x.integer,
@@ -48,18 +50,18 @@ pub struct Counted {
     pub last_piece: bool,
 }
 
-pub fn of_count(o: CountAnswer) -> Counted
+pub fn of_count(o: Result<PieceCount, Refusal>) -> Counted
     ensures { result ≡ of_count o }
 {
     match o {
-        CountAnswer::Refused(why) => Counted {
+        Err(why) => Counted {
             refusal: number(why),
             place: place(why),
             num_pieces: 0,
             pad_bytes: 0,
             last_piece: false,
         },
-        CountAnswer::Replied(x) => Counted {
+        Ok(x) => Counted {
             refusal: 0,
             place: 0,
             num_pieces: x.num_pieces,
@@ -81,11 +83,11 @@ pub struct Sized {
     pub zero_prio: usize,
 }
 
-pub fn of_sizes(o: SizesAnswer) -> Sized
+pub fn of_sizes(o: Result<QueueSizes, Refusal>) -> Sized
     ensures { result ≡ of_sizes o }
 {
     match o {
-        SizesAnswer::Refused(why) => Sized {
+        Err(why) => Sized {
             refusal: number(why),
             place: place(why),
             downloading: 0,
@@ -93,7 +95,7 @@ pub fn of_sizes(o: SizesAnswer) -> Sized
             finished: 0,
             zero_prio: 0,
         },
-        SizesAnswer::Replied(x) => Sized {
+        Ok(x) => Sized {
             refusal: 0,
             place: 0,
             downloading: x.downloading,
@@ -117,11 +119,11 @@ pub struct Stats {
     pub downloading: bool,
 }
 
-pub fn of_stats(o: StatsAnswer) -> Stats
+pub fn of_stats(o: Result<PieceStats, Refusal>) -> Stats
     ensures { result ≡ of_stats o }
 {
     match o {
-        StatsAnswer::Refused(why) => Stats {
+        Err(why) => Stats {
             refusal: number(why),
             place: place(why),
             peer_count: 0,
@@ -130,7 +132,7 @@ pub fn of_stats(o: StatsAnswer) -> Stats
             flushed: false,
             downloading: false,
         },
-        StatsAnswer::Replied(x) => Stats {
+        Ok(x) => Stats {
             refusal: 0,
             place: 0,
             peer_count: x.peer_count,
@@ -157,11 +159,11 @@ pub struct Info {
     pub hashing: bool,
 }
 
-pub fn of_info(o: InfoAnswer) -> Info
+pub fn of_info(o: Result<PieceInfo, Refusal>) -> Info
     ensures { result ≡ of_info o }
 {
     match o {
-        InfoAnswer::Refused(why) => Info {
+        Err(why) => Info {
             refusal: number(why),
             place: place(why),
             index: 0,
@@ -172,7 +174,7 @@ pub fn of_info(o: InfoAnswer) -> Info
             requested: 0,
             hashing: false,
         },
-        InfoAnswer::Replied(x) => Info {
+        Ok(x) => Info {
             refusal: 0,
             place: 0,
             index: x.index,
