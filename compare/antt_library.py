@@ -80,8 +80,11 @@ DEC = {
 
 BITS = {"bit_and": Native("bit_and", 2, "({} & {})"), "bit_or": Native("bit_or", 2, "({} | {})")}
 
+# the language's Option, which contracts of code name; the definition's own is the library's mathematical one
+CODE_OPTION = {"Option": TYPE, **pair(Constructor("None", 0), Constructor("Some", 1))}
+
 LIBRARY = {
-    "Rattle.std.specs.Prelude": {**NAT, **BOOL, **LIST, **LIST_N, **DEC, **BITS, "◌≡◌": TYPE},
+    "Rattle.std.specs.Prelude": {**NAT, **BOOL, **LIST, **LIST_N, **DEC, **BITS, **CODE_OPTION, "◌≡◌": TYPE},
     "Rattle.std.specs.Int.Bits": BITS,
     "Rattle.std.proofs.Math.Option": {"Option": TYPE, **pair(Constructor("none", 0), Constructor("some", 1))},
     "Rattle.std.proofs.Math.ListN": {**LIST_N, "get_elem?": Native("get_elem?", 2, "n_elem({}, {})")},

@@ -39,7 +39,7 @@ def enum_of(text, name, path):
     if match is None:
         raise AnttError(f"{path}: no enum {name}")
     out = []
-    for variant, payload in re.findall(r"(\w+)\s*(?:\(([^)]*)\))?\s*(?:,|$)", match.group(1)):
+    for variant, payload in re.findall(r"(\w+)\s*(?:\(([^)]*)\))?\s*(?:=\s*\d+\s*)?(?:,|$)", match.group(1)):
         types = [t.strip() for t in payload.split(",") if t.strip()]
         out.append(Constructor(variant, len(types), params=tuple(Param(None, t) for t in types)))
     return siblings(name, out)
