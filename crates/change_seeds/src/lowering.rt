@@ -5,7 +5,7 @@ ghost use Rattle.memory_layout.specs.Stores.{CellsBecame};
 
 use memory_layout::Shape;
 
-// None where there was none.
+// A piece that had no peer has none then, too.
 pub fn lower_all(cells: &mut [u16], s: Shape)
     requires { CellsSpan s cells.old }
     ensures { CellsBecame s (all_pieces dec_peer_count) cells.old cells.new }

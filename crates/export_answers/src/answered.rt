@@ -57,7 +57,7 @@ pub fn of_usize(n: usize) -> Answered
     of_u64(n as u64)
 }
 
-// 1 for true.
+// A truth value, as 1 for true.
 pub fn of_bool(flag: bool) -> Answered
     ensures { result ≡ of_flag flag }
 {

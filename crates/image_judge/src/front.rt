@@ -42,7 +42,7 @@ fn read_body(bytes: &[u8], head: Head, n: usize, ranks: &mut [u16]) -> Result<us
     read_tail(bytes, end, head, n, ranks)
 }
 
-// The whole, up to where it ends.
+// The whole, up to where it ends: the answer is that place, the error that of the first record at fault.
 pub fn read_front(bytes: &[u8]) -> Result<usize, usize>
     ensures { Went (get_picker bytes.now) bytes.now result }
 {

@@ -8,7 +8,7 @@ ghost use Rattle.image_judge.specs.Verdicts.{verdict_of, job_verdict, PickTold};
 use crate::front::read_front;
 use image_records::{Pick, read_pick};
 
-// Left-over bytes count as a record.
+// Whether the bytes are an image; the error is the place of the first fault, by which left-over bytes count as a record.
 pub fn judge_image(bytes: &[u8]) -> Result<(), usize>
     ensures { result ≡ verdict_of (read_image bytes.now) }
 {
@@ -34,6 +34,7 @@ fn judge_pick(bytes: &[u8], at: usize) -> Result<Pick, usize>
     Ok(p)
 }
 
+// An image and a pick record behind it: the pick's numbers, or as the error the place of the first fault.
 pub fn judge_job(bytes: &[u8]) -> Result<Pick, usize>
     ensures { result ≡ job_verdict (whole_of (len bytes.now) (get_job bytes.now)) }
 {

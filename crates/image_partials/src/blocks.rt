@@ -45,7 +45,7 @@ fn read_each(bytes: &[u8], start: usize, many: usize) -> Result<Tally, usize>
 }
 
 // `many` blocks from `start` on. What they give together is judged behind the last one. A pass that only tells whether all are well goes
-// first, since that is what an image mostly has.
+// first, since that is what an image mostly has. The error is the place of the record at fault.
 pub fn read_blocks(bytes: &[u8], start: usize, many: usize) -> Result<Tally, usize>
     requires { (start ≤ length bytes.now) × (1 ≤ many) × (many ≤ 256) }
     ensures { BlocksJudged start many bytes.now result }

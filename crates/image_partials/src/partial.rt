@@ -24,7 +24,8 @@ fn state_fits(state: u64, priority: u64, t: Tally, many: u64, flags: u64) -> boo
     )
 }
 
-// The partial of piece i, of `many` blocks, where n partials stand before it.
+// The partial of piece i, of `many` blocks, where n partials stand before it. Answers the place behind its blocks, or as the error that of
+// the record at fault.
 pub fn read_whole(
     bytes: &[u8],
     at: usize,

@@ -39,7 +39,7 @@ fn pass_piece(bytes: &[u8], head: Head, n: usize, i: usize, w: Walk) -> Result<W
     })
 }
 
-// The partials of n pieces that were judged before.
+// The partials of n pieces that were judged before. Answers the place behind them, or as the error that of the record at fault.
 pub fn read_partials(bytes: &[u8], head: Head, n: usize) -> Result<usize, usize>
     requires headed { (Headed head bytes.now) × (StatesStand n bytes.now) }
     requires n_value { n ≡ num_pieces head.total head.size }

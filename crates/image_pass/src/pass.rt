@@ -51,7 +51,7 @@ fn pass_whole(bytes: &[u8], start: usize, many: usize) -> Option<Tally>
     })
 }
 
-// `many` blocks from `start` on.
+// `many` blocks from `start` on, where all are well; nothing where that is unclear.
 pub fn pass_blocks(bytes: &[u8], start: usize, many: usize) -> Option<Tally>
     requires { (start ≤ length bytes.now) × (1 ≤ many) × (many ≤ 256) }
     ensures { BlocksWell start many bytes.now result }

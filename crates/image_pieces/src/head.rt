@@ -25,6 +25,7 @@ fn head_ok(total: u64, size: u64, seeds: u64, cursor: u64, reverse: u64, dirty: 
     (dirty <= 1) & valid_geometry(total, size) & (seeds <= 1000) & (cursor <= n) & (reverse <= n)
 }
 
+// The head, where it is well-formed.
 pub fn read_head(bytes: &[u8]) -> Option<Head>
     ensures { result ≡ head_step (judged head_kind read_head bytes.now) }
 {

@@ -19,7 +19,8 @@ fn rank_of(seeds: u64, p: Piece) -> u16
     u64_to_u16(rank(seeds, p.peer_count, p.state, p.priority, p.flushed))
 }
 
-// Piece by piece from the first one on that the quick pass leaves.
+// Piece by piece from the first one on that the quick pass leaves. Answers the place behind the pieces, or as the error that of the record
+// at fault.
 pub fn read_pieces(bytes: &[u8], head: Head, n: usize, ranks: &mut [u16]) -> Result<usize, usize>
     requires headed { Headed head bytes.now }
     requires n_value { (n ≡ num_pieces head.total head.size) × (n ≤ length ranks.old) }

@@ -29,7 +29,8 @@ fn read_accepted(
     Ok(count)
 }
 
-// Any bytes.
+// Any bytes. Refused with 13 and the place of the first fault where they are no image, and then with 2 where the memory is too short; else
+// so many records are live.
 pub fn read_image(
     bytes: &[u8],
     words: &mut [u64],

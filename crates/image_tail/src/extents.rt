@@ -19,7 +19,8 @@ fn among(bytes: &[u8], start: usize, k: usize, e: u64) -> bool
     false
 }
 
-// Extents from `start` on, as long as records of that kind come, where there are `limit` of them in the torrent.
+// Extents from `start` on, as long as records of that kind come, where there are `limit` of them in the torrent. Answers the place behind
+// them, or as the error that of the record at fault.
 pub fn read_extents(bytes: &[u8], start: usize, limit: u64) -> Result<usize, usize>
     requires { start ≤ length bytes.now }
     ensures { ExtentsJudged start limit bytes.now result }

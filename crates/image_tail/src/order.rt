@@ -64,7 +64,8 @@ fn read_order(
     Ok(at)
 }
 
-// The list, unless it is dirty, where `ranks` are those of the n pieces. They do not last.
+// The list, unless it is dirty, where `ranks` are those of the n pieces. They do not last. Answers the place behind the list, or as the
+// error that of the record at fault.
 pub fn read_listing(
     bytes: &[u8],
     at: usize,
