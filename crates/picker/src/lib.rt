@@ -45,6 +45,16 @@ pub use picker_totals::{
     num_have, num_have_filtered, num_pad_bytes, num_want_left, want,
 };
 
+// What the questions and the pick answer.
+pub use ask_block::PeerOf;
+pub use ask_columns::DistributedCopies;
+pub use ask_partial::PieceInfo;
+pub use ask_piece::PieceStats;
+pub use ask_places::Placed;
+pub use ask_progress::QueueSizes;
+pub use ask_totals::PieceCount;
+pub use pick_pieces::Picked;
+
 // Numbers, refusals and records.
 pub use memory_records::DownloadingPiece;
 pub use types::{DownloadPriority, PickerOptions, PieceBlock, PieceIndex, Refusal};
