@@ -1,22 +1,19 @@
 -- Blocks copied one after another, and the step that this is. Assumes nothing.
 use mathlib.Core.Path.{◌≡◌, refl, sym, ap, ◌∙◌}
-use mathlib.Core.Bool.{Bool, true, false}
-use mathlib.Core.List.{List, [], ◌∷◌, ◌++◌}
+use mathlib.Core.List.{List, [], ◌∷◌, ◌++◌, append_assoc, append-nil}
 use Prim.Native.Nat.{ℕ, zero, suc, ◌+◌, ◌-◌, ◌≤◌, ◌<◌}
+use native.Mathlib.Numerals.{add-one}
 use native.Mathlib.Omega.{arith}
-use lib.Dec.{ltb, leb}
-use lib.ListN.{length, get_or, take, drop, length-drop}
-use lib.Seq.{take-take, length-take-le, drop-append-le}
-use borrow.Rule.Slice.PartMut.{put_mid, same_len_mid}
-use Rattle.std.proofs.lemmas.List.{drop-take, get_or-take, get_or-drop}
-use Rattle.std.proofs.lemmas.Slice.{take-put_mid_below, take-put_mid, drop-put_mid}
-use borrow.Author.Tests.{ltb-true, ltb-false, leb-true, leb-false}
+use lib.Dec.{leb}
+use lib.ListN.{length, get_or, set, take, length-set}
+use lib.Seq.{take-suc, take-take, get_or-set_other}
+use borrow.Author.Tests.{leb-true, leb-false}
 use Rattle.model.specs.Lists.{each, len, least}
 use Rattle.model.specs.pick.Blocks.{PieceBlock, with_out, with_backup, append_blocks}
 use Rattle.model.proofs.base.Phases.{cond_arms}
 use Rattle.pick_state.specs.declared.numbers.PickNumbers.{PickNumbers}
 use Rattle.pick_state.specs.PickStates.{block_from, blocks_between, contiguous_of, state_of}
-use Rattle.pick_state.proofs.TakeLaws.{between_length}
+use Rattle.pick_state.proofs.TakeLaws.{between_more, between_length}
 use Rattle.pick_append.specs.Appending.{Copied, Appended}
 
 -- ---- the lesser of two
@@ -45,54 +42,36 @@ taken_is n m aside h =
     rw e (each-take n (take m aside) ∙ ap (each block_from) (take-take n m aside h))
 
 -- ---- copied
--- the first n words set aside, in the place of the part of the output from `at` on
-module _ (at n k : ℕ) (aside out new : List ℕ) (ek : k ≡ n) (room : at + n ≤ length out) (there : n ≤ length aside) (e : new ≡ take n aside) where
-  abbrev made : List ℕ
-  made = put_mid at k out new
+pub copy_start : (at : ℕ) (aside out : List ℕ) → Copied at 0 aside out out
+unfolding each
+copy_start at aside out = record {
+  long = refl;
+  blocks = λ start h. let e : at + 0 ≡ at = omega arith in
+      ap (λ (n : ℕ). blocks_between start n out) e ∙ sym (append-nil (blocks_between start at out));
+  others = λ k h. refl;
+}
 
-  many : length new ≡ n
-  many = ap length e ∙ length-take-le n aside there
+pub copy_next : (at k : ℕ) (aside out mid : List ℕ) → Copied at k aside out mid → at + k < length out → k < length aside
+    → Copied at (k + 1) aside out (set mid (at + k) (get_or aside k 0))
+unfolding each
+copy_next at k aside out mid c h l = record {
+  long = length-set mid (at + k) (get_or aside k 0) ∙ c.long;
+  blocks = λ start g.
+      let n = c.long in
+      let e : at + (k + 1) ≡ at + k + 1 = omega arith in
+      ap (λ (m : ℕ). blocks_between start m (set mid (at + k) (get_or aside k 0))) e
+      ∙ between_more start (at + k) mid (get_or aside k 0) (omega arith) (omega arith)
+      ∙ ap (λ (b : List PieceBlock). b ++ (block_from (get_or aside k 0) ∷ [])) (c.blocks start g)
+      ∙ append_assoc (blocks_between start at out) (each block_from (take k aside)) (block_from (get_or aside k 0) ∷ [])
+      ∙ ap (λ (b : List PieceBlock). blocks_between start at out ++ b) (sym (each_append (take k aside) (get_or aside k 0 ∷ [])))
+      ∙ ap (λ (b : List ℕ). blocks_between start at out ++ each block_from b) (sym (take-suc aside k 0 l))
+      ∙ ap (λ (m : ℕ). blocks_between start at out ++ each block_from (take m aside)) (sym (add-one k));
+  others = λ j n.
+      get_or-set_other mid (at + k) j (get_or aside k 0) 0 (λ e. n (omega arith) (omega arith)) ∙ c.others j (λ x y. n x (omega arith));
+}
 
-  below : (j : ℕ) → j < at → get_or made j 0 ≡ get_or out j 0
-  below j h =
-      sym (get_or-take at made j 0 h)
-      ∙ ap (λ (l : List ℕ). get_or l j 0) (take-put_mid_below at k out new at (omega arith) (omega (arith, room)))
-      ∙ get_or-take at out j 0 h
-
-  behind : (j : ℕ) → at + n ≤ j → get_or made j 0 ≡ get_or out j 0
-  behind j h =
-      let z : at + n + (j - (at + n)) ≡ j = omega (arith, h) in
-      ap (λ (m : ℕ). get_or made m 0) (sym z)
-      ∙ sym (get_or-drop (at + n) made (j - (at + n)) 0)
-      ∙ ap (λ (l : List ℕ). get_or l (j - (at + n)) 0)
-      (drop-put_mid at k out new (at + n) (omega (arith, ek)) (omega (arith, room)) (many ∙ sym ek))
-      ∙ get_or-drop (at + n) out (j - (at + n)) 0
-      ∙ ap (λ (m : ℕ). get_or out m 0) z
-
-  outside : (j : ℕ) → (at ≤ j → j < at + n → ⊥) → (b c : Bool) → ltb j at ≡ b → ltb j (at + n) ≡ c → get_or made j 0 ≡ get_or out j 0
-  outside j q true c f g = below j (ltb-true j at f)
-  outside j q false true f g = absurd (q (ltb-false j at f) (ltb-true j (at + n) g))
-  outside j q false false f g = behind j (ltb-false j (at + n) g)
-
-  pub part_copied : Copied at n aside out (put_mid at k out new)
-  unfolding blocks_between
-  part_copied = record {
-    long = same_len_mid at k out new (many ∙ sym ek ∙ sym (length-take-le k (drop at out) (omega (arith, ek, room, length-drop at out))));
-    blocks = λ start h.
-        let s : start + (at + n - start) ≡ at + n = omega (arith, h) in
-        let z : start + (at - start) ≡ at = omega (arith, h) in
-        let l = length-take-le at out (omega (arith, room)) in
-        ap (each block_from)
-        (sym (drop-take start (at + n - start) made)
-        ∙ ap (λ (m : ℕ). drop start (take m made)) s
-        ∙ ap (drop start) (take-put_mid at k out new (at + n) (omega (arith, many)) (omega (arith, room)))
-        ∙ drop-append-le start (take at out) new (omega (arith, h, l))
-        ∙ ap (λ (m : ℕ). drop start (take m out) ++ new) (sym z)
-        ∙ ap (λ (xs : List ℕ). xs ++ new) (drop-take start (at - start) out)
-        ∙ ap (λ (xs : List ℕ). take (at - start) (drop start out) ++ xs) e)
-        ∙ each_append (take (at - start) (drop start out)) (take n aside);
-    others = λ j q. outside j q (ltb j at) (ltb j (at + n)) refl refl;
-  }
+pub copy_end : (at k n : ℕ) (aside out mid : List ℕ) → Copied at k aside out mid → k ≡ n → Copied at n aside out mid
+copy_end at k n aside out mid c e = rw (← e) c
 
 none_there : (xs : List ℕ) → blocks_between 0 0 xs ≡ []
 unfolding blocks_between each

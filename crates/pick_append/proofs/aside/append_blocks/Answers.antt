@@ -3,6 +3,7 @@ use Rattle.pick_append.proofs.AppendLaws.{least_both, append_is}
 use mathlib.Core.Path.{◌∙◌}
 use native.Mathlib.Omega.{arith}
 use Rattle.pick_state.proofs.LeastLaws.{min_least}
+use borrow.Author.Rules.{rules}
 use Rattle.pick_append.proofs.aside.append_blocks.Goals as goal
 
 pub copy_blocks-requires : goal.copy_blocks-requires

@@ -1,6 +1,7 @@
 -- `push` meets its contract. Assumes nothing.
 use Rattle.pick_append.proofs.RowLaws.{one_more, none_more}
 use mathlib.Core.Path.{refl}
+use borrow.Author.Rules.{rules}
 use Rattle.pick_append.proofs.rows.push.Goals as goal
 
 pub returns-then-keep : goal.returns-then-keep
