@@ -44,11 +44,7 @@ SOURCE = """// Questions of `{below}` for callers in C and Rust, each with what 
 {uses}
 {functions}"""
 
-SHAPE = """    let s = Shape {
-        pieces: g.pieces,
-        blocks: g.blocks,
-        places: g.places,
-    };
+SHAPE = """    let s = Shape::from(g);
 """
 
 FUNCTION = """

@@ -27,10 +27,6 @@ pub extern "C" fn aq_get_downloaders(
         ≡ list_piece (picker_in live rows.now words.now cells.now) i get_downloaders }
     ensures written { Written 2 result out.old out.new }
 {
-    let s = Shape {
-        pieces: g.pieces,
-        blocks: g.blocks,
-        places: g.places,
-    };
+    let s = Shape::from(g);
     ask_records::get_downloaders(words, cells, rows, live, s, i, out)
 }

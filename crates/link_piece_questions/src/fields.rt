@@ -16,11 +16,7 @@ pub extern "C" fn aq_pad_bytes_in_piece(words: &[u64], g: Geometry, i: usize) ->
     requires i_lt_pieces { i < g.pieces }
     ensures { WordsSay (shaped g) words.now (λ d. reply_piece d i pad_bytes_in_piece) (one result) }
 {
-    let s = Shape {
-        pieces: g.pieces,
-        blocks: g.blocks,
-        places: g.places,
-    };
+    let s = Shape::from(g);
     ask_piece::pad_bytes_in_piece(words, s, i)
 }
 
@@ -30,11 +26,7 @@ pub extern "C" fn aq_peer_count(cells: &[u16], g: Geometry, i: usize) -> u16
     requires i_lt_pieces { i < g.pieces }
     ensures { CellsSay (shaped g) cells.now (λ d. reply_piece d i peer_count) (one result) }
 {
-    let s = Shape {
-        pieces: g.pieces,
-        blocks: g.blocks,
-        places: g.places,
-    };
+    let s = Shape::from(g);
     ask_piece::peer_count(cells, s, i)
 }
 
@@ -44,11 +36,7 @@ pub extern "C" fn aq_piece_priority(cells: &[u16], g: Geometry, i: usize) -> u16
     requires i_lt_pieces { i < g.pieces }
     ensures { CellsSay (shaped g) cells.now (λ d. reply_piece d i piece_priority) (one result) }
 {
-    let s = Shape {
-        pieces: g.pieces,
-        blocks: g.blocks,
-        places: g.places,
-    };
+    let s = Shape::from(g);
     ask_piece::piece_priority(cells, s, i)
 }
 
@@ -58,11 +46,7 @@ pub extern "C" fn aq_download_state(cells: &[u16], g: Geometry, i: usize) -> u16
     requires i_lt_pieces { i < g.pieces }
     ensures { CellsSay (shaped g) cells.now (λ d. reply_piece d i download_state) (one result) }
 {
-    let s = Shape {
-        pieces: g.pieces,
-        blocks: g.blocks,
-        places: g.places,
-    };
+    let s = Shape::from(g);
     ask_piece::download_state(cells, s, i)
 }
 
@@ -72,11 +56,7 @@ pub extern "C" fn aq_is_piece_flushed(cells: &[u16], g: Geometry, i: usize) -> b
     requires i_lt_pieces { i < g.pieces }
     ensures { CellsSay (shaped g) cells.now (λ d. reply_piece d i is_piece_flushed) (flag result) }
 {
-    let s = Shape {
-        pieces: g.pieces,
-        blocks: g.blocks,
-        places: g.places,
-    };
+    let s = Shape::from(g);
     ask_piece::is_piece_flushed(cells, s, i)
 }
 
@@ -86,10 +66,6 @@ pub extern "C" fn aq_is_downloading(cells: &[u16], g: Geometry, i: usize) -> boo
     requires i_lt_pieces { i < g.pieces }
     ensures { CellsSay (shaped g) cells.now (λ d. reply_piece d i is_downloading) (flag result) }
 {
-    let s = Shape {
-        pieces: g.pieces,
-        blocks: g.blocks,
-        places: g.places,
-    };
+    let s = Shape::from(g);
     ask_piece::is_downloading(cells, s, i)
 }

@@ -64,10 +64,6 @@ pub extern "C" fn aq_have_piece(
     requires i_lt_pieces { i < g.pieces }
     ensures { RowsCellsSay (shaped g) live rows.now cells.now (λ d. reply_piece d i ask_have_piece) (flag result) }
 {
-    let s = Shape {
-        pieces: g.pieces,
-        blocks: g.blocks,
-        places: g.places,
-    };
+    let s = Shape::from(g);
     ask_partial::have_piece(cells, rows, live, s, i)
 }

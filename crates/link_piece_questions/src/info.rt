@@ -24,11 +24,7 @@ pub extern "C" fn aq_piece_info(
     requires i_lt_pieces { i < g.pieces }
     ensures { info_reply result ≡ reply_piece (picker_in live rows.now words.now cells.now) i piece_info }
 {
-    let s = Shape {
-        pieces: g.pieces,
-        blocks: g.blocks,
-        places: g.places,
-    };
+    let s = Shape::from(g);
     ask_partial::piece_info(words, cells, rows, live, counts, s, i)
 }
 
@@ -47,10 +43,6 @@ pub extern "C" fn aq_is_piece_finished(
     ensures { flag result
         ≡ reply_piece (picker_in live rows.now words.now cells.now) i is_piece_finished }
 {
-    let s = Shape {
-        pieces: g.pieces,
-        blocks: g.blocks,
-        places: g.places,
-    };
+    let s = Shape::from(g);
     ask_partial::is_piece_finished(words, cells, rows, live, counts, s, i)
 }

@@ -16,11 +16,7 @@ pub extern "C" fn aq_piece_size(words: &[u64], g: Geometry, i: usize) -> u64
     requires i_lt_pieces { i < g.pieces }
     ensures { HeadSays words.now (λ d. reply_piece d i piece_size) (one result) }
 {
-    let s = Shape {
-        pieces: g.pieces,
-        blocks: g.blocks,
-        places: g.places,
-    };
+    let s = Shape::from(g);
     ask_piece::piece_size(words, s, i)
 }
 
@@ -31,11 +27,7 @@ pub extern "C" fn aq_blocks_in_piece(words: &[u64], g: Geometry, i: usize) -> u6
     requires i_lt_pieces { i < g.pieces }
     ensures { HeadSays words.now (λ d. reply_piece d i ask_blocks_in_piece) (one result) }
 {
-    let s = Shape {
-        pieces: g.pieces,
-        blocks: g.blocks,
-        places: g.places,
-    };
+    let s = Shape::from(g);
     ask_piece::blocks_in_piece(words, s, i)
 }
 
@@ -46,10 +38,6 @@ pub extern "C" fn aq_payload_blocks_in_piece(words: &[u64], g: Geometry, i: usiz
     requires i_lt_pieces { i < g.pieces }
     ensures { WordsSay (shaped g) words.now (λ d. reply_piece d i ask_payload_blocks_in_piece) (one result) }
 {
-    let s = Shape {
-        pieces: g.pieces,
-        blocks: g.blocks,
-        places: g.places,
-    };
+    let s = Shape::from(g);
     ask_piece::payload_blocks_in_piece(words, s, i)
 }

@@ -28,11 +28,7 @@ pub extern "C" fn aq_get_downloader(
     ensures { peer_reply (peer_told result)
         ≡ reply (picker_in live rows.now words.now cells.now) (of_block get_downloader i j) }
 {
-    let s = Shape {
-        pieces: g.pieces,
-        blocks: g.blocks,
-        places: g.places,
-    };
+    let s = Shape::from(g);
     Told::from(ask_block::get_downloader(words, cells, rows, live, s, i, j))
 }
 
@@ -51,10 +47,6 @@ pub extern "C" fn aq_block_peer(
     ensures { peer_reply (peer_told result)
         ≡ reply (picker_in live rows.now words.now cells.now) (of_block block_peer i j) }
 {
-    let s = Shape {
-        pieces: g.pieces,
-        blocks: g.blocks,
-        places: g.places,
-    };
+    let s = Shape::from(g);
     Told::from(ask_block::block_peer(words, cells, rows, live, s, i, j))
 }

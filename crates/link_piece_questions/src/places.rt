@@ -29,11 +29,7 @@ pub extern "C" fn aq_recent_extent(words: &[u64], g: Geometry, k: usize) -> Told
     requires words_bound { head_word words.now 8 ≤ max_extents }
     ensures { WordsSay (shaped g) words.now (λ d. reply d (recent_extent k)) (placed_reply (placed_told result)) }
 {
-    let s = Shape {
-        pieces: g.pieces,
-        blocks: g.blocks,
-        places: g.places,
-    };
+    let s = Shape::from(g);
     Told::from(ask_places::recent_extent(words, s, k))
 }
 
@@ -43,10 +39,6 @@ pub extern "C" fn aq_list_place(words: &[u64], g: Geometry, k: usize) -> Told
     requires words_bound { head_word words.now 6 ≤ g.pieces }
     ensures { WordsSay (shaped g) words.now (λ d. reply d (ask_list_place k)) (placed_reply (placed_told result)) }
 {
-    let s = Shape {
-        pieces: g.pieces,
-        blocks: g.blocks,
-        places: g.places,
-    };
+    let s = Shape::from(g);
     Told::from(ask_places::list_place(words, s, k))
 }

@@ -30,10 +30,6 @@ pub extern "C" fn aq_blocks_for_piece(
         ≡ list_piece (picker_in live rows.now words.now cells.now) i blocks_for_piece }
     ensures written { Written 4 (records_in (records_told result)) out.old out.new }
 {
-    let s = Shape {
-        pieces: g.pieces,
-        blocks: g.blocks,
-        places: g.places,
-    };
+    let s = Shape::from(g);
     Told::from(ask_records::blocks_for_piece(words, cells, rows, live, s, i, out))
 }

@@ -29,11 +29,7 @@ pub extern "C" fn aq_num_peers_block(
     ensures { one result
         ≡ reply (picker_in live rows.now words.now cells.now) (of_block num_peers_block i j) }
 {
-    let s = Shape {
-        pieces: g.pieces,
-        blocks: g.blocks,
-        places: g.places,
-    };
+    let s = Shape::from(g);
     ask_block::num_peers_block(words, cells, rows, live, s, i, j)
 }
 
@@ -52,11 +48,7 @@ pub extern "C" fn aq_is_requested(
     ensures { flag result
         ≡ reply (picker_in live rows.now words.now cells.now) (of_block is_requested i j) }
 {
-    let s = Shape {
-        pieces: g.pieces,
-        blocks: g.blocks,
-        places: g.places,
-    };
+    let s = Shape::from(g);
     ask_block::is_requested(words, cells, rows, live, s, i, j)
 }
 
@@ -75,11 +67,7 @@ pub extern "C" fn aq_is_downloaded(
     ensures { flag result
         ≡ reply (picker_in live rows.now words.now cells.now) (of_block is_downloaded i j) }
 {
-    let s = Shape {
-        pieces: g.pieces,
-        blocks: g.blocks,
-        places: g.places,
-    };
+    let s = Shape::from(g);
     ask_block::is_downloaded(words, cells, rows, live, s, i, j)
 }
 
@@ -98,11 +86,7 @@ pub extern "C" fn aq_is_finished_block(
     ensures { flag result
         ≡ reply (picker_in live rows.now words.now cells.now) (of_block is_finished_block i j) }
 {
-    let s = Shape {
-        pieces: g.pieces,
-        blocks: g.blocks,
-        places: g.places,
-    };
+    let s = Shape::from(g);
     ask_block::is_finished_block(words, cells, rows, live, s, i, j)
 }
 
@@ -121,11 +105,7 @@ pub extern "C" fn aq_block_state(
     ensures { number_reply (number_told result)
         ≡ reply (picker_in live rows.now words.now cells.now) (of_block block_state i j) }
 {
-    let s = Shape {
-        pieces: g.pieces,
-        blocks: g.blocks,
-        places: g.places,
-    };
+    let s = Shape::from(g);
     Told::from(ask_block::block_state(words, cells, rows, live, s, i, j))
 }
 
@@ -144,10 +124,6 @@ pub extern "C" fn aq_block_num_peers(
     ensures { number_reply (number_told result)
         ≡ reply (picker_in live rows.now words.now cells.now) (of_block block_num_peers i j) }
 {
-    let s = Shape {
-        pieces: g.pieces,
-        blocks: g.blocks,
-        places: g.places,
-    };
+    let s = Shape::from(g);
     Told::from(ask_block::block_num_peers(words, cells, rows, live, s, i, j))
 }

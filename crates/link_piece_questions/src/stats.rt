@@ -17,11 +17,7 @@ pub extern "C" fn aq_get_availability(words: &[u64], cells: &[u16], g: Geometry,
     requires i_lt_pieces { i < g.pieces }
     ensures { BothSay (shaped g) words.now cells.now (λ d. reply_piece d i get_availability) (one result) }
 {
-    let s = Shape {
-        pieces: g.pieces,
-        blocks: g.blocks,
-        places: g.places,
-    };
+    let s = Shape::from(g);
     ask_piece::get_availability(words, cells, s, i)
 }
 
@@ -31,10 +27,6 @@ pub extern "C" fn aq_piece_stats(words: &[u64], cells: &[u16], g: Geometry, i: u
     requires i_lt_pieces { i < g.pieces }
     ensures { BothSay (shaped g) words.now cells.now (λ d. reply_piece d i piece_stats) (stats_reply result) }
 {
-    let s = Shape {
-        pieces: g.pieces,
-        blocks: g.blocks,
-        places: g.places,
-    };
+    let s = Shape::from(g);
     ask_piece::piece_stats(words, cells, s, i)
 }

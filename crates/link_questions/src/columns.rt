@@ -21,11 +21,7 @@ pub extern "C" fn aq_get_availability_vec(
     ensures { Told (shaped g) words.now cells.now (λ d. list_picker d get_availability_vec)
         out.old out.new }
 {
-    let s = Shape {
-        pieces: g.pieces,
-        blocks: g.blocks,
-        places: g.places,
-    };
+    let s = Shape::from(g);
     ask_columns::get_availability_vec(words, cells, s, out);
 }
 
@@ -36,10 +32,6 @@ pub extern "C" fn aq_piece_priorities(words: &[u64], cells: &[u16], g: Geometry,
     ensures { Told (shaped g) words.now cells.now (λ d. list_picker d piece_priorities)
         out.old out.new }
 {
-    let s = Shape {
-        pieces: g.pieces,
-        blocks: g.blocks,
-        places: g.places,
-    };
+    let s = Shape::from(g);
     ask_columns::piece_priorities(words, cells, s, out);
 }

@@ -19,10 +19,6 @@ pub extern "C" fn aq_distributed_copies(
     requires { StandsBeside (shaped g) words.now cells.now }
     ensures { BothSay (shaped g) words.now cells.now (λ d. reply_picker d distributed_copies) (copies_reply result) }
 {
-    let s = Shape {
-        pieces: g.pieces,
-        blocks: g.blocks,
-        places: g.places,
-    };
+    let s = Shape::from(g);
     ask_columns::distributed_copies(words, cells, s)
 }

@@ -14,11 +14,7 @@ use memory_layout::Shape;
 pub extern "C" fn aq_num_pieces(g: Geometry) -> usize
     ensures { ShapeSays (shaped g) (λ d. reply_picker d num_pieces) (one result) }
 {
-    let s = Shape {
-        pieces: g.pieces,
-        blocks: g.blocks,
-        places: g.places,
-    };
+    let s = Shape::from(g);
     ask_picker::num_pieces(s)
 }
 
@@ -26,11 +22,7 @@ pub extern "C" fn aq_num_pieces(g: Geometry) -> usize
 pub extern "C" fn aq_blocks_per_piece(g: Geometry) -> usize
     ensures { ShapeSays (shaped g) (λ d. reply_picker d ask_blocks_per_piece) (one result) }
 {
-    let s = Shape {
-        pieces: g.pieces,
-        blocks: g.blocks,
-        places: g.places,
-    };
+    let s = Shape::from(g);
     ask_picker::blocks_per_piece(s)
 }
 
@@ -39,11 +31,7 @@ pub extern "C" fn aq_block_size(words: &[u64], g: Geometry) -> u64
     requires { WordsSpan (shaped g) words.now }
     ensures { HeadSays words.now (λ d. reply_picker d block_size) (one result) }
 {
-    let s = Shape {
-        pieces: g.pieces,
-        blocks: g.blocks,
-        places: g.places,
-    };
+    let s = Shape::from(g);
     ask_picker::block_size(words, s)
 }
 
@@ -52,11 +40,7 @@ pub extern "C" fn aq_total_size(words: &[u64], g: Geometry) -> u64
     requires { WordsSpan (shaped g) words.now }
     ensures { HeadSays words.now (λ d. reply_picker d total_size) (one result) }
 {
-    let s = Shape {
-        pieces: g.pieces,
-        blocks: g.blocks,
-        places: g.places,
-    };
+    let s = Shape::from(g);
     ask_picker::total_size(words, s)
 }
 
@@ -65,11 +49,7 @@ pub extern "C" fn aq_full_piece_size(words: &[u64], g: Geometry) -> u64
     requires { WordsSpan (shaped g) words.now }
     ensures { HeadSays words.now (λ d. reply_picker d full_piece_size) (one result) }
 {
-    let s = Shape {
-        pieces: g.pieces,
-        blocks: g.blocks,
-        places: g.places,
-    };
+    let s = Shape::from(g);
     ask_picker::full_piece_size(words, s)
 }
 
@@ -78,11 +58,7 @@ pub extern "C" fn aq_num_seeds(words: &[u64], g: Geometry) -> u64
     requires { WordsSpan (shaped g) words.now }
     ensures { HeadSays words.now (λ d. reply_picker d num_seeds) (one result) }
 {
-    let s = Shape {
-        pieces: g.pieces,
-        blocks: g.blocks,
-        places: g.places,
-    };
+    let s = Shape::from(g);
     ask_picker::num_seeds(words, s)
 }
 
@@ -91,11 +67,7 @@ pub extern "C" fn aq_cursor(words: &[u64], g: Geometry) -> u64
     requires { WordsSpan (shaped g) words.now }
     ensures { HeadSays words.now (λ d. reply_picker d cursor?) (one result) }
 {
-    let s = Shape {
-        pieces: g.pieces,
-        blocks: g.blocks,
-        places: g.places,
-    };
+    let s = Shape::from(g);
     ask_picker::cursor(words, s)
 }
 
@@ -104,11 +76,7 @@ pub extern "C" fn aq_reverse_cursor(words: &[u64], g: Geometry) -> u64
     requires { WordsSpan (shaped g) words.now }
     ensures { HeadSays words.now (λ d. reply_picker d reverse_cursor?) (one result) }
 {
-    let s = Shape {
-        pieces: g.pieces,
-        blocks: g.blocks,
-        places: g.places,
-    };
+    let s = Shape::from(g);
     ask_picker::reverse_cursor(words, s)
 }
 
@@ -117,11 +85,7 @@ pub extern "C" fn aq_dirty(words: &[u64], g: Geometry) -> bool
     requires { WordsSpan (shaped g) words.now }
     ensures { HeadSays words.now (λ d. reply_picker d dirty?) (flag result) }
 {
-    let s = Shape {
-        pieces: g.pieces,
-        blocks: g.blocks,
-        places: g.places,
-    };
+    let s = Shape::from(g);
     ask_picker::dirty(words, s)
 }
 
@@ -130,10 +94,6 @@ pub extern "C" fn aq_get_download_queue_size(words: &[u64], g: Geometry) -> usiz
     requires { WordsSpan (shaped g) words.now }
     ensures { HeadSays words.now (λ d. reply_picker d get_download_queue_size) (one result) }
 {
-    let s = Shape {
-        pieces: g.pieces,
-        blocks: g.blocks,
-        places: g.places,
-    };
+    let s = Shape::from(g);
     ask_picker::get_download_queue_size(words, s)
 }

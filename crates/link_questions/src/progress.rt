@@ -22,11 +22,7 @@ pub extern "C" fn aq_is_finished(
     requires { Asked (shaped g) live rows.now words.now cells.now }
     ensures { flag result ≡ reply_picker (picker_in live rows.now words.now cells.now) is_finished }
 {
-    let s = Shape {
-        pieces: g.pieces,
-        blocks: g.blocks,
-        places: g.places,
-    };
+    let s = Shape::from(g);
     ask_progress::is_finished(words, cells, rows, live, s)
 }
 
@@ -41,11 +37,7 @@ pub extern "C" fn aq_is_seeding(
     requires { Asked (shaped g) live rows.now words.now cells.now }
     ensures { flag result ≡ reply_picker (picker_in live rows.now words.now cells.now) is_seeding }
 {
-    let s = Shape {
-        pieces: g.pieces,
-        blocks: g.blocks,
-        places: g.places,
-    };
+    let s = Shape::from(g);
     ask_progress::is_seeding(words, cells, rows, live, s)
 }
 
@@ -60,11 +52,7 @@ pub extern "C" fn aq_num_want_left(
     requires { Asked (shaped g) live rows.now words.now cells.now }
     ensures { one result ≡ reply_picker (picker_in live rows.now words.now cells.now) num_want_left }
 {
-    let s = Shape {
-        pieces: g.pieces,
-        blocks: g.blocks,
-        places: g.places,
-    };
+    let s = Shape::from(g);
     ask_progress::num_want_left(words, cells, rows, live, s)
 }
 
@@ -80,10 +68,6 @@ pub extern "C" fn aq_get_download_queue_sizes(
     ensures { sizes_reply result ≡ reply_picker (picker_in live rows.now words.now cells.now)
         get_download_queue_sizes }
 {
-    let s = Shape {
-        pieces: g.pieces,
-        blocks: g.blocks,
-        places: g.places,
-    };
+    let s = Shape::from(g);
     ask_progress::get_download_queue_sizes(words, cells, rows, live, s)
 }

@@ -27,10 +27,6 @@ pub extern "C" fn aq_get_download_queue(
         ≡ list_picker (picker_in live rows.now words.now cells.now) get_download_queue }
     ensures written { Written 7 result out.old out.new }
 {
-    let s = Shape {
-        pieces: g.pieces,
-        blocks: g.blocks,
-        places: g.places,
-    };
+    let s = Shape::from(g);
     ask_queue::get_download_queue(words, cells, rows, live, counts, s, out)
 }

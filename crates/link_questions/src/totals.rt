@@ -23,11 +23,7 @@ pub extern "C" fn aq_num_pad_bytes(
     requires { Asked (shaped g) live rows.now words.now cells.now }
     ensures { one result ≡ reply_picker (picker_in live rows.now words.now cells.now) num_pad_bytes }
 {
-    let s = Shape {
-        pieces: g.pieces,
-        blocks: g.blocks,
-        places: g.places,
-    };
+    let s = Shape::from(g);
     ask_totals::num_pad_bytes(words, cells, rows, live, s)
 }
 
@@ -42,11 +38,7 @@ pub extern "C" fn aq_num_have(
     requires { Asked (shaped g) live rows.now words.now cells.now }
     ensures { one result ≡ reply_picker (picker_in live rows.now words.now cells.now) ask_num_have }
 {
-    let s = Shape {
-        pieces: g.pieces,
-        blocks: g.blocks,
-        places: g.places,
-    };
+    let s = Shape::from(g);
     ask_totals::num_have(words, cells, rows, live, s)
 }
 
@@ -61,11 +53,7 @@ pub extern "C" fn aq_num_filtered(
     requires { Asked (shaped g) live rows.now words.now cells.now }
     ensures { one result ≡ reply_picker (picker_in live rows.now words.now cells.now) ask_num_filtered }
 {
-    let s = Shape {
-        pieces: g.pieces,
-        blocks: g.blocks,
-        places: g.places,
-    };
+    let s = Shape::from(g);
     ask_totals::num_filtered(words, cells, rows, live, s)
 }
 
@@ -80,11 +68,7 @@ pub extern "C" fn aq_num_have_filtered(
     requires { Asked (shaped g) live rows.now words.now cells.now }
     ensures { one result ≡ reply_picker (picker_in live rows.now words.now cells.now) ask_num_have_filtered }
 {
-    let s = Shape {
-        pieces: g.pieces,
-        blocks: g.blocks,
-        places: g.places,
-    };
+    let s = Shape::from(g);
     ask_totals::num_have_filtered(words, cells, rows, live, s)
 }
 
@@ -99,11 +83,7 @@ pub extern "C" fn aq_want(
     requires { Asked (shaped g) live rows.now words.now cells.now }
     ensures { count_reply result ≡ reply_picker (picker_in live rows.now words.now cells.now) want }
 {
-    let s = Shape {
-        pieces: g.pieces,
-        blocks: g.blocks,
-        places: g.places,
-    };
+    let s = Shape::from(g);
     ask_totals::want(words, cells, rows, live, s)
 }
 
@@ -118,11 +98,7 @@ pub extern "C" fn aq_have_want(
     requires { Asked (shaped g) live rows.now words.now cells.now }
     ensures { count_reply result ≡ reply_picker (picker_in live rows.now words.now cells.now) have_want }
 {
-    let s = Shape {
-        pieces: g.pieces,
-        blocks: g.blocks,
-        places: g.places,
-    };
+    let s = Shape::from(g);
     ask_totals::have_want(words, cells, rows, live, s)
 }
 
@@ -137,11 +113,7 @@ pub extern "C" fn aq_have(
     requires { Asked (shaped g) live rows.now words.now cells.now }
     ensures { count_reply result ≡ reply_picker (picker_in live rows.now words.now cells.now) have }
 {
-    let s = Shape {
-        pieces: g.pieces,
-        blocks: g.blocks,
-        places: g.places,
-    };
+    let s = Shape::from(g);
     ask_totals::have(words, cells, rows, live, s)
 }
 
@@ -156,10 +128,6 @@ pub extern "C" fn aq_all_pieces(
     requires { Asked (shaped g) live rows.now words.now cells.now }
     ensures { count_reply result ≡ reply_picker (picker_in live rows.now words.now cells.now) all_pieces }
 {
-    let s = Shape {
-        pieces: g.pieces,
-        blocks: g.blocks,
-        places: g.places,
-    };
+    let s = Shape::from(g);
     ask_totals::all_pieces(words, cells, rows, live, s)
 }

@@ -3,4 +3,4 @@ use borrow.Author.Rules.{rules}
 use Rattle.link_piece_questions.proofs.places.aq_list_place.Goals as goal
 
 pub returns : goal.returns
-returns c = rw c.from.ensures c.list_place.ensures
+returns c = let k = rw c.from-s.ensures at c.list_place.ensures in rw c.from.ensures k

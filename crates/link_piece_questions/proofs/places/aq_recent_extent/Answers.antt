@@ -3,4 +3,4 @@ use borrow.Author.Rules.{rules}
 use Rattle.link_piece_questions.proofs.places.aq_recent_extent.Goals as goal
 
 pub returns : goal.returns
-returns c = rw c.from.ensures c.recent_extent.ensures
+returns c = let k = rw c.from-s.ensures at c.recent_extent.ensures in rw c.from.ensures k
