@@ -7,7 +7,7 @@ ghost use Rattle.memory_rows.specs.Lookup.{picker_in};
 ghost use Rattle.ask_picker.specs.Asked.{Asked};
 ghost use Rattle.ask_progress.specs.Sizes.{sizes_reply};
 
-use ask_totals::counted;
+use ask_totals::{Kinds, counted};
 use memory_layout::Shape;
 use memory_queues::download_queues;
 use types::usize_to_u64;
@@ -27,7 +27,8 @@ pub fn is_finished(words: &[u64], cells: &[u16], rows: &[u32], live: usize, s: S
     requires { Asked s live rows.now words.now cells.now }
     ensures { flag result ≡ reply_picker (picker_in live rows.now words.now cells.now) is_finished }
 {
-    counted(words, cells, rows, live, s, |had, out| had | out).num_pieces == usize_to_u64(s.pieces)
+    let kinds = Kinds::of(|had, out| had | out);
+    counted(words, cells, rows, live, s, kinds).num_pieces == usize_to_u64(s.pieces)
 }
 
 // Every piece is had.
@@ -35,7 +36,8 @@ pub fn is_seeding(words: &[u64], cells: &[u16], rows: &[u32], live: usize, s: Sh
     requires { Asked s live rows.now words.now cells.now }
     ensures { flag result ≡ reply_picker (picker_in live rows.now words.now cells.now) is_seeding }
 {
-    counted(words, cells, rows, live, s, |had, _| had).num_pieces == usize_to_u64(s.pieces)
+    let kinds = Kinds::of(|had, _| had);
+    counted(words, cells, rows, live, s, kinds).num_pieces == usize_to_u64(s.pieces)
 }
 
 // As the definition counts: pieces neither had nor filtered, and those that are both.
@@ -43,7 +45,8 @@ pub fn num_want_left(words: &[u64], cells: &[u16], rows: &[u32], live: usize, s:
     requires { Asked s live rows.now words.now cells.now }
     ensures { one result ≡ reply_picker (picker_in live rows.now words.now cells.now) num_want_left }
 {
-    counted(words, cells, rows, live, s, |had, out| had == out).num_pieces
+    let kinds = Kinds::of(|had, out| had == out);
+    counted(words, cells, rows, live, s, kinds).num_pieces
 }
 
 pub fn get_download_queue_sizes(

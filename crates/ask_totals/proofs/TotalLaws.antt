@@ -1,13 +1,13 @@
 -- A turn of the pass over the pieces of a picker that stands, and its end. Assumes nothing.
-use mathlib.Core.Path.{◌≡◌, ap, ap₂, ◌∙◌}
-use mathlib.Core.Bool.{Bool, ◌||◌}
+use mathlib.Core.Path.{◌≡◌, ap, ap₂, ◌∙◌, subst, fun_ext}
+use mathlib.Core.Bool.{Bool, true, false, ◌||◌}
 use mathlib.Core.List.{List}
 use Prim.Native.Nat.{ℕ, ◌+◌, ◌*◌, ◌≤◌, ◌<◌}
 use native.Mathlib.Omega.{arith}
 use lib.Dec.{eqb}
 use lib.ListN.{get_or}
 use Rattle.model.specs.Lists.{bit}
-use Rattle.model.specs.State.{piece_at, pieces_in}
+use Rattle.model.specs.State.{Picker, piece_at, pieces_in}
 use Rattle.model.specs.ask.Questions.{have_piece, filtered}
 use Rattle.memory_records.specs.Rows.{records_in}
 use Rattle.memory_layout.specs.declared.shape.Shape.{Shape}
@@ -16,9 +16,10 @@ use Rattle.memory_fields.specs.Reading.{CellsSay, WordsSay}
 use Rattle.memory_rows.specs.Lookup.{picker_in}
 use Rattle.ask_picker.specs.Asked.{Asked}
 use Rattle.ask_picker.proofs.AskedLaws.{some_piece, pad_small, asked_rows, asked_queues, asked_rise}
+use Rattle.ask_totals.specs.declared.count.Kinds.{Kinds}
 use Rattle.ask_totals.specs.declared.count.PieceCount.{PieceCount}
 use Rattle.ask_totals.specs.Marks.{PiecesLow, Marked}
-use Rattle.ask_totals.specs.Totals.{Test, tested, Counted}
+use Rattle.ask_totals.specs.Totals.{Test, Computes, tested, included, Counted}
 use Rattle.ask_totals.proofs.MarkLaws.{mark_says}
 use Rattle.ask_totals.proofs.CountLaws.{bit_less, Counting, counting_next, counting_end}
 
@@ -75,3 +76,21 @@ module _ (s : Shape) (live : ℕ) (rows words cells : List ℕ) (g : Asked s liv
       let some = some_piece s (records_in live rows) words cells g.stands in
       counting_end (picker_in live rows words cells) (tested t (picker_in live rows words cells)) i r v (omega (arith, asked_pieces))
       (omega (arith, asked_pieces))
+
+-- ---- kinds of pieces
+-- an answer to each of the four is one to all
+pub answers_all : (answers : Bool → Bool → Bool → Type 0) (k : Kinds) → answers false false k.neither → answers false true k.filtered → answers true false k.had
+    → answers true true k.both → (had out : Bool) → answers had out (included k had out)
+answers_all answers k n f h b false false = n
+answers_all answers k n f h b false true = f
+answers_all answers k n f h b true false = h
+answers_all answers k n f h b true true = b
+
+-- the kinds of what a closure answers are those for which the test holds
+pub included_is : (answers : Bool → Bool → Bool → Type 0) (k : Kinds) → ((had out : Bool) → answers had out (included k had out)) → (t : Test) → Computes answers t
+    → included k ≡ t
+included_is answers k a t h = fun_ext (λ had. fun_ext (λ out. h had out (included k had out) (a had out)))
+
+-- counts of the kinds are those of the test
+pub counted_same : (s t : Test) (d : Picker) {r : PieceCount} → s ≡ t → Counted d (tested s d) r → Counted d (tested t d) r
+counted_same s t d {r} e c = subst (λ (u : Test). Counted d (tested u d) r) e c

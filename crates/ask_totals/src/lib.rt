@@ -6,7 +6,7 @@ mod count;
 mod marks;
 mod totals;
 
-pub use count::{PieceCount, counted};
+pub use count::{Kinds, PieceCount, counted};
 pub use totals::{
     all_pieces, have, have_want, num_filtered, num_have, num_have_filtered, num_pad_bytes, want,
 };

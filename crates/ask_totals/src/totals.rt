@@ -6,7 +6,7 @@ ghost use Rattle.memory_rows.specs.Lookup.{picker_in};
 ghost use Rattle.ask_picker.specs.Asked.{Asked};
 ghost use Rattle.ask_totals.specs.Totals.{count_reply};
 
-use crate::count::{PieceCount, counted};
+use crate::count::{Kinds, PieceCount, counted};
 use memory_layout::Shape;
 
 // The pad bytes of all pieces.
@@ -14,7 +14,8 @@ pub fn num_pad_bytes(words: &[u64], cells: &[u16], rows: &[u32], live: usize, s:
     requires { Asked s live rows.now words.now cells.now }
     ensures { one result ≡ reply_picker (picker_in live rows.now words.now cells.now) num_pad_bytes }
 {
-    counted(words, cells, rows, live, s, |_, _| true).pad_bytes
+    let kinds = Kinds::of(|_, _| true);
+    counted(words, cells, rows, live, s, kinds).pad_bytes
 }
 
 // Pieces that are flushed, or passed while still partials.
@@ -22,7 +23,8 @@ pub fn num_have(words: &[u64], cells: &[u16], rows: &[u32], live: usize, s: Shap
     requires { Asked s live rows.now words.now cells.now }
     ensures { one result ≡ reply_picker (picker_in live rows.now words.now cells.now) ask_num_have }
 {
-    counted(words, cells, rows, live, s, |had, _| had).num_pieces
+    let kinds = Kinds::of(|had, _| had);
+    counted(words, cells, rows, live, s, kinds).num_pieces
 }
 
 // Pieces of priority 0 that are not had.
@@ -30,7 +32,8 @@ pub fn num_filtered(words: &[u64], cells: &[u16], rows: &[u32], live: usize, s: 
     requires { Asked s live rows.now words.now cells.now }
     ensures { one result ≡ reply_picker (picker_in live rows.now words.now cells.now) ask_num_filtered }
 {
-    counted(words, cells, rows, live, s, |had, out| out & !had).num_pieces
+    let kinds = Kinds::of(|had, out| out & !had);
+    counted(words, cells, rows, live, s, kinds).num_pieces
 }
 
 // Pieces of priority 0 that are.
@@ -38,7 +41,8 @@ pub fn num_have_filtered(words: &[u64], cells: &[u16], rows: &[u32], live: usize
     requires { Asked s live rows.now words.now cells.now }
     ensures { one result ≡ reply_picker (picker_in live rows.now words.now cells.now) ask_num_have_filtered }
 {
-    counted(words, cells, rows, live, s, |had, out| out & had).num_pieces
+    let kinds = Kinds::of(|had, out| out & had);
+    counted(words, cells, rows, live, s, kinds).num_pieces
 }
 
 // Pieces that are not filtered.
@@ -46,7 +50,8 @@ pub fn want(words: &[u64], cells: &[u16], rows: &[u32], live: usize, s: Shape) -
     requires { Asked s live rows.now words.now cells.now }
     ensures { count_reply result ≡ reply_picker (picker_in live rows.now words.now cells.now) want }
 {
-    counted(words, cells, rows, live, s, |_, out| !out)
+    let kinds = Kinds::of(|_, out| !out);
+    counted(words, cells, rows, live, s, kinds)
 }
 
 // Those of them that are had.
@@ -54,7 +59,8 @@ pub fn have_want(words: &[u64], cells: &[u16], rows: &[u32], live: usize, s: Sha
     requires { Asked s live rows.now words.now cells.now }
     ensures { count_reply result ≡ reply_picker (picker_in live rows.now words.now cells.now) have_want }
 {
-    counted(words, cells, rows, live, s, |had, out| had & !out)
+    let kinds = Kinds::of(|had, out| had & !out);
+    counted(words, cells, rows, live, s, kinds)
 }
 
 // Pieces that are had.
@@ -62,12 +68,14 @@ pub fn have(words: &[u64], cells: &[u16], rows: &[u32], live: usize, s: Shape) -
     requires { Asked s live rows.now words.now cells.now }
     ensures { count_reply result ≡ reply_picker (picker_in live rows.now words.now cells.now) have }
 {
-    counted(words, cells, rows, live, s, |had, _| had)
+    let kinds = Kinds::of(|had, _| had);
+    counted(words, cells, rows, live, s, kinds)
 }
 
 pub fn all_pieces(words: &[u64], cells: &[u16], rows: &[u32], live: usize, s: Shape) -> PieceCount
     requires { Asked s live rows.now words.now cells.now }
     ensures { count_reply result ≡ reply_picker (picker_in live rows.now words.now cells.now) all_pieces }
 {
-    counted(words, cells, rows, live, s, |_, _| true)
+    let kinds = Kinds::of(|_, _| true);
+    counted(words, cells, rows, live, s, kinds)
 }

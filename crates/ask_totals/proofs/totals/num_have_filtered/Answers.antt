@@ -3,8 +3,9 @@ use mathlib.Core.Path.{ap}
 use mathlib.Core.Bool.{◌&&◌}
 use borrow.Author.Rules.{rules}
 use Rattle.model.specs.ask.Questions.{reply_picker, one, num_have_filtered}
+use Rattle.ask_totals.proofs.TotalLaws.{counted_same}
 use Rattle.ask_totals.proofs.totals.num_have_filtered.Goals as goal
 
 pub returns : goal.returns
 unfolding reply_picker num_have_filtered
-returns c = ap one (c.counted.ensures (λ h f. f && h) (λ h f r p. search rules)).pieces
+returns c = ap one (counted_same _ _ _ (c.of-kinds.ensures.computed (λ h f. f && h) (λ h f r p. search rules)) c.counted.ensures).pieces
