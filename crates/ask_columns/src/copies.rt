@@ -103,7 +103,7 @@ fn lower(cells: &[u16], s: Shape, i: usize, many: usize, before: Least) -> Least
     }
 }
 
-// Over all pieces.
+// Over all pieces: whole stretches, of a length that the compiler knows, and behind them the rest, which may be a whole one too.
 fn least_copies(cells: &[u16], s: Shape) -> Least
     requires cells_span { CellsSpan s cells.now }
     requires few_copies { FewCopies cells.now s.pieces }
@@ -113,10 +113,12 @@ fn least_copies(cells: &[u16], s: Shape) -> Least
         copies: 65535,
         more: 0,
     };
-    for i in (0..s.pieces).step_by(STRETCH) {
-        least = lower(cells, s, i, STRETCH.min(s.pieces - i), least);
+    let stretches = s.pieces.saturating_sub(1) / STRETCH;
+    for k in 0..stretches {
+        least = lower(cells, s, k * STRETCH, STRETCH, least);
     }
-    least
+    let i = stretches * STRETCH;
+    lower(cells, s, i, s.pieces - i, least)
 }
 
 pub fn distributed_copies(words: &[u64], cells: &[u16], s: Shape) -> DistributedCopies
