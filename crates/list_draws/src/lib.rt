@@ -32,7 +32,9 @@ pub fn swap(list: &mut [u64], k: usize, m: usize)
     requires m_in_bounds { m < length list.old }
     ensures { list.new ≡ swap list.old k m }
 {
-    list.swap(k, m);
+    // Two stores and no test. `list.swap` asks first which place comes before the other, and a drawn one may come before, behind or on it.
+    let w = list[m];
+    list[m] = std::mem::replace(&mut list[k], w);
 }
 
 // What stands at k goes, as w, forward to the end of the group from `low` to `high`, and changes places with a drawn one of it.

@@ -1,7 +1,11 @@
--- `swap` meets its contract: the library's. Assumes nothing.
-use mathlib.Core.Path.{◌∙◌}
-use Rattle.list_draws.proofs.Draws.{swap_is}
+-- `swap` meets its contract: two stores. Assumes nothing.
+use mathlib.Core.Path.{ap₂}
+use Prim.Native.Nat.{ℕ}
+use lib.ListN.{set}
+use Rattle.model.specs.Lists.{nth, set_nth}
+use Rattle.model.specs.list.Order.{swap}
 use Rattle.list_draws.proofs.swap.Goals as goal
 
 pub returns : goal.returns
-returns c = c.swap.ensures.after ∙ swap_is c.args.list.now c.args.k c.args.m c.requires.k_in_bounds c.requires.m_in_bounds
+unfolding swap nth set_nth
+returns c = ap₂ (λ (x y : ℕ). set (set c.args.list.now c.args.k x) c.args.m y) c.replace.ensures.after c.replace.ensures.value
