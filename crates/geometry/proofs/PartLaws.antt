@@ -6,7 +6,7 @@ use native.Mathlib.Decide.{dec_le}
 use native.Mathlib.Omega.{arith}
 use borrow.Author.Tests.{le-leb, lt-leb}
 use Rattle.model.specs.Lists.{least}
-use Rattle.model.specs.Bep3.{parts_of}
+use Rattle.model.specs.Bep3.{parts_of, part_length}
 use Rattle.model.proofs.base.Bep3Laws.{lt_parts_of}
 
 -- ---- how many
@@ -37,6 +37,16 @@ part_some whole (suc part) k h = omega arith
 -- it starts before the end
 pub part_starts : (whole part k : ℕ) → k < parts_of whole part → k * part < whole
 part_starts whole part k h = (lt_parts_of whole part k (part_some whole part k h)).0 h
+
+-- a part is what is left where that is less than a whole part
+pub part_short : (whole part k : ℕ) → whole - k * part < part → whole - k * part ≡ part_length whole part k
+unfolding part_length
+part_short whole part k h = omega arith
+
+-- and else a whole part
+pub part_long : (whole part k : ℕ) → part ≤ whole - k * part → part ≡ part_length whole part k
+unfolding part_length
+part_long whole part k h = omega arith
 
 -- ---- the lesser of two numbers
 pub least_left : (x y : ℕ) → x ≤ y → x ≡ least x y

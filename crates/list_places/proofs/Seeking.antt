@@ -34,6 +34,16 @@ place_there w (v ∷ l) h = elim (ℕ_discrete w v) [
   | no e ↦ (let q = ne_eqb w v e in rw q (place_there w l (le_of_suc-le-suc (rw q at h))))
 ]
 
+-- before its place the word does not stand
+pub place_first : (w k : ℕ) (l : List ℕ) → k < place_of w l → get_or l k 0 ≢ w
+unfolding place_of
+place_first w k [] h e = absurd (omega arith)
+place_first w zero (v ∷ l) h e = let z : 0 < 0 = rw (eq-eqb w v (sym e)) at h in absurd (omega arith)
+place_first w (suc k) (v ∷ l) h e = elim (ℕ_discrete w v) [
+  | yes q ↦ (let z : suc k < 0 = rw (eq-eqb w v q) at h in absurd (omega arith))
+  | no q ↦ place_first w k l (le_of_suc-le-suc (rw (ne_eqb w v q) at h)) e
+]
+
 -- the first that passes the test for the word stands at its place
 position_place : (w i : ℕ) (l : List ℕ) → place_of w l < length l → position_from (λ v. eqb w v) i l ≡ Some (i + place_of w l)
 unfolding place_of
@@ -125,3 +135,10 @@ module _ (w end : ℕ) (l : List ℕ) (le : end ≤ length l) where
     where
       at_sum : {i j : ℕ} → Seeks w end l i → i ≡ j → Seeks w end l j
       at_sum x e = subst (Seeks w end l) e x
+
+  -- where the word stands is its place
+  pub seeks_found : {k : ℕ} → Seeks w end l k → get_or l k 0 ≡ w → k ≡ place_of w (take end l)
+  seeks_found {k} s e = elim (dec_le (place_of w (take end l)) k) [
+    | yes q ↦ omega (arith, s.ahead)
+    | no q ↦ absurd (place_first w k (take end l) (omega arith) (get_or-take end l k 0 (omega (arith, s.inside)) ∙ e))
+  ]

@@ -2,9 +2,10 @@
 use mathlib.Core.Path.{◌≡◌, refl, ap, ◌∙◌}
 use mathlib.Core.List.{List, ◌++◌}
 use Prim.Native.Nat.{ℕ, ◌+◌, ◌-◌, ◌*◌, ◌≤◌, ◌<◌}
+use native.Mathlib.Decide.{ℕ_discrete}
 use native.Mathlib.Omega.{arith}
-use lib.ListN.{length, get_or, drop, replicate, length-append, length-drop, length-replicate, get_or-append, get_or-replicate}
-use lib.Seq.{get_or-append-add, get_or-drop}
+use lib.ListN.{length, get_or, set, drop, replicate, length-set, length-append, length-drop, length-replicate, get_or-append, get_or-replicate}
+use lib.Seq.{get_or-set_same, get_or-set_other, get_or-append-add, get_or-drop}
 use borrow.Rule.Slice.PartMut.{put_mid, mid_of, mid_len}
 use Rattle.memory_layout.specs.Offsets.{cell, piece_word_at, piece_cell_at}
 use Rattle.memory_layout.specs.Decode.{piece_word, piece_cell}
@@ -12,6 +13,30 @@ use Rattle.memory_layout.proofs.stores.ListStores.{part_below, part_within, part
 use Rattle.memory_new.specs.Fresh.{Filled, fresh_head, FreshWords, FreshCells}
 
 -- ---- one fill
+-- nothing is filled yet
+pub fill_start : (start v : ℕ) (l : List ℕ) → Filled start start v l l
+fill_start start v l =
+    record { long = refl; inside = λ k a b. absurd (omega arith); below = λ k h. refl; behind = λ k h. refl }
+
+-- one number more is filled in
+pub fill_next : (start k v : ℕ) (a b : List ℕ) → Filled start k v a b → start ≤ k → k < length a → Filled start (k + 1) v a (set b k v)
+fill_next start k v a b f s h =
+    let same : get_or (set b k v) k 0 ≡ v = get_or-set_same b k v 0 (omega (arith, f.long)) in
+    let other : (j : ℕ) → (j ≡ k → ⊥) → get_or (set b k v) j 0 ≡ get_or b j 0 = λ j q. get_or-set_other b k j v 0 q in
+    record {
+      long = length-set b k v ∙ f.long;
+      inside = λ j l m. elim (ℕ_discrete j k) [
+        | yes q ↦ rw (q, same)
+        | no q ↦ other j q ∙ f.inside j l (omega (arith, q))
+      ];
+      below = λ j l. other j (λ q. omega arith) ∙ f.below j l;
+      behind = λ j l. other j (λ q. omega arith) ∙ f.behind j (omega arith);
+    }
+
+-- filled up to the end
+pub fill_end : (start k end v : ℕ) (a b : List ℕ) → Filled start k v a b → k ≡ end → Filled start end v a b
+fill_end start k end v a b f e = rw e at f
+
 -- a part of a buffer that holds one number everywhere is put back
 pub part_filled : (start end v : ℕ) (l part : List ℕ) → start ≤ end → end ≤ length l
     → part ≡ replicate (length (mid_of start (end - start) l)) v → Filled start end v l (put_mid start (end - start) l part)

@@ -139,19 +139,31 @@ pub turn_end : (s : Shape) (cells : List ℕ) (f g : Picker → ℕ) (x : ℕ) �
 turn_end s cells f g x e c = record { is = λ records words b. sym (e (decode records words cells)) ∙ c.is records words b }
 
 module _ (a : PickRequest) (d : Picker) where
-  -- one step down
-  pub down_step : (low i : ℕ) → low < i → down_by a d (i - low) i ≡ cond (can_pick a d (i - 1)) (down_by a d (i - 1 - low) (i - 1)) i
+  -- one step down, of n that are left
+  pub down_step : (n i : ℕ) → 0 < n → down_by a d n i ≡ cond (can_pick a d (i - 1)) (down_by a d (n - 1) (i - 1)) i
   unfolding down_by
-  down_step low i h = let e : i - low ≡ suc (i - 1 - low) = omega arith in rw e refl
+  down_step zero i h = absurd (omega arith)
+  down_step (suc n) i h = let e : suc n - 1 ≡ n = omega arith in rw e refl
+
+  -- one step down, of those that are left to low
+  pub down_step_to : (low i : ℕ) → low < i → down_by a d (i - low) i ≡ cond (can_pick a d (i - 1)) (down_by a d (i - 1 - low) (i - 1)) i
+  unfolding down_by
+  down_step_to low i h = let e : i - low ≡ suc (i - 1 - low) = omega arith in rw e refl
 
   pub down_none : (n i : ℕ) → n ≡ 0 → down_by a d n i ≡ i
   unfolding down_by
   down_none n i e = rw e refl
 
-  -- one step up
-  pub up_step : (top k : ℕ) → k < top → up_by a d (top - k) k ≡ cond (can_pick a d k) (up_by a d (top - (k + 1)) (k + 1)) k
+  -- one step up, of n that are left
+  pub up_step : (n k : ℕ) → 0 < n → up_by a d n k ≡ cond (can_pick a d k) (up_by a d (n - 1) (k + 1)) k
   unfolding up_by
-  up_step top k h = let e : top - k ≡ suc (top - (k + 1)) = omega arith in rw (e, add-one k) refl
+  up_step zero k h = absurd (omega arith)
+  up_step (suc n) k h = let e : suc n - 1 ≡ n = omega arith in rw (e, add-one k) refl
+
+  -- one step up, of those that are left to top
+  pub up_step_to : (top k : ℕ) → k < top → up_by a d (top - k) k ≡ cond (can_pick a d k) (up_by a d (top - (k + 1)) (k + 1)) k
+  unfolding up_by
+  up_step_to top k h = let e : top - k ≡ suc (top - (k + 1)) = omega arith in rw (e, add-one k) refl
 
   pub up_none : (n k : ℕ) → n ≡ 0 → up_by a d n k ≡ k
   unfolding up_by

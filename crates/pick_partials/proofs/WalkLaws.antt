@@ -6,7 +6,7 @@ use Prim.Native.Nat.{ℕ, zero, suc, ◌+◌, ◌-◌, ◌≤◌, ◌<◌}
 use native.Mathlib.Omega.{arith}
 use lib.Dec.{leb}
 use lib.ListN.{length, get_or, take, drop}
-use lib.Seq.{drop-cons}
+use lib.Seq.{drop-cons, get_or-take, length-take-le}
 use borrow.Author.Tests.{le-leb, lt-leb}
 use Rattle.types.specs.Bits.{union}
 use Rattle.model.specs.Lists.{each, unless, walk_until, walk}
@@ -163,17 +163,29 @@ pub alone_room : {f : PickState → PickState} {d : Picker} {t r : PickNumbers} 
 alone_room x u = record { ignored = u.ignored; loops = u.loops; underway = (x u.ignored u.loops u.underway).underway }
 
 -- ---- the row
--- what is left of a row of places
-pub rest_cons : (j : ℕ) (row : List ℕ) → j < length row → drop j row ≡ get_or row j 0 ∷ drop (j + 1) row
-rest_cons j row l =
+-- what is left of a row of places: a place and what follows it
+pub row_cons : (j : ℕ) (row : List ℕ) → j < length row → drop j row ≡ get_or row j 0 ∷ drop (j + 1) row
+row_cons j row l =
     let e : j + 1 ≡ suc j = omega arith in
     drop-cons row j 0 l ∙ ap (λ (n : ℕ). get_or row j 0 ∷ drop n row) (sym e)
 
-pub rest_none : (n : ℕ) (l : List ℕ) → length l ≤ n → drop n l ≡ []
-rest_none zero [] h = refl
-rest_none (suc n) [] h = refl
-rest_none zero (x ∷ xs) h = absurd (omega arith)
-rest_none (suc n) (x ∷ xs) h = rest_none n xs (omega arith)
+-- nothing is left past the end
+pub drop_over : (n : ℕ) (l : List ℕ) → length l ≤ n → drop n l ≡ []
+drop_over zero [] h = refl
+drop_over (suc n) [] h = refl
+drop_over zero (x ∷ xs) h = absurd (omega arith)
+drop_over (suc n) (x ∷ xs) h = drop_over n xs (omega arith)
+
+-- what is left of the first places of a row
+pub rest_cons : (many j : ℕ) (row : List ℕ) → many ≤ length row → j < many
+    → drop j (take many row) ≡ get_or row j 0 ∷ drop (j + 1) (take many row)
+rest_cons many j row h l =
+    row_cons j (take many row) (omega (arith, length-take-le many row h))
+    ∙ ap (λ (x : ℕ). x ∷ drop (j + 1) (take many row)) (get_or-take many row j 0 l)
+
+-- nothing is left past the last of them
+pub rest_none : (many j : ℕ) (row : List ℕ) → many ≤ length row → many ≤ j → drop j (take many row) ≡ []
+rest_none many j row h l = drop_over j (take many row) (omega (arith, length-take-le many row h))
 
 -- the walk over partials is one over their places
 walk-each : {A : Type 0} (f : ℕ → A) (step : A → PickState → PickState) (done : PickState → Bool) (l : List ℕ) (w : PickState)

@@ -32,7 +32,7 @@ module _ (words cells rows : List ℕ) (lent : ℕ) (bytes words' cells' rows' :
   unfolding lengths_on
   named partials l = ap (λ (n : ℕ). read_picker (lengths n words cells) bytes) l
 
-  refused_read : (why : Refusal) → v ≡ Err why → ReadDone words cells lent bytes words' cells' rows' (some why) 0
+  pub refused_read : (why : Refusal) → v ≡ Err why → ReadDone words cells lent bytes words' cells' rows' (some why) 0
   unfolding ImageTold packed
   refused_read why e =
       let n = subst (ImageTold lent bytes words cells rows words' cells' rows') e h in
@@ -60,7 +60,7 @@ module _ (words cells rows : List ℕ) (lent : ℕ) (bytes words' cells' rows' :
       partials = packed_beyond lent count bytes words cells words' cells' rows' m partials l;
     }
 
-    done_read : ReadDone words cells lent bytes words' cells' rows' none count
+    pub done_read : ReadDone words cells lent bytes words' cells' rows' none count
     unfolding picker_on memory_on
     done_read = record {
       fits = λ partials l. pack_fits lent count bytes words cells words' cells' rows' m partials l;

@@ -114,7 +114,7 @@ module _ (words cells rows : List ℕ) (lent : ℕ) (before : List ℕ) where
           (stood_picker s live lent rows counts words cells t partials l r))
 
     module _ (after : List ℕ) (v : Optional ℕ) (w : ImageTaken d before after v) where
-      too_short : v ≡ None → ImageDone words cells rows lent before after (not_written ShortMemory)
+      pub too_short : v ≡ None → ImageDone words cells rows lent before after (not_written ShortMemory)
       too_short e =
           let h = subst (ImageTaken d before after) e w in
           subst (λ (bs : List ℕ). ImageDone words cells rows lent before bs (not_written ShortMemory)) (sym h.1)
@@ -124,7 +124,7 @@ module _ (words cells rows : List ℕ) (lent : ℕ) (before : List ℕ) where
                 ∙ ap (λ (b : Bool). cond b (not_taken ShortMemory) (taken (image d))) (lt-ltb (length before) (len (image d)) h.0));
           })
 
-      taken_whole : (n : ℕ) → v ≡ Some n → ImageDone words cells rows lent before after (wrote n)
+      pub taken_whole : (n : ℕ) → v ≡ Some n → ImageDone words cells rows lent before after (wrote n)
       unfolding len
       taken_whole n e =
           let h = subst (ImageTaken d before after) e w in

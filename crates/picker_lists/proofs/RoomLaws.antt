@@ -37,7 +37,7 @@ use Rattle.picker_answers.specs.Admitting.{Ruled, Granted, AdmittedBy}
 use Rattle.picker_lists.specs.declared.rooms.Need.{Need}
 use Rattle.picker_lists.specs.declared.rooms.Need.TheVariants.{Pieces, Partials, Blocks}
 use Rattle.picker_lists.specs.Rooms.{need_in, need_of, need_on, short_on, room_rule, Roomy, RoomAdmitted}
-use Rattle.picker_lists.proofs.TableLaws.{memory_tests, list_tests, few_places, bad_memory, places_enough}
+use Rattle.picker_lists.proofs.TableLaws.{memory_tests, list_tests, short_memory, few_places, bad_memory, places_enough}
 
 -- ---- how many places are needed
 need_picker : (need : Need) (records : List Record) (words cells : List ℕ) → need_in need (decode records words cells) ≡ need_on need words
@@ -115,6 +115,14 @@ module _ (need : Need) (room : ℕ) (words cells : List ℕ) where
           ∙ (sym (memory_live words cells partials)
           ∙ subst (λ (k : ℕ). memory_refusal k (records_in (live_records words) (rows_of words partials)) words cells ≡ refusal_of v) (sym l)
           (subst (λ (zs : List ℕ). memory_refusal lent (records_in (live_records words) zs) words cells ≡ refusal_of v) r (sym c.is)))
+
+      -- memory that is too short, whatever the places
+      pub verdict_short : v ≡ Err ShortMemory → RoomAdmitted need room words cells rows counts lent (Err ShortMemory)
+      unfolding RoomAdmitted refusal_of
+      verdict_short e = λ partials l r rest n q ruled.
+          list_table partials rest q ruled
+          ∙ short_memory headless valid (short (length partials) words cells) few (good_body partials words cells) _
+          (memory_is partials l r ∙ ap refusal_of e)
 
       pub verdict_refused : (why : Refusal) → v ≡ Err why → short_on need room words ≡ false → (r : Result Shape Refusal)
           → IsErrAnd r (λ x. x ≡ why) → RoomAdmitted need room words cells rows counts lent r

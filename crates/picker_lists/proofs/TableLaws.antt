@@ -23,6 +23,22 @@ list_tests headless valid short few good rest =
     (or_else (of_memory (check few ShortMemory rest)) ShortMemory (or_else (not good) IllFormedMemory (check few ShortMemory rest)))))
 
 -- ---- what they say
+-- the two refusals differ
+ill_short : some IllFormedMemory ≡ some ShortMemory → ⊥
+unfolding of_memory
+ill_short e = true≢false (sym (ap of_memory e))
+
+-- memory that is too short, whatever the places
+pub short_memory : (a v c l d : Bool) (rest : Option Refusal) → memory_tests a v c d ≡ some ShortMemory
+    → list_tests a v c l d rest ≡ some ShortMemory
+unfolding memory_tests list_tests or_else check of_memory
+short_memory true v c l d rest h = refl
+short_memory false false c l d rest h = absurd (ill_short h)
+short_memory false true true l d rest h = refl
+short_memory false true false true d rest h = refl
+short_memory false true false false true rest h = absurd (none-ne-some _ h)
+short_memory false true false false false rest h = absurd (ill_short h)
+
 -- too few places of a geometry that is valid
 pub few_places : (a v c l d : Bool) (rest : Option Refusal) → (not a && (v && l)) ≡ true → list_tests a v c l d rest ≡ some ShortMemory
 unfolding list_tests or_else check of_memory

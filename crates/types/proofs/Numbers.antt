@@ -4,7 +4,7 @@ use mathlib.Core.Path.{◌≡◌, refl, sym, ap, ◌∙◌}
 use mathlib.Core.Bool.{Bool, true, false, cond}
 use mathlib.Core.List.{List, [], ◌∷◌}
 use Prim.Native.Nat.{ℕ}
-use borrow.Author.Tests.{eqb-true}
+use borrow.Author.Tests.{ne_eqb, eqb-true}
 use lib.Dec.{eqb}
 use Rattle.types.specs.Numbers.{case_with}
 
@@ -20,6 +20,17 @@ pub record RoundTrip {A B : Type 0} (number : A → ℕ) (found : A → B) (noth
   pub distinct : (x y : A) → number x ≡ number y → x ≡ y
 
 module _ {A B : Type 0} (number : A → ℕ) (found : A → B) (nothing : B) where
+  -- n is the number of none of the cases
+  abbrev pub Unlisted : ℕ → List A → Type 0
+  Unlisted n [] = Unit {0}
+  Unlisted n (x ∷ xs) = (n ≡ number x → ⊥) × Unlisted n xs
+
+  -- such a number gives nothing
+  pub unlisted : (n : ℕ) (xs : List A) → Unlisted n xs → nothing ≡ case_with number found nothing xs n
+  unfolding case_with
+  unlisted n [] u = refl
+  unlisted n (x ∷ xs) u = unlisted n xs u.1 ∙ rw (ne_eqb (number x) n (λ e. u.0 (sym e)))
+
   -- where the answers for two cases differ, and none of them is the answer for nothing
   module _ (same : (x y : A) → found x ≡ found y → x ≡ y) (apart : (x : A) → nothing ≡ found x → ⊥) where
     by_test : (n : ℕ) (x y : A) (rest : B) (t : Bool) → eqb (number y) n ≡ t → (rest ≡ found x → number x ≡ n) → cond t (found y) rest ≡ found x → number x ≡ n

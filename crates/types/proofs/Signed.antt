@@ -13,7 +13,7 @@ use lib.Signed.{lt_z, non_neg}
 use mir.Syntax.{w32, w64}
 use mir.Val.{Fits, SFits, to_z, of_z}
 use mir.ValLaws.{to_z-of_z}
-use Rattle.types.specs.Piece.{number_of, index_of, after}
+use Rattle.types.specs.Piece.{number_of, index_of, after, largest}
 
 -- what holds of a number that fits holds of what its bits read as
 pub read : (P : ℤ → Type 0) {z : ℤ} → SFits w32 z → P z → P (to_z w32 (of_z w32 z))
@@ -62,6 +62,22 @@ pub index : (z : ℤ) → lt_z z (pos 0) ≡ false → nat_abs z ≡ index_of z
 unfolding index_of
 index (pos n) t = refl
 index (negsuc n) t = absurd (subst T t tt)
+
+-- one more than a number below the largest fits
+pub sum_fits : (z : ℤ) → SFits w32 z → lt_z z largest ≡ true → SFits w32 (z +ℤ pos 1)
+sum_fits (pos n) fit t = record { sfits = omega (arith, ltb-true n 2147483647 t) }
+sum_fits (negsuc zero) fit t = record { sfits = omega arith }
+sum_fits (negsuc (suc n)) fit t = subst (SFits w32) (sym (+ℤ_one (negsuc (suc n)))) (record { sfits = omega (arith, fit.sfits) })
+
+-- it is the next number
+pub steps : (z : ℤ) → lt_z z largest ≡ true → z +ℤ pos 1 ≡ after z
+unfolding after
+steps z t = rw t
+
+-- after the largest comes itself
+pub stays : (z : ℤ) → lt_z z largest ≡ false → z ≡ after z
+unfolding after
+stays z t = rw t
 
 -- one more, kept to the largest number
 pub saturates : (z : ℤ) → SFits w32 z → saturate_signed w32 (z +ℤ pos 1) ≡ after z

@@ -4,6 +4,7 @@ use mathlib.Core.Logic.{◌≢◌}
 use mathlib.Core.List.{List, [], ◌∷◌, ◌++◌}
 use Prim.Native.Nat.{ℕ, suc, ◌+◌, ◌-◌, ◌≤◌, ◌<◌}
 use native.Mathlib.Omega.{arith}
+use native.Mathlib.Decide.{ℕ_discrete}
 use native.Mathlib.Numerals.{add-one}
 use lib.ListN.{length, get_or, set, length-set}
 use Rattle.std.specs.List.{CopiedTo, SameBelow, SameFrom as Kept}
@@ -109,6 +110,59 @@ pub record Closing (words : List ℕ) (p n j : ℕ) (words' : List ℕ) : Type 0
   pub before : (g : ℕ) → g < 9 + p → head_word words' g ≡ head_word words g
   pub moved : (k : ℕ) → p ≤ k → k < j → head_word words' (9 + k) ≡ head_word words (9 + suc k)
   pub after : (k : ℕ) → j ≤ k → head_word words' (9 + k) ≡ head_word words (9 + k)
+
+-- before the first move
+pub closing_start : (s : Shape) (words : List ℕ) (p n : ℕ) → WordsSpan s words → n ≤ max_extents → p < n → Closing words p n p words
+closing_start s words p n r few h =
+    record {
+      behind = λ t. behind_none t words;
+      room = head_in s words r;
+      few = few;
+      from = omega arith;
+      within = h;
+      before = λ g l. refl;
+      moved = λ k l m. absurd (omega arith);
+      after = λ k l. refl;
+    }
+
+module _ (words : List ℕ) (p n j : ℕ) (words' : List ℕ) (c : Closing words p n j words') (more : j + 1 < n) where
+  -- the words after one move
+  abbrev closed : List ℕ
+  closed = set words' (9 + j) (head_word words' (10 + j))
+
+  -- few places move
+  low : j < 5
+  low = omega (arith, c.few)
+
+  -- the place that was stored reads as the next one did
+  here : head_word closed (9 + j) ≡ head_word words (9 + suc j)
+  here =
+      head_read words' (9 + j) (head_word words' (10 + j)) (omega (arith, c.room, low))
+      ∙ ap (head_word words') (omega arith) ∙ c.after (suc j) (omega arith)
+
+  -- one more has moved
+  next : Closing words p n (j + 1) closed
+  next =
+      let f = c.from in
+      let q = low in
+      record {
+        behind = λ t. behind_store t words words' (9 + j) (head_word words' (10 + j)) (omega arith) (c.behind t);
+        room = simp length-set c.room;
+        few = c.few;
+        from = omega arith;
+        within = omega arith;
+        before = λ g h. head_other words' (9 + j) (head_word words' (10 + j)) g (λ e. omega arith) ∙ c.before g h;
+        moved = λ k h l. elim (ℕ_discrete k j) [
+          | yes e ↦ rw e here
+          | no m ↦ head_other words' (9 + j) (head_word words' (10 + j)) (9 + k) (λ e. m (omega arith)) ∙ c.moved k h (omega arith)
+        ];
+        after = λ k h. head_other words' (9 + j) (head_word words' (10 + j)) (9 + k) (λ e. omega arith) ∙ c.after k (omega arith);
+      }
+
+  -- one move
+  pub closing_next : (v : ℕ) (words'' : List ℕ) → v ≡ head_word words' (10 + j) → words'' ≡ set words' (9 + j) v
+      → Closing words p n (j + 1) words''
+  closing_next v words'' e q = rw (q, e) next
 
 -- after a move of all of them at once
 pub closing_moved : (s : Shape) (words : List ℕ) (p n : ℕ) (words' : List ℕ) → WordsSpan s words → n ≤ max_extents → p < n

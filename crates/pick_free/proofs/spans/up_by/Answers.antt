@@ -5,7 +5,7 @@ use borrow.Author.Rules.{rules}
 use native.Mathlib.Omega.{arith}
 use Rattle.model.specs.pick.Blocks.{up_by, can_pick}
 use Rattle.pick_state.specs.Requests.{request_of}
-use Rattle.pick_free.proofs.FreeLaws.{same_up, turn_next, turn_stop, turn_end, up_step, up_none}
+use Rattle.pick_free.proofs.FreeLaws.{same_up, turn_next, turn_stop, turn_end, up_step_to, up_none}
 use Rattle.pick_free.proofs.spans.up_by.Goals as goal
 
 pub loop-end-init : goal.loop-end-init
@@ -19,7 +19,7 @@ returns-then-not-can_pick c = let r = request_of c.args.q c.args.bytes.now in
     let top = c.args.k + c.args.n in
     let h : c.loop-end.end < top = omega arith in
     turn_stop c.args.s c.args.cells.now (λ d. up_by r d (top - c.loop-end.end) c.loop-end.end) (λ d. up_by r d (top - (c.loop-end.end + 1)) (c.loop-end.end + 1))
-    (λ d. up_by r d c.args.n c.args.k) (λ d. can_pick r d c.loop-end.end) c.loop-end.end (λ d. up_step r d top c.loop-end.end h) c.loop-end.invariant
+    (λ d. up_by r d c.args.n c.args.k) (λ d. can_pick r d c.loop-end.end) c.loop-end.end (λ d. up_step_to r d top c.loop-end.end h) c.loop-end.invariant
     c.can_pick.result c.can_pick.ensures c.if-not-can_pick.true-raw
 
 pub loop-end-preserved : goal.loop-end-preserved
@@ -27,7 +27,7 @@ loop-end-preserved c = let r = request_of c.args.q c.args.bytes.now in
     let top = c.args.k + c.args.n in
     let h : c.loop-end.end < top = omega arith in
     turn_next c.args.s c.args.cells.now (λ d. up_by r d (top - c.loop-end.end) c.loop-end.end) (λ d. up_by r d (top - (c.loop-end.end + 1)) (c.loop-end.end + 1))
-    (λ d. up_by r d c.args.n c.args.k) (λ d. can_pick r d c.loop-end.end) c.loop-end.end (λ d. up_step r d top c.loop-end.end h) c.loop-end.invariant
+    (λ d. up_by r d c.args.n c.args.k) (λ d. can_pick r d c.loop-end.end) c.loop-end.end (λ d. up_step_to r d top c.loop-end.end h) c.loop-end.invariant
     c.can_pick.result c.can_pick.ensures c.if-not-can_pick.false-raw
 
 pub returns : goal.returns

@@ -11,7 +11,7 @@ use Rattle.memory_layout.specs.Changes.{partial_in}
 use Rattle.model.specs.pick.Pick.{partial_step}
 use Rattle.pick_partials.specs.Phase.{walk_places}
 use Rattle.pick_partials.proofs.WalkLaws.{Taking, taking_start, taking_next, taking_stop, taking_end, taking_lengths}
-use Rattle.pick_partials.proofs.WalkLaws.{rest_cons, rest_none}
+use Rattle.pick_partials.proofs.WalkLaws.{row_cons, drop_over}
 use borrow.Author.Rules.{rules}
 use Rattle.pick_partials.proofs.walks.walk_places.Goals as goal
 
@@ -37,13 +37,13 @@ shape_of-aside-then-cur c = c.partial_step-cur.auto.aside ∙ (taking_lengths c.
 pub returns-then-cur : goal.returns-then-cur
 unfolding walk_places
 returns-then-cur c = taking_stop c.loop-place.invariant _ _
-    (rest_cons c.loop-place.place-index (take c.args.many c.args.places.now) (omega arith)
+    (row_cons c.loop-place.place-index (take c.args.many c.args.places.now) (omega arith)
     ∙ ap (λ (x : ℕ). x ∷ drop (c.loop-place.place-index + 1) (take c.args.many c.args.places.now)) (sym c.u16_to_usize-k.ensures))
     c.partial_step-cur.ensures c.if-cur.true
 
 pub loop-place-preserved : goal.loop-place-preserved
 loop-place-preserved c = taking_next c.loop-place.invariant _ _
-    (rest_cons c.loop-place.place-index (take c.args.many c.args.places.now) (omega arith)
+    (row_cons c.loop-place.place-index (take c.args.many c.args.places.now) (omega arith)
     ∙ ap (λ (x : ℕ). x ∷ drop (c.loop-place.place-index + 1) (take c.args.many c.args.places.now)) (sym c.u16_to_usize-k.ensures))
     c.partial_step-cur.ensures c.if-cur.false
 
@@ -56,4 +56,4 @@ shape_of-aside c = (taking_lengths c.loop-place.invariant c.requires.partial_roo
 pub returns : goal.returns
 unfolding walk_places
 returns c = taking_end c.loop-place.invariant
-    (rest_none c.loop-place.place-index (take c.args.many c.args.places.now) (omega arith))
+    (drop_over c.loop-place.place-index (take c.args.many c.args.places.now) (omega arith))
