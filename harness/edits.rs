@@ -25,18 +25,11 @@ pub fn insert(live: &mut [DownloadingPiece], d: DownloadingPiece) -> bool {
     true
 }
 
-/// The records from i to n - 1 go up by one place, four at a time while there are four.
+/// The records from i to n - 1 go up by one place, the last one first.
 fn open_gap(live: &mut [DownloadingPiece], i: usize, n: usize) {
-    let mut k = n;
-    while i + 4 <= k {
-        let four = read_four(live, k - 4);
-        write_four(live, k - 3, four);
-        k -= 4;
-    }
-    while i < k {
-        let d = get(live, k - 1);
-        put(live, k, d);
-        k -= 1;
+    for k in (i..n).rev() {
+        let d = get(live, k);
+        put(live, k + 1, d);
     }
 }
 
@@ -50,35 +43,15 @@ pub fn remove(live: &mut [DownloadingPiece], piece: u32) -> bool {
     true
 }
 
-/// The records after i, up to the last, go down by one place.
+/// The records after i, up to the last, go down by one place, the first one first.
 fn close_gap(live: &mut [DownloadingPiece], i: usize, last: usize) {
-    let mut k = i;
-    while k + 4 <= last {
-        let four = read_four(live, k + 1);
-        write_four(live, k, four);
-        k += 4;
-    }
-    while k < last {
+    for k in i..last {
         let d = get(live, k + 1);
         put(live, k, d);
-        k += 1;
     }
 }
 
-#[inline(always)]
-fn read_four(live: &[DownloadingPiece], k: usize) -> [DownloadingPiece; 4] {
-    [get(live, k), get(live, k + 1), get(live, k + 2), get(live, k + 3)]
-}
-
-#[inline(always)]
-fn write_four(live: &mut [DownloadingPiece], k: usize, [a, b, c, d]: [DownloadingPiece; 4]) {
-    put(live, k, a);
-    put(live, k + 1, b);
-    put(live, k + 2, c);
-    put(live, k + 3, d);
-}
-
-/// Field by field, so that four are read into registers. The place is one of the slice: nothing here asks for another.
+/// Field by field. The place is one of the slice: nothing here asks for another.
 #[inline(always)]
 fn get(live: &[DownloadingPiece], k: usize) -> DownloadingPiece {
     let d = unsafe { live.get_unchecked(k) };
